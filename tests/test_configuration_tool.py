@@ -8,10 +8,12 @@ import pathlib
 import random
 import re
 import subprocess
+import sys
 import tomllib
 from collections.abc import Iterable
 
-from harness import PATIENCE, PROGRAM, TOOLS, Case, Failed, Tool, castd, wait_for_push, wait_for_view
+from dist import need
+from harness import PATIENCE, PROGRAM, TESTS, TOOLS, Case, Failed, Tool, castd, wait_for_push, wait_for_view
 
 REFUSED = 6
 UNBOUND = 7
@@ -131,8 +133,11 @@ OTHER_PLANNED = {"number": 2, "hosts": ["127.0.0.3"], "home": "127.0.0.3", "grou
 
 
 def run(*words: str) -> subprocess.CompletedProcess:
-    tool = str(TOOLS / "castd-conf")
-    return subprocess.run([tool, *words], capture_output=True, text=True, timeout=PATIENCE, check=False)
+    return run_command(str(TOOLS / "castd-conf"), *words)
+
+
+def run_command(*words: str, **how) -> subprocess.CompletedProcess:
+    return subprocess.run(words, capture_output=True, text=True, timeout=PATIENCE, check=False, **how)
 
 
 class Daemon(Tool):
@@ -395,6 +400,71 @@ class Next(ConfigurationCase):
         self.assertIn("site 999 is not listed", self.said)
         self.assertEqual(self.next(101, f"{self.folder}/none"), (3, ""))
         self.assertIn(f"{self.folder}/none: No such file or directory", self.said)
+
+
+class Protection(ConfigurationCase):
+    """Where others do not pass for sites. The user `daemon` stands for `castd`, and `nobody` for anybody else."""
+
+    SITES = ("127.1.1.1:7001", "127.1.1.2:7002", "127.1.1.1:7003")
+
+    def setUp(self):
+        super().setUp()
+        tables = (f'[[site]]\nnumber = {number}\naddress = "{it}"\n' for number, it in enumerate(self.SITES, 1))
+        fields = "number = 1\nhome = 1\nsites = [1, 2, 3]\ngroups = [1]\nsocket = \"FOLDER/castd.sock\"\n"
+        self.text = "".join(tables) + "[[domain]]\n" + fields
+        self.config = self.written(self.text)
+
+    def sent(self, *lines: str) -> list[str]:
+        """Which datagrams come in a network of its own under the rules, which are loaded twice."""
+        self.need_root()
+        for command in ("nft", "unshare", "ip"):
+            need(self, command)
+        if run_command("unshare", "--net", "true").returncode:
+            self.skipTest("no network can be made on this machine")
+        ran = run("firewall", self.config, "--user", "daemon")
+        self.assertEqual((ran.returncode, ran.stderr), (0, ""))
+        rules = self.written(ran.stdout, "castd.nft")
+        load = f"ip link set lo up && nft -f {rules} && nft -f {rules} && exec {sys.executable} {TESTS}/sends.py"
+        given = "".join(f"{line}\n" for line in lines)
+        ran = run_command("unshare", "--net", "sh", "-c", load, input=given)
+        self.assertEqual((ran.returncode, ran.stderr), (0, ""))
+        return ran.stdout.split()
+
+    def test_only_the_user_of_the_daemons_sends_from_their_ports_and_to_them(self):
+        one, two, spare = self.SITES
+        beats = [it.replace(":7", ":8") for it in self.SITES]
+        wanted = {
+            f"daemon {one} {two}": "comes",
+            f"daemon {beats[0]} {beats[1]}": "comes",
+            f"nobody 127.1.1.1:0 {two}": "lost",
+            f"nobody {spare} {two}": "lost",
+            f"nobody {spare} 127.1.1.2:9000": "lost",
+            f"nobody 127.1.1.1:0 {beats[1]}": "lost",
+            f"nobody {beats[2]} 127.1.1.2:9000": "lost",
+            # What is not from the host of a site does not come.
+            f"daemon 127.1.1.9:7001 {two}": "lost",
+            f"daemon 127.1.1.9:8001 {beats[1]}": "lost",
+            # The rules concern nothing else.
+            "nobody 127.1.1.1:0 127.1.1.2:9000": "comes",
+            "nobody 127.1.1.9:7001 127.1.1.2:9000": "comes",
+        }
+        self.assertEqual(dict(zip(wanted, self.sent(*wanted))), wanted)
+
+    def test_the_unit_is_told_the_hosts_of_the_sites(self):
+        ran = run("unit", self.config)
+        self.assertEqual((ran.returncode, ran.stderr), (0, ""))
+        lines = ["[Service]", "IPAddressDeny=any", "IPAddressAllow=127.1.1.1 127.1.1.2"]
+        self.assertEqual(ran.stdout.splitlines()[1:], lines)
+
+    def test_it_needs_addresses_and_ports(self):
+        for old, new, command, told in (
+            ("127.1.1.2:", "b.example:", "firewall", "site 2: address: b.example is a name: a rule needs an address"),
+            ("127.1.1.2:", "b.example:", "unit", "site 2: address: b.example is a name: a rule needs an address"),
+            (":7003", ":64600", "firewall", "site 3: address: there is no port 65600"),
+        ):
+            ran = run(command, self.written(self.text.replace(old, new), "other.conf"))
+            self.assertEqual((ran.returncode, ran.stdout), (1, ""))
+            self.assertIn(told, ran.stderr)
 
 
 class Generations(ConfigurationCase):

@@ -3,6 +3,7 @@
 import concurrent.futures
 import contextlib
 import ctypes
+import errno
 import fcntl
 import os
 import signal
@@ -13,7 +14,7 @@ import subprocess
 import termios
 import time
 
-from harness import PATIENCE, TOOLS, Case, Client, is_running, wait_for_end, wait_until
+from harness import PATIENCE, PORT, TOOLS, Case, Client, is_running, wait_for_end, wait_until
 
 IN_ATTRIB, IN_CREATE = 0x4, 0x100
 NOBODY = 65_534
@@ -172,6 +173,43 @@ class Losing(Case):
         self.session(setup)
         self.assertIn("removed castd.sock, which a killed daemon left behind", second.complained())
 
+    def test_a_tenant_that_locks_the_directory_of_its_socket_stops_nothing(self):
+        setup = self.setup_of(2, {"number": 1, "socket": "tenant/castd.sock"}, is_one_host=True)
+        os.mkdir(f"{setup.site_folder(1)}/tenant")
+        folder = os.open(f"{setup.site_folder(1)}/tenant", os.O_RDONLY)
+        self.addCleanup(os.close, folder)
+        fcntl.flock(folder, fcntl.LOCK_EX)
+        first = self.keeper(setup)
+        daemon = first.daemon()
+        first.process.kill()
+        wait_until(lambda: not is_running(daemon), "the daemon has ended")
+        second = self.keeper(setup, 2)
+        begun = time.monotonic()
+        second.process.send_signal(signal.SIGTERM)
+        self.assert_ends(second, 0)
+        self.assertLess(time.monotonic() - begun, 4)
+
+    def test_the_port_of_the_next_number_is_kept_for_it(self):
+        setup = self.setup_of(3, {"number": 1, "socket": f"{self.folder}/castd.sock"}, is_one_host=True)
+        address = setup.hosts[1], PORT + 2
+        with self.port(setup.hosts[1], PORT + 3):
+            first = self.keeper(setup)
+            self.assertRegex(first.complained(), f"the port of site 3 cannot be kept for it: .*:{PORT + 3}: Address already")
+            with self.assertRaises(OSError) as refused:
+                self.port(*address)
+            self.assertEqual(refused.exception.errno, errno.EADDRINUSE)
+            first.process.send_signal(signal.SIGTERM)
+            self.assert_ends(first, 0)
+        second = self.keeper(setup, 2)
+        self.assertEqual((second.ask("domains"), second.complained()), ("domain 1 running", ""))
+
+    def port(self, *address) -> socket.socket:
+        """A socket at an address, as another program would have it."""
+        bound = socket.socket(socket.AF_INET, socket.SOCK_DGRAM)
+        self.addCleanup(bound.close)
+        bound.bind(address)
+        return bound
+
     def test_the_sockets_of_those_who_live_are_left_to_them(self):
         setup = self.setup_of(2, is_one_host=True)
         first = self.keeper(setup)
@@ -269,12 +307,29 @@ class ControlSocket(Case):
     def test_clients_that_say_nothing_stop_no_others(self):
         setup = self.setup_of()
         keeper = self.keeper(setup)
-        silent = [Client(keeper.control) for _ in range(64)]
+        silent = []
+        for _ in range(64):
+            silent.append(Client(keeper.control))
+            self.addCleanup(silent[-1].close)
+        # The first one has said something since the second one did.
+        self.assertEqual(silent[0].ask("domains"), "domain 1 running")
+        with Client(keeper.control) as one_more:
+            self.assertEqual(one_more.ask("domains"), "domain 1 running")
+        wait_until(lambda: _is_closed(silent[1]), "the one that said nothing for longest is closed")
+        self.assertEqual(silent[0].ask("domains"), "domain 1 running")
+        self.assertEqual(silent[63].ask("domains"), "domain 1 running")
+
+    def test_more_clients_than_can_be_answered_are_refused(self):
+        setup = self.setup_of()
+        keeper = self.stand_in(setup, delays={"domains": 4})
+        for _ in range(64):
+            asking = Client(keeper.control)
+            self.addCleanup(asking.close)
+            asking.sendall(b"domains\n")
+        # They have all been read.
+        time.sleep(1)
         with Client(keeper.control) as one_more:
             self.assertEqual(one_more.ask("domains"), "keeper: too many clients")
-        for connected in silent:
-            connected.close()
-        wait_until(lambda: keeper.ask("domains") == "domain 1 running", "there is room again")
 
     def test_lines_that_are_none_are_refused(self):
         setup = self.setup_of()

@@ -5,7 +5,8 @@ import unittest
 
 from harness import ROOT
 from castd_tools import configuration, control
-from castd_tools.beat import Beat, BeatError, decode
+from castd_tools.beat import NONE, Beat, BeatError, decode
+from castd_tools.belief import Belief
 from castd_tools.suspicion import Suspicion
 
 SITE = '[[site]]\nnumber = 1\naddress = "127.0.0.1:7001"\n'
@@ -96,13 +97,37 @@ class Lines(unittest.TestCase):
 
 class Beats(unittest.TestCase):
     def test_a_beat_is_as_it_is_told(self):
-        beat = Beat(1, "9f86d081884c7d65", frozenset({2, 1}), frozenset({(1, 4), (1, 3)}))
-        self.assertEqual(beat.encode(), b"castd-beat-1 1 9f86d081884c7d65 1,2 1:3,1:4")
+        words = "9f86d081884c7d65", "2c26b46b68ffc68f", "fcde2b2edba56bf4"
+        beat = Beat(1, *words, frozenset({2, 1}), frozenset({(1, 4), (1, 3)}))
+        self.assertEqual(beat.encode(), f"castd-beat-2 1 {' '.join(words)} 1,2 1:3,1:4".encode())
         self.assertEqual(decode(beat.encode()), beat)
-        least = Beat(65_535, "0" * 16, frozenset(), frozenset())
-        self.assertEqual(least.encode(), b"castd-beat-1 65535 0000000000000000 - -")
+        least = Beat(65_535, "0" * 16, "1" * 16, NONE, frozenset(), frozenset())
+        self.assertEqual(least.encode(), b"castd-beat-2 65535 0000000000000000 1111111111111111 - - -")
         self.assertEqual(decode(least.encode()), least)
         self.assertRaises(BeatError, decode, least.encode() + b",")
+
+    def test_a_life_is_known_once_it_answers(self):
+        def beat(life: str, echo: str) -> Beat:
+            return Beat(2, life * 16, "0123456789abcdef", echo, frozenset(), frozenset())
+
+        belief = Belief()
+        self.assertEqual(belief.echo, NONE)
+        self.assertFalse(belief.believes(beat("a", NONE)))
+        self.assertEqual(belief.echo, "0123456789abcdef")
+        number = belief.number()
+        self.assertFalse(belief.believes(beat("a", "f" * 16)))
+        self.assertTrue(belief.believes(beat("a", number)))
+        self.assertTrue(belief.believes(beat("a", NONE)))
+        with self.subTest("a new life that does not answer silences no other"):
+            self.assertFalse(belief.believes(beat("b", NONE)))
+            self.assertTrue(belief.believes(beat("a", NONE)))
+        with self.subTest("a former life does not come back"):
+            self.assertTrue(belief.believes(beat("b", number)))
+            self.assertFalse(belief.believes(beat("a", number)))
+        with self.subTest("an answer to what was sent long ago is none"):
+            for _ in range(32):
+                belief.number()
+            self.assertFalse(belief.believes(beat("c", number)))
 
 
 class Suspecting(unittest.TestCase):

@@ -74,7 +74,7 @@ class Files(TreeCase):
             "run/castd": ("drwxr-xr-x", 0, 0),
             "run/castd/orders": ("drwxr-s---", int(user), 901),
             "run/castd/quotes": ("drwxr-s---", int(user), 902),
-            "var/lib/castd": ("drwxr-xr-x", int(user), int(group)),
+            "var/lib/castd": ("drwxr-x---", int(user), int(group)),
         }
         for path, told in wanted.items():
             found = os.stat(f"{self.root}/{path}")

@@ -1,5 +1,6 @@
 """The watch: which sites are suspected, and which are not."""
 
+import contextlib
 import heapq
 import os
 import select
@@ -8,11 +9,24 @@ import socket
 import threading
 import time
 
-from harness import OFFSET, PATIENCE, PORT, Case, Setup, castd, change_plan, wait_for_end, wait_for_push, wait_for_view
+from harness import (
+    OFFSET,
+    PATIENCE,
+    PORT,
+    Case,
+    Setup,
+    castd,
+    change_plan,
+    is_running,
+    wait_for_end,
+    wait_for_push,
+    wait_for_view,
+)
 
 # How long a site may be silent. It leaves room for a machine that does much else.
 SILENCE = 2.0
-INCARNATION = "0123456789abcdef"
+INCARNATION, NEXT_INCARNATION = "0123456789abcdef", "fedcba9876543210"
+NUMBER, NONE = "0011223344556677", "-"
 
 
 class Link(threading.Thread):
@@ -144,7 +158,8 @@ class Failing(Sites):
         self.start(3, links=((1, 3),))
         self.links[0].is_cut = True
         self.assert_put_out(3, 2)
-        self.assertEqual(self.keepers[3].ask("health"), "healthy")
+        self.watches[3].wait_for_lines("site 1, the home of domain 1, is silent")
+        self.assertTrue(is_running(self.keepers[3].daemon()))
         self.links[0].is_cut = False
         self.assert_stopped(3)
         # It stays put out, for good.
@@ -170,6 +185,30 @@ class Failing(Sites):
         wait_for_view(self.programs[1], 2)
         self.links[0].deaf.clear()
         self.assert_stopped(3)
+
+
+class LosingTheHome(Sites):
+    def test_the_others_are_told_that_it_is_silent(self):
+        self.start(3)
+        self.assertEqual(self.keepers[2].ask("health"), "healthy")
+        self.lose(1)
+        for site in (2, 3):
+            told = "site 1, the home of domain 1, is silent: no view of the domain changes"
+            self.watches[site].wait_for_lines(told)
+            self.assertEqual(self.keepers[site].ask("health"), "unhealthy: the home of domain 1, site 1, is silent")
+            self.assertIn(f'castd_home_silent{{site="{site}",domain="1"}} 1', self.keepers[site].ask("metrics"))
+
+    def test_they_are_told_that_it_is_heard_again(self):
+        self.start(2, links=((1, 2),))
+        self.links[0].is_cut = True
+        self.watches[2].wait_for_lines("site 1, the home of domain 1, is silent")
+        self.links[0].is_cut = False
+        self.watches[2].wait_for_lines("site 1, the home of domain 1, is heard again")
+        self.assertEqual(self.keepers[2].ask("health"), "healthy")
+        self.assertIn('castd_home_silent{site="2",domain="1"} 0', self.keepers[2].ask("metrics"))
+        with self.subTest("the home is told nothing of itself"):
+            self.assertEqual(self.keepers[1].ask("home-silent 1"), "no domain")
+            self.assertNotIn("castd_home_silent", self.keepers[1].ask("metrics"))
 
 
 class Staying(Sites):
@@ -226,14 +265,43 @@ class Staying(Sites):
         self.assert_put_out(3, 2)
 
 
+class Peer(socket.socket):
+    """The watch of a site, as a test plays it, at its port or at another one."""
+
+    def __init__(self, setup: Setup, site: int, port: int = PORT + OFFSET):
+        super().__init__(socket.AF_INET, socket.SOCK_DGRAM)
+        self.settimeout(PATIENCE)
+        self.bind((setup.hosts[site], port))
+        self.setup, self.site = setup, site
+
+    def say(self, to: int, datagram: str) -> None:
+        self.sendto(datagram.encode(), (self.setup.hosts[to], PORT + OFFSET))
+
+    def beat(self, to: int, lists: str, echo: str = NONE, life: str = INCARNATION, site: int = 0) -> None:
+        """Sends a beat with these lists, which has the number of the last one from the other site if that is given."""
+        self.say(to, f"castd-beat-2 {site or self.site} {life} {NUMBER} {echo} {lists}")
+
+    def words(self) -> list[str]:
+        """The words of the next beat that comes."""
+        return self.recv(65_536).decode().split(" ")
+
+    def number(self) -> str:
+        """The number of a beat that comes from now on."""
+        self.setblocking(False)
+        with contextlib.suppress(BlockingIOError):
+            while True:
+                self.recv(65_536)
+        self.settimeout(PATIENCE)
+        return self.words()[3]
+
+
 class Believing(Case):
     """Tests with beats that the test itself sends."""
 
-    def beat(self, setup: Setup, to: int, beat: str, host: str) -> None:
-        """Sends a beat to the watch of a site, from a host."""
-        with socket.socket(socket.AF_INET, socket.SOCK_DGRAM) as it:
-            it.bind((host, 0))
-            it.sendto(beat.encode(), (setup.hosts[to], PORT + OFFSET))
+    def peer(self, setup: Setup, site: int, port: int = PORT + OFFSET) -> Peer:
+        peer = Peer(setup, site, port)
+        self.addCleanup(peer.close)
+        return peer
 
     def started(self, sites: int, site: int, *domains: dict):
         """A site whose daemon is stood in for, with its watch."""
@@ -243,50 +311,84 @@ class Believing(Case):
         watch.wait_for_lines("the daemon answers, and beats are sent")
         return setup, keeper, watch
 
-    def test_a_beat_is_believed_from_the_host_of_its_site_alone(self):
-        setup, keeper, watch = self.started(3, 2)
-        stranger = setup.hosts[1].rpartition(".")[0] + ".99"
-        put_out = f"castd-beat-1 1 {INCARNATION} 1 1:2"
-        self.beat(setup, 2, put_out, stranger)
-        self.beat(setup, 2, put_out, setup.hosts[3])
-        watch.wait_for_lines("datagrams passed over: 0 no beats, ")
-        # Only the home of a domain puts out, and only of sites and domains that there are.
-        for nothing in (
-            f"castd-beat-1 3 {INCARNATION} 1 1:2",
-            f"castd-beat-1 1 {INCARNATION} 1 2:2",
-            f"castd-beat-1 1 {INCARNATION} 1 1:3",
-            f"castd-beat-1 9 {INCARNATION} 1 1:2",
-        ):
-            self.beat(setup, 2, nothing, setup.hosts[3 if " 3 " in nothing[:16] else 1])
+    def assert_goes_on(self, keeper, watch) -> None:
         self.assertEqual(watch.lines_for(1), [])
         self.assertEqual(keeper.ask("health"), "healthy")
-        self.beat(setup, 2, put_out, setup.hosts[1])
+
+    def assert_stops(self, peer: Peer, keeper, watch, echo: str = NONE, life: str = INCARNATION) -> None:
+        """The home says in two beats that site 2 was put out of domain 1, which stops."""
+        peer.beat(2, "1 1:2", echo, life)
+        time.sleep(SILENCE / 5)
+        peer.beat(2, "1 1:2", NONE, life)
         self.assert_ends(watch, 12)
         self.assert_ends(keeper, 0)
 
+    def test_a_beat_is_believed_from_the_address_of_its_site_alone(self):
+        setup, keeper, watch = self.started(3, 2)
+        home, other = self.peer(setup, 1), self.peer(setup, 3)
+        number = home.number()
+        # Another program of the home's host, and another host, that know all words.
+        for stranger, words in ((self.peer(setup, 1, 0), {}), (other, {"site": 1})):
+            for _ in range(2):
+                stranger.beat(2, "1 1:2", number, **words)
+                time.sleep(SILENCE / 5)
+        watch.wait_for_lines("datagrams passed over: 0 no beats, ")
+        # Only the home of a domain puts out, and only of sites and domains that there are.
+        for _ in range(2):
+            other.beat(2, "1 1:2", other.number())
+            home.beat(2, "1 2:2", home.number())
+            home.beat(2, "1 1:3", home.number())
+            home.beat(2, "1 1:2", home.number(), site=9)
+        self.assert_goes_on(keeper, watch)
+        self.assert_stops(home, keeper, watch, home.number())
+
+    def test_no_single_beat_stops_a_daemon(self):
+        setup, keeper, watch = self.started(2, 2)
+        home = self.peer(setup, 1)
+        home.beat(2, "1 1:2", home.number())
+        # What is sent at once is one beat.
+        home.beat(2, "1 1:2")
+        self.assert_goes_on(keeper, watch)
+        home.beat(2, "1 -")
+        home.beat(2, "1 1:2")
+        self.assert_goes_on(keeper, watch)
+        self.assert_stops(home, keeper, watch)
+
+    def test_a_life_that_answers_no_number_is_not_believed_and_silences_no_other(self):
+        setup, keeper, watch = self.started(2, 2)
+        home = self.peer(setup, 1)
+        home.beat(2, "1 -", home.number())
+        for echo in (NONE, NUMBER):
+            home.beat(2, "1 1:2", echo, NEXT_INCARNATION)
+            time.sleep(SILENCE / 5)
+        self.assert_goes_on(keeper, watch)
+        self.assert_stops(home, keeper, watch)
+
     def test_datagrams_that_are_no_beats_are_counted(self):
         setup, keeper, watch = self.started(2, 2)
-        whole = f"castd-beat-1 1 {INCARNATION} 1 1:2"
+        home = self.peer(setup, 1)
+        head, lists = f"castd-beat-2 1 {INCARNATION} {NUMBER} {home.number()}", "1 1:2"
+        whole = f"{head} {lists}"
         bad = [
             "",
-            "castd-beat-1",
+            "castd-beat-2",
             whole + "\n",
             whole + " ",
-            whole.replace("-1", "-2", 1),
+            whole.replace("-2", "-1", 1),
             whole.replace(" 1 ", " 01 ", 1),
             whole.replace(" 1 ", " 65536 ", 1),
             whole.replace(INCARNATION, INCARNATION.upper()),
-            whole.replace(" 1 1:2", " 256 1:2"),
-            whole.replace("1:2", "1:0"),
-            whole.replace("1:2", "1:2,"),
+            whole.replace(NUMBER, NONE),
+            f"{head} 256 1:2",
+            f"{head} 1 1:0",
+            f"{head} 1 1:2,",
             "x" * 60_000,
         ]
         for datagram in bad:
-            self.beat(setup, 2, datagram, setup.hosts[1])
+            home.say(2, datagram)
         # The count is told at most once a minute: at the first, and no more within this test.
-        watch.wait_for_lines(" no beats, 0 not from their site's host")
-        self.assertEqual(watch.lines_for(1), [])
-        self.assertEqual(keeper.ask("health"), "healthy")
+        watch.wait_for_lines(" no beats, 0 not from their site's address")
+        self.assert_goes_on(keeper, watch)
 
     def test_a_beat_says_what_the_home_has_put_out(self):
         setup = self.setup_of(3)
@@ -297,13 +399,14 @@ class Believing(Case):
             watch = self.watch(setup, 1, "--patience", str(SILENCE))
             first, source = it.recvfrom(65_536)
             self.assertEqual(source, (setup.hosts[1], PORT + OFFSET))
-            self.assertRegex(first.decode(), "^castd-beat-1 1 [0-9a-f]{16} 1 -$")
+            self.assertRegex(first.decode(), "^castd-beat-2 1 [0-9a-f]{16} [0-9a-f]{16} - 1 -$")
             self.assertEqual(keeper.ask("suspect 1 2"), "refused 13")
             self.assertEqual(keeper.ask("suspect 1 3"), "ok")
             end = time.monotonic() + PATIENCE
-            while (last := it.recv(65_536)) == first and time.monotonic() < end:
+            while (last := it.recv(65_536)).endswith(b" -") and time.monotonic() < end:
                 pass
-            self.assertEqual(last, first[:-1] + b"1:3")
+            site, incarnation = first.split()[1:3]
+            self.assertEqual((last.split()[1:3], last.split()[4:]), ([site, incarnation], [b"-", b"1", b"1:3"]))
             # There are five beats in a patience. A machine that does much else may have fewer.
             begun = time.monotonic()
             for _ in range(10):
@@ -324,7 +427,7 @@ class Believing(Case):
             change_plan(setup, 1)
             watch.wait_for_lines("the daemon answers, and beats are sent")
             it.settimeout(PATIENCE)
-            self.assertIn(b"castd-beat-1 1 ", it.recv(65_536))
+            self.assertIn(b"castd-beat-2 1 ", it.recv(65_536))
         self.assertEqual(keeper.ask("health"), "healthy")
 
     def test_a_halted_domain_is_silent_in_the_beats_of_its_site(self):
@@ -351,17 +454,13 @@ class Believing(Case):
 
     def test_a_late_beat_of_a_former_life_is_not_believed(self):
         setup, keeper, watch = self.started(2, 2)
-        new = INCARNATION[::-1]
-        for beat in (
-            f"castd-beat-1 1 {INCARNATION} 1 -",
-            f"castd-beat-1 1 {new} 1 -",
-            f"castd-beat-1 1 {INCARNATION} 1 1:2",
-        ):
-            self.beat(setup, 2, beat, setup.hosts[1])
-        self.assertEqual(watch.lines_for(1), [])
-        self.beat(setup, 2, f"castd-beat-1 1 {new} 1 1:2", setup.hosts[1])
-        self.assert_ends(watch, 12)
-        self.assert_ends(keeper, 0)
+        home = self.peer(setup, 1)
+        home.beat(2, "1 -", home.number())
+        home.beat(2, "1 -", home.number(), NEXT_INCARNATION)
+        for _ in range(2):
+            home.beat(2, "1 1:2", home.number())
+        self.assert_goes_on(keeper, watch)
+        self.assert_stops(home, keeper, watch, life=NEXT_INCARNATION)
 
 
 class CommandLine(Case):

@@ -1,4 +1,4 @@
-"""The socket of beats: to the other sites, and from their hosts alone."""
+"""The socket of beats: to the other sites, and from their addresses alone."""
 
 from __future__ import annotations
 
@@ -14,7 +14,7 @@ from castd_tools.system import reason
 
 
 class BeatSocket(asyncio.DatagramProtocol):
-    """Sends beats, and hands on those that come from the host of the site that they name. It counts other datagrams."""
+    """Sends beats, and hands on those that come from the host and the port of the site that they name. It counts others."""
 
     def __init__(self, addresses: dict[int, tuple], believe: Callable[[Beat], None]):
         self.undecodable, self.foreign = 0, 0
@@ -30,15 +30,14 @@ class BeatSocket(asyncio.DatagramProtocol):
             self.undecodable += 1
             return
         address = self._addresses.get(beat.site)
-        if address and address[0] == source[0]:
+        if address and address[:2] == source[:2]:
             self._believe(beat)
         else:
             self.foreign += 1
 
-    def send(self, beat: Beat) -> None:
-        """Sends a beat to each of the other sites. It may be lost, as any datagram may."""
-        for address in self._addresses.values():
-            self._transport.sendto(beat.encode(), address)
+    def send(self, site: int, beat: Beat) -> None:
+        """Sends a beat to another site. It may be lost, as any datagram may."""
+        self._transport.sendto(beat.encode(), self._addresses[site])
 
 
 async def open_socket(

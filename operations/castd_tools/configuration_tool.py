@@ -1,16 +1,19 @@
-"""castd-conf: makes and checks configurations, and says under which number a host starts a daemon."""
+"""castd-conf: makes and checks configurations, says under which number a host starts a daemon, and protects its ports."""
 
 from __future__ import annotations
 
 import argparse
 import sys
 import tomllib
+from collections.abc import Callable
 
 from castd_tools import numbers
-from castd_tools.command_line import Failure, Tool, site_number
-from castd_tools.configuration import ConfigurationError, parse
+from castd_tools.beat import USUAL_PORT_OFFSET
+from castd_tools.command_line import Failure, Tool, site_number, whole_number
+from castd_tools.configuration import MOST_PORT, Configuration, ConfigurationError, parse
 from castd_tools.lint import findings_of
 from castd_tools.plan import configuration_of, plan_of, text_of
+from castd_tools.protection import firewall_of, unit_of
 from castd_tools.system import reason
 
 _USUAL_STATE = "/var/lib/castd"
@@ -22,11 +25,14 @@ TOOL = Tool(
     "castd-conf",
     "castd-conf make PLAN\n"
     "       castd-conf lint CONFIG\n"
-    "       castd-conf next CONFIG --site N [--state DIR]",
+    "       castd-conf next CONFIG --site N [--state DIR]\n"
+    "       castd-conf firewall CONFIG [--user NAME] [--port-offset N]\n"
+    "       castd-conf unit CONFIG",
     "Makes a configuration of castd from a plan, says what is at fault in one and what an operator should know of it,"
-    " and says under which number the host of a site starts a daemon.",
+    " says under which number the host of a site starts a daemon, and prints rules of nftables and lines of a unit by"
+    " which others do not pass for sites.",
     {
-        0: "a configuration or a number is printed, or nothing was found",
+        0: "what was asked for is printed, or nothing was found",
         _FOUND: "the configuration or the plan is at fault, or no number is left",
         2: "wrong command line",
         _UNREADABLE: "a file or the state directory cannot be read",
@@ -58,6 +64,20 @@ def _options(words: list[str]) -> argparse.Namespace:
         "--state", metavar="DIR", default=_USUAL_STATE, help=f"where used site numbers are noted ({_USUAL_STATE})"
     )
     following.set_defaults(run=_next)
+    firewall = commands.add_parser("firewall", help="print rules of nftables for the ports of a configuration")
+    firewall.add_argument("config", metavar="CONFIG", help="the configuration")
+    firewall.add_argument("--user", metavar="NAME", default="castd", help="the user of daemons and watches (castd)")
+    firewall.add_argument(
+        "--port-offset",
+        metavar="N",
+        type=lambda text: whole_number(text, 1, MOST_PORT),
+        default=USUAL_PORT_OFFSET,
+        help=f"as castd-watch has it ({USUAL_PORT_OFFSET})",
+    )
+    firewall.set_defaults(run=_firewall)
+    unit = commands.add_parser("unit", help="print lines for the unit castd@: with which hosts it exchanges datagrams")
+    unit.add_argument("config", metavar="CONFIG", help="the configuration")
+    unit.set_defaults(run=_unit)
     return TOOL.parser.parse_args(words)
 
 
@@ -101,6 +121,24 @@ def _next(options: argparse.Namespace) -> int:
         if domain.home == options.site != number:
             TOOL.complain(f"domain {domain.number}: site {options.site} is its home: all its daemons start anew")
     print(number)
+    return 0
+
+
+def _firewall(options: argparse.Namespace) -> int:
+    return _print_of(options.config, lambda it: firewall_of(it, options.user, options.port_offset))
+
+
+def _unit(options: argparse.Namespace) -> int:
+    return _print_of(options.config, unit_of)
+
+
+def _print_of(path: str, text_of: Callable[[Configuration], str]) -> int:
+    """Prints a text that the configuration in a file makes."""
+    text = _text_in(path)
+    try:
+        print(text_of(parse(text)), end="")
+    except ConfigurationError as error:
+        raise Failure(_FOUND, f"{path}: {error}") from error
     return 0
 
 

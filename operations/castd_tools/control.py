@@ -20,6 +20,8 @@ UNHEALTHY = "unhealthy: "
 METRICS = "metrics"
 HEALTH = "health"
 SUSPECTED = "suspected"
+# So the lines begin by which the failure detector says whether the home of a domain is silent. The domain follows.
+HOME_SILENT, HOME_HEARD = "home-silent", "home-heard"
 
 # How the lines begin that say that something was not done.
 _REFUSALS = ("fault ", "refused ", "no domain", "no memory", "halted ", KEEPER, UNHEALTHY)

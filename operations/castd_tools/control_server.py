@@ -21,12 +21,17 @@ Answer = Callable[[bytes], Awaitable[list[str]]]
 
 
 class ControlServer:
-    """Serves each client by a task of its own, so that one that does not read stops no other."""
+    """Serves each client by a task of its own, so that one that does not read stops no other.
+
+    Where as many are there as may be, a new one takes the place of the one that has said nothing for longest.
+    """
 
     def __init__(self, answer: Answer):
         self._answer = answer
         self._clients: set[asyncio.Task] = set()
+        # Of these, who is answered, and who says nothing: first who has said nothing for longest.
         self._answered: set[asyncio.Task] = set()
+        self._silent: dict[asyncio.Task, None] = {}
         self._is_closing = False
 
     async def start(self, listening: socket.socket) -> None:
@@ -43,6 +48,8 @@ class ControlServer:
 
     async def _serve(self, reader: asyncio.StreamReader, writer: asyncio.StreamWriter) -> None:
         client = asyncio.current_task()
+        if len(self._clients) >= MOST_CLIENTS:
+            self._let_go_of_one()
         self._clients.add(client)
         try:
             if len(self._clients) > MOST_CLIENTS:
@@ -59,12 +66,25 @@ class ControlServer:
         finally:
             writer.transport.abort()
             self._clients.discard(client)
+            self._silent.pop(client, None)
+
+    def _let_go_of_one(self) -> None:
+        """Lets go of the client that has said nothing for longest, if there is one that is not answered."""
+        if client := next(iter(self._silent), None):
+            del self._silent[client]
+            self._clients.discard(client)
+            client.cancel()
 
     async def _serve_lines(
         self, client: asyncio.Task, reader: asyncio.StreamReader, writer: asyncio.StreamWriter
     ) -> None:
         lines = LineBuffer()
-        while not self._is_closing and (data := await self._read(reader, _SILENT_SECONDS)):
+        while not self._is_closing:
+            self._silent[client] = None
+            data = await self._read(reader, _SILENT_SECONDS)
+            self._silent.pop(client, None)
+            if not data:
+                break
             self._answered.add(client)
             try:
                 for line in lines.feed(data):

@@ -11,10 +11,10 @@ import sys
 import time
 from collections.abc import Iterator
 
-from castd_tools import control, daemon, metrics, numbers, unix_sockets
+from castd_tools import control, daemon, metrics, numbers, spare_ports, unix_sockets
 from castd_tools.command_line import Failure, SiteTool, stop_signals
 from castd_tools.configuration import Configuration, Domain
-from castd_tools.console import STOP, Console, Unanswered
+from castd_tools.console import OK, STOP, Console, Unanswered
 from castd_tools.control_server import ControlServer
 from castd_tools.notification import notify
 from castd_tools.standard_console import StandardConsole
@@ -77,12 +77,13 @@ async def _keep(options: argparse.Namespace) -> int:
     domains = configuration.domains_of(options.site)
     with contextlib.ExitStack() as held:
         claim = held.enter_context(_claimed(options, configuration))
-        listening = _listen(held, options.control)
-        _remove_dead_sockets(domains)
+        held.enter_context(spare_ports.held(configuration, options.site, TOOL.complain))
+        listening = _listen(held, options)
+        _remove_dead_sockets(domains, options.state)
         keeper = Keeper(options.site, domains, await _start(options))
         claim.stays = True
         returncode = await keeper.run(listening, stop)
-        _remove_dead_sockets(domains)
+        _remove_dead_sockets(domains, options.state)
         claim.stays = keeper.has_served or returncode <= 0 or returncode == _NO_MEMORY
     return returncode if returncode >= 0 else BY_SIGNAL - returncode
 
@@ -125,11 +126,11 @@ def _why_used(options: argparse.Namespace, configuration: Configuration) -> list
     ]
 
 
-def _listen(held: contextlib.ExitStack, path: str) -> socket.socket:
+def _listen(held: contextlib.ExitStack, options: argparse.Namespace) -> socket.socket:
     try:
-        return held.enter_context(unix_sockets.listening(path))
+        return held.enter_context(unix_sockets.listening(options.control, options.state))
     except OSError as error:
-        raise Failure(NO_CONTROL, f"no control socket can be made: {path}: {reason(error)}") from error
+        raise Failure(NO_CONTROL, f"no control socket can be made: {options.control}: {reason(error)}") from error
 
 
 async def _start(options: argparse.Namespace) -> asyncio.subprocess.Process:
@@ -140,11 +141,15 @@ async def _start(options: argparse.Namespace) -> asyncio.subprocess.Process:
         raise Failure(NOT_STARTED, f"castd cannot be started: {options.program}: {reason(error)}") from error
 
 
-def _remove_dead_sockets(domains: list[Domain]) -> None:
-    """Removes the sockets of domains that a killed daemon left behind."""
+def _remove_dead_sockets(domains: list[Domain], state: str) -> None:
+    """Removes the sockets of domains that a killed daemon left behind.
+
+    Keepers of one host have one state directory, and lock that: a tenant, who may open the directory of its socket, may
+    not hold up the others.
+    """
     for domain in domains:
         with contextlib.suppress(OSError):
-            if unix_sockets.remove_dead(domain.socket):
+            if unix_sockets.remove_dead(domain.socket, state):
                 TOOL.complain(f"removed {domain.socket}, which a killed daemon left behind")
 
 
@@ -199,7 +204,12 @@ class Keeper:
         if not line:
             return ["fault 1"]
         try:
-            return await self._own_lines[line]() if line in self._own_lines else await self._ask(line)
+            match line.split(" "):
+                case [control.HOME_SILENT | control.HOME_HEARD as word, domain]:
+                    return self._note_home(domain, word == control.HOME_SILENT)
+                case _ if line in self._own_lines:
+                    return await self._own_lines[line]()
+            return await self._ask(line)
         except Unanswered as error:
             return [f"{control.KEEPER}{error}"]
 
@@ -248,6 +258,8 @@ class Keeper:
             exposition.add("castd_up", 1)
         except Unanswered:
             exposition.add("castd_up", 0)
+        for domain, (_, is_silent) in self._standing.homes().items():
+            exposition.add("castd_home_silent", int(is_silent), domain=domain)
         # A daemon that has just ended uses nothing.
         with contextlib.suppress(OSError):
             metrics.add_usage(exposition, daemon.usage(self._process.pid))
@@ -261,9 +273,16 @@ class Keeper:
             return [f"{control.UNHEALTHY}the daemon does not answer within {_HEALTH_SECONDS:g} s"]
         reasons = [line for line in domains if control.is_refusal([line])]
         reasons += [f"domain {domain} is halted" for domain, runs in metrics.domains_of(domains).items() if not runs]
+        for domain, (home, is_silent) in self._standing.homes().items():
+            if is_silent:
+                reasons.append(f"the home of domain {domain}, site {home}, is silent")
         if record == ["record ended"]:
             reasons.append("the record has ended")
         return [f"{control.UNHEALTHY}{reason}" for reason in reasons] or ["healthy"]
+
+    def _note_home(self, domain: str, is_silent: bool) -> list[str]:
+        known = domain.isascii() and domain.isdigit() and self._standing.note_home(int(domain), is_silent)
+        return [OK if known else "no domain"]
 
     async def _suspected(self) -> list[str]:
         return self._standing.suspected_lines()

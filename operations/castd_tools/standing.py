@@ -1,4 +1,4 @@
-"""What lines that were said to a daemon have changed, where the daemon does not show it."""
+"""What a keeper knows of its daemon's domains that the daemon does not show: what lines have changed, and silent homes."""
 
 from __future__ import annotations
 
@@ -7,12 +7,15 @@ from castd_tools.console import OK
 
 
 class Standing:
-    """The quotas of the domains of a site, and the sites that it put out of those of which it is the home."""
+    """The quotas of the domains of a site, the sites that it put out of those of which it is the home, and the homes of the
+    others that are silent."""
 
     def __init__(self, site: int, domains: list[Domain]):
         self._others = {
             domain.number: set(domain.sites) - {site} if domain.home == site else set() for domain in domains
         }
+        self._homes = {domain.number: domain.home for domain in domains if domain.home != site}
+        self._silent: set[int] = set()
         self._quotas = {(domain.number, name): domain.quota(name) for domain in domains for name in QUOTAS}
         self._suspected: set[tuple[int, int]] = set()
 
@@ -28,6 +31,20 @@ class Standing:
 
     def quota(self, domain: int, name: str) -> int:
         return self._quotas[domain, name]
+
+    def note_home(self, domain: int, is_silent: bool) -> bool:
+        """Whether the home of a domain is silent, as the failure detector says. False where no other site is its home."""
+        if domain not in self._homes:
+            return False
+        if is_silent:
+            self._silent.add(domain)
+        else:
+            self._silent.discard(domain)
+        return True
+
+    def homes(self) -> dict[int, tuple[int, bool]]:
+        """The home of each domain of which another site is the home, and whether it is silent."""
+        return {domain: (home, domain in self._silent) for domain, home in self._homes.items()}
 
     def suspected_lines(self) -> list[str]:
         """A line for each site that was put out, `suspected D S`."""

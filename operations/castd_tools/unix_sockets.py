@@ -1,4 +1,8 @@
-"""Unix sockets: those that a program which is gone left behind, and one that only the own user and group may use."""
+"""Unix sockets: those that a program which is gone left behind, and one that only the own user and group may use.
+
+Of the programs that would remove a dead socket or make one, and that are given one folder, one at a time goes on. It locks
+the folder, so nobody but these programs may be able to open it: who can, can hold the lock.
+"""
 
 from __future__ import annotations
 
@@ -17,13 +21,13 @@ _LOCK_PAUSE_SECONDS = 0.01
 
 
 @contextlib.contextmanager
-def listening(path: str) -> Iterator[socket.socket]:
+def listening(path: str, folder: str) -> Iterator[socket.socket]:
     """A socket of mode 0660 that listens at a path, which a dead socket may have. Its file is removed in the end.
 
-    An `OSError` where the path has anything else.
+    An `OSError` where the path has anything else, or the folder stays locked.
     """
     with socket.socket(socket.AF_UNIX) as server:
-        with _locked_folder(path):
+        with _locked(folder):
             _remove_if_dead(path)
             _bind(server, path)
             server.listen(_BACKLOG)
@@ -31,20 +35,20 @@ def listening(path: str) -> Iterator[socket.socket]:
         try:
             yield server
         finally:
-            with contextlib.suppress(FileNotFoundError), _locked_folder(path):
+            with contextlib.suppress(FileNotFoundError), _locked(folder):
                 _remove_same(path, made)
 
 
-def remove_dead(path: str) -> bool:
-    """Removes the socket at a path if nobody listens on it. Whether it did."""
-    with _locked_folder(path):
+def remove_dead(path: str, folder: str) -> bool:
+    """Removes the socket at a path if nobody listens on it. Whether it did. An `OSError` where the folder stays locked."""
+    with _locked(folder):
         return _remove_if_dead(path)
 
 
 @contextlib.contextmanager
-def _locked_folder(path: str) -> Iterator[None]:
-    """Of the programs that would remove a dead socket or make one in the folder of a path, one at a time goes on."""
-    folder = os.open(os.path.dirname(path) or ".", os.O_RDONLY | os.O_DIRECTORY)
+def _locked(path: str) -> Iterator[None]:
+    """While no other program has the lock of a folder."""
+    folder = os.open(path, os.O_RDONLY | os.O_DIRECTORY | os.O_CLOEXEC)
     try:
         _lock(folder)
         yield

@@ -4,15 +4,16 @@ from __future__ import annotations
 
 import argparse
 import asyncio
-import collections
+import contextlib
 import math
 import secrets
 import sys
 import time
 
 from castd_tools import control, metrics
-from castd_tools.beat import Beat
+from castd_tools.beat import USUAL_PORT_OFFSET, Beat
 from castd_tools.beat_socket import open_socket
+from castd_tools.belief import Belief
 from castd_tools.command_line import SiteTool, stop_signals, whole_number
 from castd_tools.configuration import MOST_PORT, Configuration
 from castd_tools.console import OK, STOP
@@ -23,8 +24,6 @@ _BEATS_A_PATIENCE = 5
 _LOOKS_A_PATIENCE = 10
 _LEAST_PATIENCE, _MOST_PATIENCE = 0.5, 3_600.0
 _SECONDS_BETWEEN_COUNTS = 60.0
-# How many lives of the watch of a site are known apart.
-_LIVES = 8
 
 # Topics of which something is told.
 _DAEMON = ("daemon",)
@@ -35,7 +34,7 @@ TOOL = SiteTool(
     "castd-watch CONFIG --site N [--control PATH] [--patience SECONDS] [--port-offset N]",
     "Detects sites that fail, beside the daemon of a site. Sites exchange beats as long as their daemons answer. At the"
     " home of a domain, a site that was heard and falls silent is suspected, if more than half of the domain stays. A"
-    " site that learns that it was put out stops its daemon.",
+    " site that learns that it was put out stops its daemon. Where the home of a domain is silent, the keeper is told.",
     {
         0: "ended by SIGTERM or SIGINT",
         USAGE: "wrong command line",
@@ -57,8 +56,8 @@ def _options(words: list[str]) -> argparse.Namespace:
         "--port-offset",
         metavar="N",
         type=lambda text: whole_number(text, 1, MOST_PORT),
-        default=1_000,
-        help="by how much the ports of beats are above those of the configuration (1000)",
+        default=USUAL_PORT_OFFSET,
+        help=f"by how much the ports of beats are above those of the configuration ({USUAL_PORT_OFFSET})",
     )
     return TOOL.options(words)
 
@@ -101,20 +100,6 @@ class Teller:
         self._told.pop(topic, None)
 
 
-class Incarnations:
-    """The lives of the watches of other sites, of which each names itself by a random word."""
-
-    def __init__(self) -> None:
-        self._lives: dict[int, collections.deque[str]] = {}
-
-    def is_latest(self, heard: Beat) -> bool:
-        """Whether a beat is of the latest life that is known of its site. One that is new becomes the latest."""
-        lives = self._lives.setdefault(heard.site, collections.deque(maxlen=_LIVES))
-        if heard.incarnation not in lives:
-            lives.append(heard.incarnation)
-        return lives[-1] == heard.incarnation
-
-
 class Watch:
     """Watches beside the daemon of a site."""
 
@@ -129,8 +114,13 @@ class Watch:
             for domain in domains
             if domain.home == options.site
         }
-        self._incarnation, self._incarnations = secrets.token_hex(8), Incarnations()
+        self._incarnation, self._beliefs = secrets.token_hex(8), {site: Belief() for site in self._others}
         self._teller = Teller()
+        # When the home of each domain was heard last, where it is another site, and those of which it is said to be silent.
+        self._heard_home = {domain: time.monotonic() for domain, home in self._homes.items() if home != options.site}
+        self._silent_homes: set[int] = set()
+        # The domains of which the site is put out, as the last beat of their homes said, and since when they say so.
+        self._told_out: dict[int, float] = {}
         self._put_out: asyncio.Future[int] = asyncio.get_running_loop().create_future()
         self._counts_told = -math.inf
 
@@ -153,13 +143,14 @@ class Watch:
         interval = self._patience / _BEATS_A_PATIENCE
         while True:
             begun = time.monotonic()
-            beat = await self._own_beat()
-            if beat:
-                self._socket.send(beat)
+            news = await self._news()
+            if news:
+                for site, belief in self._beliefs.items():
+                    self._socket.send(site, Beat(self._site, self._incarnation, belief.number(), belief.echo, *news))
             await asyncio.sleep(begun + interval - time.monotonic())
 
-    async def _own_beat(self) -> Beat | None:
-        """What there is to say of the own site. None where its daemon does not answer in time."""
+    async def _news(self) -> tuple[frozenset[int], frozenset[tuple[int, int]]] | None:
+        """The domains that run here, and the sites that were put out. None where the daemon does not answer in time."""
         try:
             domains, suspected = await self._ask("domains"), await self._ask(control.SUSPECTED)
         except control.ControlError as error:
@@ -174,18 +165,29 @@ class Watch:
             if domain in self._suspicions:
                 self._suspicions[domain].suspected.add(site)
         running = frozenset(domain for domain, runs in metrics.domains_of(domains).items() if runs)
-        return Beat(self._site, self._incarnation, running, put_out)
+        return running, put_out
 
     def _hear(self, heard: Beat) -> None:
-        """A beat came from the host of its site."""
-        if not self._incarnations.is_latest(heard):
+        """A beat came from the address of its site."""
+        if not self._beliefs[heard.site].believes(heard):
             return
         for domain in heard.running & self._suspicions.keys():
             self._teller.forget((_WAITS, domain, heard.site))
             if self._suspicions[domain].hear(heard.site, time.monotonic()):
                 self._teller.say(f"site {heard.site} is heard in domain {domain}")
-        for domain, site in heard.put_out:
-            if site == self._site and self._homes.get(domain) == heard.site and not self._put_out.done():
+        for domain, home in self._homes.items():
+            if home == heard.site:
+                if domain in heard.running:
+                    self._heard_home[domain] = time.monotonic()
+                self._learn(domain, (domain, self._site) in heard.put_out)
+
+    def _learn(self, domain: int, is_put_out: bool) -> None:
+        """A beat of the home says whether the site was put out. No single beat stops a daemon: another one has to follow."""
+        now = time.monotonic()
+        if not is_put_out:
+            self._told_out.pop(domain, None)
+        elif now - self._told_out.setdefault(domain, now) >= self._patience / _BEATS_A_PATIENCE / 2:
+            if not self._put_out.done():
                 self._put_out.set_result(domain)
 
     async def _look(self) -> None:
@@ -196,7 +198,22 @@ class Watch:
                 await self._suspect_one(domain, suspicion)
                 for site in suspicion.due_again(time.monotonic()):
                     await self._suspect(domain, site, suspicion)
+            for domain in self._heard_home:
+                await self._look_for_home(domain)
             self._tell_counts()
+
+    async def _look_for_home(self, domain: int) -> None:
+        """Says where the home of a domain falls silent, or is heard again, here and to the keeper."""
+        self._notice_own_pause()
+        is_silent = time.monotonic() - self._heard_home[domain] >= self._patience
+        if is_silent == (domain in self._silent_homes):
+            return
+        # A keeper that does not answer is told at the next look.
+        with contextlib.suppress(control.ControlError):
+            await self._ask(f"{control.HOME_SILENT if is_silent else control.HOME_HEARD} {domain}")
+            self._silent_homes ^= {domain}
+            how = "is silent: no view of the domain changes" if is_silent else "is heard again"
+            self._teller.say(f"site {self._homes[domain]}, the home of domain {domain}, {how}")
 
     async def _suspect_one(self, domain: int, suspicion: Suspicion) -> None:
         """Suspects a site of a domain that is silent, if there is one that may be."""
@@ -233,6 +250,7 @@ class Watch:
         if late > self._patience / 2:
             for suspicion in self._suspicions.values():
                 suspicion.start_anew(now)
+            self._heard_home = dict.fromkeys(self._heard_home, now)
             self._teller.say(f"goes on {late:.1f} s late: all silences start anew")
 
     async def _stop_daemon(self, domain: int) -> None:
@@ -258,7 +276,7 @@ class Watch:
         beats, now = self._socket, time.monotonic()
         if (beats.undecodable or beats.foreign) and now - self._counts_told >= _SECONDS_BETWEEN_COUNTS:
             self._teller.say(
-                f"datagrams passed over: {beats.undecodable} no beats, {beats.foreign} not from their site's host"
+                f"datagrams passed over: {beats.undecodable} no beats, {beats.foreign} not from their site's address"
             )
             beats.undecodable, beats.foreign, self._counts_told = 0, 0, now
 
