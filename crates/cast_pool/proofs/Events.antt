@@ -26,7 +26,8 @@ use Rattle.cast_table.proofs.Places.{named_there, same_some, none_some}
 use Rattle.cast_events.specs.declared.entry.Noted.{Noted}
 use Rattle.cast_events.specs.declared.entry.Noted.TheVariants as noted
 use Rattle.cast_events.specs.declared.entry.Entry.{Entry}
-use Rattle.cast_pool.specs.Traces.{is_among, noted_of, noted_taken, TellsHalts, IsTickNoted, IsEntryAmong}
+use Rattle.cast_pool.specs.Traces.{is_among, TellsHalts, IsTickNoted, IsEntryAmong}
+use Rattle.cast_trail.specs.Notes.{noted_of, noted_taken}
 use Rattle.cast_pool.specs.Kept.{are_apart}
 use Rattle.cast_pool.proofs.Numbers.{numbers_in, domain_swapped, stands_among, other_number, first_apart, rest_apart, own_named}
 use Rattle.cast_pool.proofs.Turns.{Follows, turned, left}

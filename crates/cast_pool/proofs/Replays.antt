@@ -27,7 +27,8 @@ use Rattle.cast_table.specs.Owns.{are_distinct, have_rising_groups}
 use Rattle.cast_table.proofs.Places.{IsNumbered}
 use Rattle.cast_table.proofs.Ordered.{distinct_by_number, rising_by_number}
 use Rattle.cast_events.specs.declared.entry.Entry.{Entry}
-use Rattle.cast_pool.specs.Traces.{StandsFor, Leads, LeadsAll, IsEntryAmong, noted_of}
+use Rattle.cast_pool.specs.Traces.{StandsFor, Leads, LeadsAll, IsEntryAmong}
+use Rattle.cast_trail.specs.Notes.{noted_of}
 use Rattle.cast_pool.specs.Kept.{IsReplayed, Replays, are_apart, numbers_of}
 use Rattle.cast_pool.proofs.Numbers.{numbers_in, same_numbers, apart_configured}
 use Rattle.cast_pool.proofs.Turns.{Follows}

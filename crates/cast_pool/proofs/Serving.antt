@@ -17,11 +17,12 @@ use Rattle.cast_table.specs.Copies.{IsCopyOf}
 use Rattle.cast_events.specs.declared.entry.Noted.{Noted}
 use Rattle.cast_events.specs.declared.entry.Noted.TheVariants as noted
 use Rattle.cast_events.specs.declared.entry.Entry.{Entry}
-use Rattle.cast_pool.specs.declared.trail.Trail.{Trail}
-use Rattle.cast_pool.specs.Traces.{noted_of, noted_taken}
+use Rattle.cast_trail.specs.declared.trail.Trail.{Trail}
+use Rattle.cast_trail.specs.Notes.{noted_of, noted_taken}
 use Rattle.cast_pool.specs.Kept.{Seen, Replays, seen, events_of, is_due, is_full}
 use Rattle.cast_pool.specs.Served.{IsAdded, IsLeft, IsServed, Serves}
-use Rattle.cast_pool.specs.Room.{IsNextBase, base_then, count_then, items_then}
+use Rattle.cast_pool.specs.Room.{IsNextBase}
+use Rattle.cast_trail.specs.Room.{base_then, count_then, items_then}
 use Rattle.cast_pool.proofs.Replays.{replays_push, replays_trim}
 
 some_kept : {X : Type 0} (x : X) → Some x ≡ None → ⊥
@@ -89,7 +90,7 @@ IsNext s None = length s.trace < 4096
 IsNext s (Some base) = (4096 ≤ length s.trace) × IsCopyOf s.table base
 
 -- room for the entry says so
-pub next_in : (base : Table) (count : ℕ) (table : Table) (items : List Entry) (trail : Trail) (next : Option Table) → trail.entries.items ≡ items → IsNextBase table next trail → IsNext (seen base items count table) next
+pub next_in : (base : Table) (count : ℕ) (table : Table) (items : List Entry) (trail : Trail Table) (next : Option Table) → trail.entries.items ≡ items → IsNextBase table next trail → IsNext (seen base items count table) next
 next_in base count table items trail None same room = subst (λ xs. length xs < 4096) same room.0
 next_in base count table items trail (Some copy) same room = (subst (λ xs. 4096 ≤ length xs) same room.0, room.1)
 

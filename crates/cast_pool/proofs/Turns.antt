@@ -20,7 +20,8 @@ use Rattle.cast_table.proofs.Parts.{domain_itself, other_unnamed, named_own}
 use Rattle.cast_events.specs.declared.entry.Noted.{Noted}
 use Rattle.cast_events.specs.declared.entry.Noted.TheVariants as noted
 use Rattle.cast_events.specs.declared.entry.Entry.{Entry}
-use Rattle.cast_pool.specs.Traces.{StandsFor, Leads, IsKeptStep, is_among, noted_of, noted_taken}
+use Rattle.cast_pool.specs.Traces.{StandsFor, Leads, IsKeptStep, is_among}
+use Rattle.cast_trail.specs.Notes.{noted_of, noted_taken}
 
 -- where the domain stands for something, the entry leads from there to what it stands for then
 pub record Next (e : Entry) (end : Part) (n : DomainNo) (s : Option State) (new : Domain) : Type 0 where

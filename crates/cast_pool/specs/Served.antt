@@ -19,7 +19,7 @@ use Rattle.cast_pool.specs.declared.task.Task.TheVariants.{Serve, Show}
 use Rattle.cast_pool.specs.declared.task.Outcome.{Outcome}
 use Rattle.cast_pool.specs.declared.task.Outcome.TheVariants.{Answered, Shown, Undecoded}
 use Rattle.cast_pool.specs.Tasks.{IsUndecoded, task_of}
-use Rattle.cast_pool.specs.Traces.{noted_taken}
+use Rattle.cast_trail.specs.Notes.{noted_taken}
 use Rattle.cast_pool.specs.Kept.{Seen, is_due, is_full, events_of}
 
 -- the table is as it was, nothing is added to the trace, and its worker has taken as many events as before

@@ -5,11 +5,12 @@ ghost use Rattle.cast_pool.specs.Kept.{Replays, Seen, events_of};
 ghost use Rattle.cast_pool.specs.Served.{Completes, IsDone, IsTrimmed, IsTrimmedOr, Serves, halts};
 ghost use Rattle.cast_pool.specs.Tasks.{IsUndecoded, task_of};
 
+use crate::room::room_for;
 use crate::task::{Outcome, Task};
-use crate::trail::{Trail, fill, note_of};
 use cast_events::{Asked, Config, Entry, Event, Fault, Outs, Raw, Taken};
 use cast_frame::decode_site;
 use cast_table::Table;
+use cast_trail::{Trail, fill, note_of};
 use cast_types::{NoMemory, Refusal};
 use std::alloc::Global;
 use std::marker::Model;
@@ -36,7 +37,7 @@ pub struct Done {
 pub struct Kept<L: Ledger> {
     alloc: Global,
     table: Table,
-    trail: Trail,
+    trail: Trail<Table>,
     book: Book<L>,
 }
 
@@ -283,7 +284,7 @@ impl<L: Ledger> Kept<L> {
         if self.events() == u64::MAX {
             return Outcome::Answered(Ok(Taken::Refused(Refusal::Halted)), outs);
         }
-        let Ok(room) = self.trail.room(self.alloc, &self.table) else {
+        let Ok(room) = room_for(self.alloc, &mut self.trail, &self.table) else {
             return Outcome::Answered(Err(Fault::NoMemory), outs);
         };
         let answer = self.table.apply(&event, &mut outs);

@@ -11,10 +11,9 @@
 
 pub mod configured;
 pub mod kept;
-pub mod limits;
 pub mod post;
+mod room;
 pub mod task;
-mod trail;
 pub mod worker;
 
 pub use cast_events::{Asked, Entry, Noted, Raw};

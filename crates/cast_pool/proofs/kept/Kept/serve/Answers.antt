@@ -4,7 +4,7 @@ use Rattle.cast_events.specs.Outs.{no_outs}
 use Rattle.cast_table.specs.Tables.{IsApplied, IsUnchanged, NotesHalts, domains_of, lent}
 use Rattle.cast_pool.specs.Kept.{Replays, Seen, events_of, seen}
 use Rattle.cast_pool.specs.Served.{Serves}
-use Rattle.cast_pool.specs.Room.{base_then, count_then, items_then}
+use Rattle.cast_trail.specs.Room.{base_then, count_then, items_then}
 use Rattle.cast_pool.proofs.Halts.{few_halted}
 use Rattle.cast_pool.proofs.Serving.{counts_on, entry_for, left_none, next_in, one_more, replays_for, served_added, served_none}
 use Rattle.cast_pool.proofs.kept.Kept.serve.Goals as goal
@@ -31,11 +31,11 @@ invariant_of-self-2 g c =
     let n = c.in-Some.noted in
     let base = c.in-Ok.room.base in
     let old = seen k.trail.base k.trail.entries.items k.trail.count k.table in
-    let same = c.room.ensures.same in
+    let same = c.room_for.ensures.same in
     let applied = subst (λ (o : Outs). IsApplied a c.args.event (domains_of k.table) (domains_of new) (lent k.table o) (lent new outs)) c.new-outs.ensures c.apply-answer.ensures.applied in
     let notes = subst (λ (o : Outs). NotesHalts a c.args.event (domains_of k.table) (domains_of new) o.halted outs.halted) c.new-outs.ensures c.apply-answer.ensures.halted in
     let says = sym c.in-Some.ensures in
-    let next = next_in k.trail.base k.trail.count k.table k.trail.entries.items c.room.new.self base same.1 c.in-Ok.ensures.room.base in
+    let next = next_in k.trail.base k.trail.count k.table k.trail.entries.items c.room_for.new.trail base same.1 c.in-Ok.ensures.room.base in
     let halted = c.fill-halted.ensures ∙ c.as_slice.ensures in
     let items : c.add.new.self.entries.items ≡ items_then base k.trail.entries.items ++ entry_for c.args.event n outs.halted ∷ [] =
     c.add.ensures.items ∙ (λ i. items_then base (same.1 i) ++ entry_for c.args.event n (halted i) ∷ []) in
@@ -66,11 +66,11 @@ returns-clause-done g c =
     let base = c.in-Ok.room.base in
     let was = c.args.mine.now.taken in
     let old = seen k.trail.base k.trail.entries.items k.trail.count k.table in
-    let same = c.room.ensures.same in
+    let same = c.room_for.ensures.same in
     let applied = subst (λ (o : Outs). IsApplied a c.args.event (domains_of k.table) (domains_of new) (lent k.table o) (lent new outs)) c.new-outs.ensures c.apply-answer.ensures.applied in
     let notes = subst (λ (o : Outs). NotesHalts a c.args.event (domains_of k.table) (domains_of new) o.halted outs.halted) c.new-outs.ensures c.apply-answer.ensures.halted in
     let says = sym c.in-Some.ensures in
-    let next = next_in k.trail.base k.trail.count k.table k.trail.entries.items c.room.new.self base same.1 c.in-Ok.ensures.room.base in
+    let next = next_in k.trail.base k.trail.count k.table k.trail.entries.items c.room_for.new.trail base same.1 c.in-Ok.ensures.room.base in
     let halted = c.fill-halted.ensures ∙ c.as_slice.ensures in
     let items : c.add.new.self.entries.items ≡ items_then base k.trail.entries.items ++ entry_for c.args.event n outs.halted ∷ [] =
     c.add.ensures.items ∙ (λ i. items_then base (same.1 i) ++ entry_for c.args.event n (halted i) ∷ []) in
@@ -92,7 +92,7 @@ invariant_of-self-in_default-note_of g c =
     let new = c.apply-answer.new.self in
     let outs = c.apply-answer.new.outs in
     let a = c.apply-answer.result in
-    let same = c.room.ensures.same in
+    let same = c.room_for.ensures.same in
     let none = sym c.note_of.ensures ∙ c.in_default-note_of.is in
     let unchanged = subst (λ (o : Outs). IsUnchanged a k.table new o outs) c.new-outs.ensures c.apply-answer.ensures.unchanged in
     let table = left_none a k.table new no_outs outs none unchanged in
@@ -105,9 +105,9 @@ returns-in_default-note_of-clause-done g c =
     let outs = c.apply-answer.new.outs in
     let a = c.apply-answer.result in
     let was = c.args.mine.now.taken in
-    let same = c.room.ensures.same in
+    let same = c.room_for.ensures.same in
     let old = seen k.trail.base k.trail.entries.items k.trail.count k.table in
-    let left = seen c.room.new.self.base c.room.new.self.entries.items c.room.new.self.count new in
+    let left = seen c.room_for.new.trail.base c.room_for.new.trail.entries.items c.room_for.new.trail.count new in
     let none = sym c.note_of.ensures ∙ c.in_default-note_of.is in
     let applied = subst (λ (o : Outs). IsApplied a c.args.event (domains_of k.table) (domains_of new) (lent k.table o) (lent new outs)) c.new-outs.ensures c.apply-answer.ensures.applied in
     let unchanged = subst (λ (o : Outs). IsUnchanged a k.table new o outs) c.new-outs.ensures c.apply-answer.ensures.unchanged in

@@ -1,35 +1,33 @@
-ghost use Rattle.std.specs.Prelude.{◌≡◌, ◌+◌, ◌<◌, ◌≤◌, ◌^◌, [], ◌∷◌, ◌++◌, None, IfOk, OnErr, length, vec_len};
+ghost use Rattle.std.specs.Prelude.{◌≡◌, ◌+◌, ◌<◌, ◌≤◌, ◌^◌, [], ◌∷◌, ◌++◌, IfOk, length, nat_le, vec_len};
 ghost use Rattle.std.specs.Vec.{vec_capacity};
-ghost use Rattle.cast_table.specs.Tables.{domains_of};
-ghost use Rattle.cast_pool.specs.Traces.{noted_of};
-ghost use Rattle.cast_pool.specs.Room.{HasPlace, HasRoom, base_then, count_then, items_then};
+ghost use Rattle.cast_trail.specs.Notes.{noted_of};
+ghost use Rattle.cast_trail.specs.Room.{HasPlace, IsInTime, base_then, count_then, items_then};
 
 use crate::limits::MAX_TRACE;
 use cast_events::{Entry, Fault, Noted, Taken};
-use cast_table::Table;
 use cast_types::{DomainNo, List, NoMemory};
 use std::alloc::Global;
 use std::mem;
 
 /// The events that were taken since the trace was trimmed last.
 #[derive(Drop)]
-pub(crate) struct Trail {
+pub struct Trail<T> {
     /// The table as it was before the first of them.
-    pub(crate) base: Table,
-    pub(crate) entries: Vec<Entry>,
+    pub base: T,
+    pub entries: Vec<Entry>,
     /// How many events were taken before the first of them.
-    pub(crate) count: u64,
+    pub count: u64,
 }
 
 /// Room for one more entry: for the domains that its event halts, and, where the trace is trimmed before it, the table as it is.
 #[derive(Drop)]
-pub(crate) struct Room {
-    pub(crate) base: Option<Table>,
-    pub(crate) halted: Vec<DomainNo>,
+pub struct Room<T> {
+    pub base: Option<T>,
+    pub halted: Vec<DomainNo>,
 }
 
 /// What a trace keeps of an answer; nothing of an event that was not taken.
-pub(crate) fn note_of(answer: &Result<Taken, Fault>) -> Option<Noted>
+pub fn note_of(answer: &Result<Taken, Fault>) -> Option<Noted>
     ensures { result ≡ noted_of answer.now }
 {
     match answer {
@@ -44,7 +42,7 @@ pub(crate) fn note_of(answer: &Result<Taken, Fault>) -> Option<Noted>
 
 /// The halted domains, in the room that there is for them. Takes no memory. Where there are none, the room is given back: a trace has many
 /// entries.
-pub(crate) fn fill(room: Vec<DomainNo>, halted: &[DomainNo]) -> List<DomainNo>
+pub fn fill(room: Vec<DomainNo>, halted: &[DomainNo]) -> List<DomainNo>
     requires empty { room.items ≡ [] }
     requires room { length halted.now ≤ vec_capacity room }
     ensures { result ≡ halted.now }
@@ -57,25 +55,37 @@ pub(crate) fn fill(room: Vec<DomainNo>, halted: &[DomainNo]) -> List<DomainNo>
     List::from_vec(room)
 }
 
-impl Trail {
-    /// Makes room for one more entry. `NoMemory` changes nothing that is seen.
-    pub(crate) fn room(&mut self, alloc: Global, table: &Table) -> Result<Room, NoMemory>
-        ensures room { IfOk result (λ room. HasRoom table.now room self.new) }
+impl<T: Drop> Trail<T> {
+    /// Whether the trace is to be trimmed before one more entry: it has `MAX_TRACE`.
+    pub fn is_due(&self) -> bool
+        ensures { result ≡ nat_le 4096 (length self.now.entries.items) }
+    {
+        self.entries.len() >= MAX_TRACE
+    }
+
+    /// Makes room for one more entry, whose event halts at most so many domains. The base is for a trim before it, where that is due.
+    /// `NoMemory` changes nothing that is seen.
+    pub fn room(
+        &mut self,
+        alloc: Global,
+        base: Option<T>,
+        most: usize,
+    ) -> Result<Room<T>, NoMemory>
+        requires { IsInTime base self.old }
+        ensures base { IfOk result (λ room. room.base ≡ base) }
+        ensures place { IfOk result (λ room. HasPlace room.base self.new) }
+        ensures halted { IfOk result (λ room. (room.halted.items ≡ []) × (most ≤ vec_capacity room.halted)) }
         ensures same { (self.new.base ≡ self.old.base) × (self.new.entries.items ≡ self.old.entries.items) × (self.new.count ≡ self.old.count) }
     {
-        let halted = Vec::with_capacity(alloc, table.len())?;
-        if self.entries.len() < MAX_TRACE {
+        let halted = Vec::with_capacity(alloc, most)?;
+        if base.is_none() {
             self.entries.reserve(1)?;
-            return Ok(Room { base: None, halted });
         }
-        Ok(Room {
-            base: Some(table.copy()?),
-            halted,
-        })
+        Ok(Room { base, halted })
     }
 
     /// Adds an entry, after the trace was trimmed where there is another base for it. Takes no memory.
-    pub(crate) fn add(&mut self, base: Option<Table>, entry: Entry)
+    pub fn add(&mut self, base: Option<T>, entry: Entry)
         requires room { HasPlace base self.old }
         requires few { self.old.count + length self.old.entries.items < 2 ^ 64 }
         ensures base { self.new.base ≡ base_then base self.old.base }
@@ -87,7 +97,7 @@ impl Trail {
     }
 
     // Trims the trace where there is another base for it.
-    fn rebase(&mut self, base: Option<Table>)
+    fn rebase(&mut self, base: Option<T>)
         requires room { HasPlace base self.old }
         requires few { self.old.count + length self.old.entries.items < 2 ^ 64 }
         ensures base { self.new.base ≡ base_then base self.old.base }
@@ -102,7 +112,7 @@ impl Trail {
     }
 
     /// The trace begins anew at another base. Takes no memory.
-    pub(crate) fn trim(&mut self, base: Table)
+    pub fn trim(&mut self, base: T)
         requires { self.old.count + length self.old.entries.items < 2 ^ 64 }
         ensures base { self.new.base ≡ base }
         ensures items { self.new.entries.items ≡ [] }
@@ -115,7 +125,7 @@ impl Trail {
     }
 
     /// As `trim`, and hands on the events that the trace had. Its next events go into this room.
-    pub(crate) fn cut(&mut self, room: Vec<Entry>, base: Table) -> Vec<Entry>
+    pub fn cut(&mut self, room: Vec<Entry>, base: T) -> Vec<Entry>
         requires few { self.old.count + length self.old.entries.items < 2 ^ 64 }
         requires room { room.items ≡ [] }
         ensures entries { result.items ≡ self.old.entries.items }
