@@ -1,5 +1,5 @@
 use Rattle.std.specs.Prelude.{◌≡◌}
-use Rattle.cast_pool_tests.proofs.workers.serve_all.Given as goal
+use Rattle.cast_tests.proofs.workers.serve_all.Given as goal
 
 -- the worker keeps its part of the count
 abbrev pub invariant-loop-asked : goal.invariant-loop-asked

@@ -1,0 +1,23 @@
+//! Tests of what the clauses of the crates below leave open.
+//!
+//! - `queues`, `streams`, `texts`: the parts of a domain, the streams of programs, scripts. That a call succeeds where there is memory
+//!   is seen where `cast_trials` and `cast_refusals` run.
+//! - `schedules`: schedules over several sites that `cast_world` runs, and what was delivered.
+//! - `workers`: the table that workers share. Neither decoding nor sending needs the lock: a worker that waits there keeps no other
+//!   from its work. Each job is done once, all are counted, and the trace is trimmed meanwhile. What is shown is the table as it is.
+#![tactic(auto)]
+
+#[cfg(test)]
+mod gate;
+#[cfg(test)]
+mod queues;
+#[cfg(test)]
+mod rows;
+#[cfg(test)]
+mod schedules;
+#[cfg(test)]
+mod streams;
+#[cfg(test)]
+mod texts;
+#[cfg(test)]
+mod workers;
