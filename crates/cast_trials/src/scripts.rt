@@ -7,16 +7,16 @@ use std::io::Write;
 use std::rt::Files;
 use std::{fs, io};
 
-/// What comes of a script: its log, what is said of an error, and the status.
+// What comes of a script: its log, what is said of an error, and the status.
 #[derive(Drop)]
-pub struct Replayed {
-    pub log: Vec<u8>,
-    pub told: Vec<u8>,
-    pub status: u8,
+struct Replayed {
+    log: Vec<u8>,
+    told: Vec<u8>,
+    status: u8,
 }
 
-/// Replays a script of this name.
-pub fn run(alloc: Global, name: &str, script: &[u8]) -> Replayed {
+// Replays a script of this name.
+fn run(alloc: Global, name: &str, script: &[u8]) -> Replayed {
     let mut log = Watched::new(Vec::new(alloc));
     let mut told = Watched::new(Vec::new(alloc));
     let status = run_script(alloc, name, script, &mut Unwatched, &mut log, &mut told);
