@@ -1,13 +1,9 @@
 -- What a trace tells of each domain: its own events, one after another, are steps of the history that it stands for.
-use Rattle.std.specs.Prelude.{◌≡◌, ◌≤◌, ℕ, Bool, true, false, List, [], ◌∷◌, length, Option, Some, None, Result, Ok, Err}
+use Rattle.std.specs.Prelude.{◌≡◌, Bool, true, false, List, [], ◌∷◌, Option, Some, None}
 use Rattle.std.specs.List.{list_any}
 use Rattle.cast_types.specs.declared.names.DomainNo.{DomainNo}
 use Rattle.cast_types.specs.declared.refusal.Refusal.TheVariants as refusal
-use Rattle.cast_events.specs.declared.event.Event.{Event}
 use Rattle.cast_events.specs.declared.event.Taken.{Taken}
-use Rattle.cast_events.specs.declared.event.Taken.TheVariants as taken
-use Rattle.cast_events.specs.declared.log.Fault.{Fault}
-use Rattle.cast_events.specs.declared.log.Fault.TheVariants as fault
 use Rattle.cast_events.specs.Events.{domain_of}
 use Rattle.cast_rules.specs.State.{State}
 use Rattle.cast_rules.specs.Run.{IsStep}

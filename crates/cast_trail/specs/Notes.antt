@@ -1,5 +1,5 @@
 -- What a trace keeps of an answer.
-use Rattle.std.specs.Prelude.{List, length, Option, Some, None, Result, Ok, Err}
+use Rattle.std.specs.Prelude.{length, Option, Some, None, Result, Ok, Err}
 use Rattle.cast_events.specs.declared.event.Taken.{Taken}
 use Rattle.cast_events.specs.declared.event.Taken.TheVariants as taken
 use Rattle.cast_events.specs.declared.log.Fault.{Fault}

@@ -1,5 +1,5 @@
 -- Room for one more entry of a trace, and what a trace is once it was trimmed.
-use Rattle.std.specs.Prelude.{◌≡◌, ℕ, ◌+◌, ◌<◌, ◌≤◌, List, [], Option, Some, None, length}
+use Rattle.std.specs.Prelude.{ℕ, ◌+◌, ◌<◌, ◌≤◌, List, [], Option, Some, None, length}
 use Rattle.std.specs.Vec.{vec_capacity}
 use Rattle.cast_trail.specs.declared.trail.Trail.{Trail}
 

@@ -65,12 +65,7 @@ impl<T: Drop> Trail<T> {
 
     /// Makes room for one more entry, whose event halts at most so many domains. The base is for a trim before it, where that is due.
     /// `NoMemory` changes nothing that is seen.
-    pub fn room(
-        &mut self,
-        alloc: Global,
-        base: Option<T>,
-        most: usize,
-    ) -> Result<Room<T>, NoMemory>
+    pub fn room(&mut self, alloc: Global, base: Option<T>, most: usize) -> Result<Room<T>, NoMemory>
         requires { IsInTime base self.old }
         ensures base { IfOk result (λ room. room.base ≡ base) }
         ensures place { IfOk result (λ room. HasPlace room.base self.new) }
