@@ -1,10 +1,10 @@
 //! Tests of what the clauses of the crates below leave open.
 //!
-//! - `queues`, `streams`, `texts`: the parts of a domain, the streams of programs, scripts. That a call succeeds where there is memory
-//!   is seen where `cast_trials` and `cast_refusals` run.
+//! - `queues`, `streams`, `texts`: parts of a domain, streams of programs, scripts. That a call
+//!   succeeds where there is memory is seen where `cast_trials` and `cast_refusals` run.
 //! - `schedules`: schedules over several sites that `cast_world` runs, and what was delivered.
-//! - `workers`: the table that workers share. Neither decoding nor sending needs the lock: a worker that waits there keeps no other
-//!   from its work. Each job is done once, all are counted, and the trace is trimmed meanwhile. What is shown is the table as it is.
+//! - `workers`: the table that workers share. A worker that waits before or behind the lock keeps no
+//!   other from its work. Each job is done once and counted, while the trace is trimmed.
 #![tactic(auto)]
 
 #[cfg(test)]

@@ -1,7 +1,7 @@
-//! The trace of what a table took, beside its base: the table as it was before the first event of the trace.
+//! The trace: the events that a table took since its base, with their answers.
 //!
-//! Promised: an entry stands behind those that were added before it, a trim leaves none of them and counts them all, and neither
-//! takes memory. What a table is does not matter here.
+//! Promised: an entry stands behind those that were added before it. A trim leaves none, and counts
+//! them. Adding and trimming take no memory. Nothing is said of what the table is.
 #![tactic(auto)]
 
 pub mod limits;
