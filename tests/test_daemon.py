@@ -6,6 +6,7 @@ import contextlib
 import os
 import re
 import resource
+import select
 import socket
 import struct
 import subprocess
@@ -354,6 +355,40 @@ class Datagrams(DaemonCase):
             site.say(ACK, again[ID])
         self.assert_stops(daemon)
 
+    def test_a_site_that_answers_nothing_is_sent_little_until_it_answers(self):
+        quotas = {"held": 1_024, "outbox": 4_096, "resend": 200}
+        daemon = self.serving(self.setup_of(2, {"number": 1, **quotas}))
+        program, site = self.member(), self.site(2)
+        site.enter(2)
+        self.assertEqual(program.kinds(1), [View])
+        # So many pass before the pace holds casts back. By the rules alone each goes to the site five times a second.
+        program.write(*[cast(b"x" * 1_024)] * 150)
+        site.heard(DATA, 1.5)
+        heard = site.heard(DATA, 2.0)
+        self.assertLess(0, len(heard))
+        self.assertLessEqual(len(heard), 2.0 * 110)
+        site.say(ACK, heard[-1][ID])
+        self.assertEqual(len({frame[ID] for frame in site.heard(DATA, 2.0)} | {heard[-1][ID]}), 150)
+        self.assert_stops(daemon)
+
+    def test_a_message_goes_ever_more_seldom_to_a_site_that_answers_others(self):
+        daemon = self.serving(self.setup_of(2, {"number": 1, "resend": 50}))
+        program, site = self.member(), self.site(2)
+        site.enter(2)
+        self.assertEqual(program.kinds(1), [View])
+        program.write(cast())
+        first, again = site.hear(DATA)[ID], 0
+        # By the rules it goes to the site forty times.
+        for _ in range(40):
+            program.write(cast())
+            frames = site.heard(DATA, 0.05)
+            again += sum(frame[ID] == first for frame in frames)
+            for frame in frames:
+                if frame[ID] != first:
+                    site.say(ACK, frame[ID])
+        self.assertIn(again, range(4, 16))
+        self.assert_stops(daemon)
+
     def test_one_that_cannot_be_sent_is_counted_and_the_others_are_sent(self):
         setup = self.setup_of(3, {"number": 1, "resend": 60_000})
         # Only a socket that asked for it may send to all hosts.
@@ -396,6 +431,14 @@ class Site:
         while (frame := self.socket.recv(65_536))[3] != kind:
             pass
         return frame
+
+    def heard(self, kind: int, seconds: float) -> list[bytes]:
+        """The datagrams of this type that come within so many seconds."""
+        end, frames = time.monotonic() + seconds, []
+        while (left := end - time.monotonic()) > 0:
+            if select.select([self.socket], [], [], left)[0]:
+                frames.append(self.socket.recv(65_536))
+        return [frame for frame in frames if frame[3] == kind]
 
     def enter(self, view: int) -> None:
         """Its process 1 comes into group 1, in this view."""

@@ -4,11 +4,15 @@
 //! lost message waits meanwhile. A site that acknowledges later messages, and not this one, has most likely not received it. So it is sent
 //! again at once: this is the fast retransmit of TCP (Allman, Paxson and Blanton, "TCP Congestion Control", RFC 5681). Without later ones it
 //! is sent again once it is late. The rules cannot tell that from a network that delivers a datagram twice.
+//!
+//! What the rules send again goes to the wire ever more seldom, up to once in eight times `resend`, since a site that has much to do would get
+//! more of what it has already. The rules cannot tell that from a network that loses datagrams.
 use cast_events::{Event, Outs};
 use cast_message::{Message, SiteFrame};
 use cast_types::{DomainNo, List, NoMemory, SiteNo, Uid};
 use std::alloc::Global;
-use std::collections::VecDeque;
+use std::collections::{BTreeMap, VecDeque};
+use std::mem;
 use std::sync::{Mutex, Wait};
 
 // A message is sent again once so many later ones were acknowledged.
@@ -28,6 +32,9 @@ const MOST: usize = 1_024;
 // At a tick so many are sent again for each site, the earliest. A site that lacks one may have all behind it, and a site that is slow is
 // not to get all twice.
 const AT_A_TICK: usize = 8;
+
+// Of so many messages it is counted how often the rules send them again. With one more, the count begins anew for all.
+const MOST_DUE: usize = 4_096;
 
 // A message that was sent.
 #[derive(Drop)]
@@ -74,6 +81,8 @@ impl RoundTrip {
 #[derive(Drop)]
 struct Flight {
     sent: VecDeque<Sent>,
+    // How often the rules sent a message again.
+    dues: BTreeMap<Uid, u32>,
     tick: u64,
     round_trip: RoundTrip,
 }
@@ -117,8 +126,22 @@ impl Flight {
             .position(|sent| sent.later >= LATER)
     }
 
+    // The rules send a message again. Answers whether it goes to the wire: the first, the second and the fourth time, and then each eighth time.
+    fn is_due(&mut self, id: Uid) -> bool {
+        let times = match self.dues.get(&id) {
+            Some(times) => times.wrapping_add(1),
+            None => 1,
+        };
+        if times == 1 && self.dues.len() >= MOST_DUE {
+            self.dues.clear();
+        }
+        let _ = self.dues.insert(id, times);
+        matches!(times, 1 | 2 | 4) || times % 8 == 0
+    }
+
     // A message was acknowledged. Answers how many were sent before it and were not.
     fn acknowledge(&mut self, id: Uid) -> usize {
+        let _ = self.dues.remove(&id);
         let Some(place) = self.sent.iter().position(|sent| sent.message.id == id) else {
             return 0;
         };
@@ -187,6 +210,7 @@ impl Unacknowledged {
     pub fn new(alloc: Global, domain: DomainNo, site: SiteNo) -> Self {
         let flight = Flight {
             sent: VecDeque::new(alloc),
+            dues: BTreeMap::new(alloc),
             tick: 0,
             round_trip: RoundTrip {
                 mean: 0,
@@ -228,6 +252,39 @@ impl Unacknowledged {
                 self.add(&mut outs, message);
             }
         }
+        outs
+    }
+
+    /// After how many ticks a message is late.
+    pub fn late<R: Wait>(&self, rt: &R) -> u64 {
+        self.flight.lock(rt).round_trip.late()
+    }
+
+    /// Counts anew how often the rules send messages again: the site was silent, and answers.
+    pub fn begin_anew<R: Wait>(&self, rt: &R) {
+        self.flight.lock(rt).dues.clear();
+    }
+
+    // Whether a frame that the rules send, most likely again, goes to the wire.
+    fn lets_pass<R: Wait>(
+        rt: &R,
+        all: &[Unacknowledged],
+        frame: &(DomainNo, SiteNo, SiteFrame),
+    ) -> bool {
+        if let SiteFrame::Data(message) = &frame.2
+            && let Some(one) = Self::find(all, frame.0, frame.1)
+        {
+            return one.flight.lock(rt).is_due(message.id);
+        }
+        true
+    }
+
+    /// Of what a tick sends, what goes to the wire: all but messages that went there often, and not long ago.
+    pub fn pass<R: Wait>(rt: &R, alloc: Global, all: &[Unacknowledged], outs: Outs) -> Outs {
+        let mut outs = outs;
+        let mut frames = mem::replace(&mut outs.frames, List::new(alloc)).into_vec();
+        frames.retain(|frame| Self::lets_pass(rt, all, frame));
+        outs.frames = List::from_vec(frames);
         outs
     }
 

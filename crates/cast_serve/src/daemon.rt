@@ -4,7 +4,7 @@ ghost use Rattle.std.specs.Prelude.{◌<◌};
 use crate::console::run_console;
 use cast_config::{DomainSocket, Setup};
 use cast_device::{Watched, tell};
-use cast_edge::{Report, Unacknowledged, run_reporter};
+use cast_edge::{Report, Silence, Unacknowledged, run_reporter};
 use cast_events::{Config, DomainConfig, Raw};
 use cast_shared::{
     Desk, Pace, Record, Shared, SharedTable, Tape, Traffic, Turnstile, run_recorder,
@@ -94,6 +94,21 @@ fn take_outboxes<T: SharedTable, R: Wait>(rt: &R, server: &mut Server<'_, T>, al
     }
 }
 
+// Sends again what seems to be lost, and notes that time goes by.
+fn send_again<T: SharedTable, R: Wait>(rt: &R, server: &mut Server<'_, T>) {
+    let shared = server.shared;
+    for silence in shared.silences {
+        silence.tick(rt);
+    }
+    for unacknowledged in shared.unacknowledged {
+        let again = unacknowledged.tick(rt);
+        if let Some(silence) = Silence::find(shared.silences, unacknowledged.site) {
+            silence.note_late(rt, unacknowledged.late(rt));
+        }
+        server.send(rt, &again);
+    }
+}
+
 // Tells the domains the time, and asks once more for what was refused.
 fn run_ticker<T: SharedTable, R: Wait + Clock>(rt: &R, server: Server<'_, T>) -> io::Result<()> {
     let mut server = server;
@@ -107,10 +122,7 @@ fn run_ticker<T: SharedTable, R: Wait + Clock>(rt: &R, server: Server<'_, T>) ->
         let millis = u64::try_from(start.elapsed(rt)?.as_millis()).unwrap_or(u64::MAX);
         shared.desk.lock(rt).tick(rt, millis);
         shared.desk.lock(rt).hand_in_ends(rt);
-        for unacknowledged in shared.unacknowledged {
-            let again = unacknowledged.tick(rt);
-            server.send(rt, &again);
-        }
+        send_again(rt, &mut server);
         let is_halted = shared.trim_after_halt(rt);
         take_outboxes(rt, &mut server, is_halted || until_all == 0);
         until_all = if until_all == 0 {
@@ -333,6 +345,17 @@ fn unacknowledged_of(
     Ok(all)
 }
 
+// The other sites: none was sent anything yet.
+fn silences_of(alloc: Global, own: SiteNo, peers: &[Peer]) -> Result<Vec<Silence>, NoMemory> {
+    let mut all = Vec::new(alloc);
+    for peer in peers {
+        if peer.site != own {
+            all.push(Silence::new(peer.site))?;
+        }
+    }
+    Ok(all)
+}
+
 // Runs a daemon over its sockets, until the console says `stop`. Answers what the operator has to know of the end of its record.
 fn run<T, R, B, W, E, K>(
     rt: &R,
@@ -373,6 +396,7 @@ where
         setup.config.site,
         setup.config.domains.as_slice(),
     )?;
+    let silences = silences_of(alloc, setup.config.site, peers)?;
     let turnstile = Turnstile::new();
     let traffic = Traffic::new();
     let ground = Ground {
@@ -384,6 +408,7 @@ where
             peers,
             paces: paces.as_slice(),
             unacknowledged: unacknowledged.as_slice(),
+            silences: silences.as_slice(),
             turnstile: &turnstile,
             traffic: &traffic,
             halts: &halts,

@@ -3,7 +3,7 @@ use crate::desk::Desk;
 use crate::pace::Pace;
 use crate::record::Tape;
 use crate::table::SharedTable;
-use cast_edge::{Report, Unacknowledged};
+use cast_edge::{Report, Silence, Unacknowledged};
 use cast_events::{Asked, Datagrams, Recording, Told};
 use cast_sockets::Peer;
 use cast_types::SiteNo;
@@ -78,6 +78,8 @@ pub struct Shared<'a, T: SharedTable> {
     pub paces: &'a [Pace],
     /// Of each domain and each of its other sites.
     pub unacknowledged: &'a [Unacknowledged],
+    /// Of each other site.
+    pub silences: &'a [Silence],
     pub turnstile: &'a Turnstile,
     pub traffic: &'a Traffic,
     /// Not 0 if a domain was halted since the ticker trimmed the trace last.

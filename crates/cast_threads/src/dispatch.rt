@@ -1,6 +1,6 @@
 //! What becomes of what the workers and the console did.
 use crate::server::Server;
-use cast_edge::Session;
+use cast_edge::{Session, Unacknowledged};
 use cast_events::{Fault, Taken};
 use cast_shared::{Desk, Opened, Opening, Purpose, SharedTable};
 use cast_types::{DomainNo, Refusal};
@@ -38,9 +38,11 @@ fn dispatch<T: SharedTable, R: Wait>(rt: &R, server: &mut Server<'_, T>, done: T
     let Some((answer, outs)) = came else {
         return;
     };
-    tell(rt, &mut server.shared.desk.lock(rt), number, &answer);
+    let shared = server.shared;
+    tell(rt, &mut shared.desk.lock(rt), number, &answer);
+    let outs = Unacknowledged::pass(rt, shared.alloc, shared.unacknowledged, outs);
     server.finish(rt, &outs);
-    for pace in server.shared.paces {
+    for pace in shared.paces {
         pace.wake_any(rt);
     }
 }

@@ -1,14 +1,14 @@
 //! A thread that serves events: under the table's lock for each, and sends the frames outside it.
 use cast_edge::{
-    Client, Report, Session, Unacknowledged, Unwritten, WriterTask, Written, has_end, write_now,
-    write_whole,
+    Client, Report, Session, Silence, Unacknowledged, Unwritten, WriterTask, Written, has_end,
+    write_now, write_whole,
 };
 use cast_events::{Asked, Event, Fault, Outs, Taken};
 use cast_link::{Wire, send_all};
 use cast_message::Push;
 use cast_session::spell_out;
 use cast_shared::{Came, Pace, Shared, SharedTable, Turn, Udp};
-use cast_types::{DomainNo, List, Refusal};
+use cast_types::{DomainNo, List, Refusal, SiteNo};
 use std::mem;
 use std::sync::Wait;
 use std::sync::atomic::Ordering;
@@ -91,10 +91,24 @@ impl<'a, T: SharedTable> Server<'a, T> {
                 site,
             )
         {
+            self.end_silence(rt, site);
             let again = unacknowledged.acknowledge(rt, id);
             self.send_frames(rt, &again);
         }
         Some(outs)
+    }
+
+    // A site acknowledged a message. If it was silent, all that it was sent may be sent again as if for the first time.
+    fn end_silence<R: Wait>(&self, rt: &R, site: SiteNo) {
+        if let Some(silence) = Silence::find(self.shared.silences, site)
+            && silence.end(rt)
+        {
+            for unacknowledged in self.shared.unacknowledged {
+                if unacknowledged.site == site {
+                    unacknowledged.begin_anew(rt);
+                }
+            }
+        }
     }
 
     /// Serves an event.
@@ -119,8 +133,16 @@ impl<'a, T: SharedTable> Server<'a, T> {
         }
     }
 
-    // Sends the frames of an event, if there is room to count one more failure of each.
+    // Sends the frames of an event, but for messages for silent sites beyond the first few.
     fn send_frames<R: Wait>(&mut self, rt: &R, outs: &Outs) {
+        match Silence::pass(rt, self.shared.alloc, self.shared.silences, outs) {
+            Some(passed) => self.send_passed(rt, &passed),
+            None => self.send_passed(rt, outs),
+        }
+    }
+
+    // Sends the frames of an event, if there is room to count one more failure of each.
+    fn send_passed<R: Wait>(&mut self, rt: &R, outs: &Outs) {
         let count = outs.frames.len() as u64;
         if count == 0 || count >= u64::MAX - self.wire.failures() {
             return;
