@@ -448,6 +448,21 @@ class Site:
 
 
 class Console(DaemonCase):
+    def test_it_stops_although_nobody_reads_its_reports(self):
+        path = f"{self.folder}/reports"
+        os.mkfifo(path)
+        pipe = os.open(path, os.O_RDWR | os.O_NONBLOCK)
+        self.addCleanup(os.close, pipe)
+        with contextlib.suppress(BlockingIOError):
+            while True:
+                os.write(pipe, bytes(4_096))
+        daemon = self.serving(inside=["sh", "-c", f'exec "$@" 2>> {path}', "sh"])
+        with socket.socket(socket.AF_INET, socket.SOCK_DGRAM) as link:
+            link.sendto(b"garbage", self.address(1))
+        wait_until(lambda: daemon.ask("datagrams").endswith(" undecoded 1"), "a datagram is counted")
+        self.assertEqual(daemon.ask("stop"), "ok")
+        self.assert_ends(daemon, 0)
+
     def test_lines_are_answered(self):
         daemon = self.serving()
         self.assert_is_served(self.member())

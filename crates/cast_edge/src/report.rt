@@ -1,6 +1,8 @@
 //! What an operator has to know, as lines on standard error.
 use cast_types::DomainNo;
 use crossbeam_channel::Receiver;
+use libc::net as c;
+use libc::types::pollfd;
 use std::fmt;
 use std::fmt::{Display, Formatter};
 use std::io::Write;
@@ -53,10 +55,28 @@ impl Display for Report {
     }
 }
 
-/// Writes each report, until nobody can report any more.
+// For so many milliseconds a report waits for room in standard error.
+const PATIENCE: i32 = 1_000;
+
+// Whether standard error takes a line now, or within so many milliseconds.
+fn has_room(milliseconds: i32) -> bool {
+    let mut asked = [pollfd {
+        fd: libc::STDERR_FILENO,
+        events: c::POLLOUT,
+        revents: 0,
+    }];
+    c::poll(&mut asked, milliseconds) > 0
+}
+
+/// Writes each report to `log`, which is standard error, until nobody can report any more. If nobody reads there, reports that find no room
+/// are lost, and the daemon stops all the same.
 pub fn run_reporter<R: Wait, E: Write + Drop>(rt: &R, log: E, reports: Receiver<Report>) {
     let mut log = log;
+    let mut is_read = true;
     for what in reports.iter(rt) {
-        let _ = writeln!(log, "{what}");
+        is_read = has_room(if is_read { PATIENCE } else { 0 });
+        if is_read {
+            let _ = writeln!(log, "{what}");
+        }
     }
 }
