@@ -3,8 +3,8 @@
 //! - `queues`, `streams`, `texts`: parts of a domain, streams of programs, scripts. That a call
 //!   succeeds where there is memory is seen where `cast_trials` and `cast_refusals` run.
 //! - `schedules`: schedules over several sites that `cast_world` runs, and what was delivered.
-//! - `workers`: the table that workers share. A worker that waits before or behind the lock keeps no
-//!   other from its work. Each job is done once and counted, while the trace is trimmed.
+//! - `workers`: the table that workers share. A worker that waits before or behind the lock keeps
+//!   no other from its work. Each job is done once and counted, while the trace is trimmed.
 #![tactic(auto)]
 
 #[cfg(test)]
