@@ -33,8 +33,22 @@ const MOST: usize = 1_024;
 // not to get all twice.
 const AT_A_TICK: usize = 8;
 
-// Of so many messages it is counted how often the rules send them again. With one more, the count begins anew for all.
+// The time between two times that the rules have a message go to the wire doubles so often: up to eight times `resend`.
+const DOUBLINGS: u32 = 3;
+
+// Of so many messages it is known when they are due. With one more, all are due when the rules say so.
 const MOST_DUE: usize = 4_096;
+
+// When a message is due that was sent and is not acknowledged.
+#[derive(Clone, Copy, Debug, PartialEq, Eq)]
+struct Due {
+    // When it went to the wire last.
+    tick: u64,
+    // How often the rules had it go there, up to so often as the time between doubles.
+    doublings: u32,
+    // How often it did not go there since, although the rules sent it.
+    waits: u32,
+}
 
 // A message that was sent.
 #[derive(Drop)]
@@ -81,18 +95,31 @@ impl RoundTrip {
 #[derive(Drop)]
 struct Flight {
     sent: VecDeque<Sent>,
-    // How often the rules sent a message again.
-    dues: BTreeMap<Uid, u32>,
+    dues: BTreeMap<Uid, Due>,
     tick: u64,
     round_trip: RoundTrip,
 }
 
 impl Flight {
+    // Remembers when a message goes to the wire, and what the rules may do then.
+    fn note_due(&mut self, id: Uid, doublings: u32) {
+        if self.dues.len() >= MOST_DUE && !self.dues.contains_key(&id) {
+            self.dues.clear();
+        }
+        let due = Due {
+            tick: self.tick,
+            doublings,
+            waits: 0,
+        };
+        let _ = self.dues.insert(id, due);
+    }
+
     // Remembers a message that is sent.
     fn note(&mut self, message: Message) {
         if self.sent.len() >= MOST {
             drop(self.sent.pop_front());
         }
+        self.note_due(message.id, 0);
         let _ = self.sent.push_back(Sent {
             message,
             first: self.tick,
@@ -126,17 +153,25 @@ impl Flight {
             .position(|sent| sent.later >= LATER)
     }
 
-    // The rules send a message again. Answers whether it goes to the wire: the first, the second and the fourth time, and then each eighth time.
+    // The rules send a message, most likely again. Answers whether it goes to the wire: once it is late, and once they sent it so often as the
+    // time between doubled. Each eighth time it goes there, however late an acknowledgement may be.
     fn is_due(&mut self, id: Uid) -> bool {
-        let times = match self.dues.get(&id) {
-            Some(times) => times.wrapping_add(1),
-            None => 1,
+        let Some(due) = self.dues.get(&id) else {
+            self.note_due(id, 0);
+            return true;
         };
-        if times == 1 && self.dues.len() >= MOST_DUE {
-            self.dues.clear();
+        let due = *due;
+        let times = 1 << due.doublings.min(DOUBLINGS);
+        let late = self.round_trip.late().saturating_mul(u64::from(times));
+        let waits = due.waits.saturating_add(1);
+        if waits >= 1 << DOUBLINGS
+            || (waits >= times && self.tick.saturating_sub(due.tick) >= late)
+        {
+            self.note_due(id, due.doublings.min(DOUBLINGS - 1) + 1);
+            return true;
         }
-        let _ = self.dues.insert(id, times);
-        matches!(times, 1 | 2 | 4) || times % 8 == 0
+        let _ = self.dues.insert(id, Due { waits, ..due });
+        false
     }
 
     // A message was acknowledged. Answers how many were sent before it and were not.
@@ -260,7 +295,7 @@ impl Unacknowledged {
         self.flight.lock(rt).round_trip.late()
     }
 
-    /// Counts anew how often the rules send messages again: the site was silent, and answers.
+    /// All messages are due when the rules say so: the site was silent, and answers.
     pub fn begin_anew<R: Wait>(&self, rt: &R) {
         self.flight.lock(rt).dues.clear();
     }
