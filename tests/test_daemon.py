@@ -361,8 +361,9 @@ class Datagrams(DaemonCase):
         program, site = self.member(), self.site(2)
         site.enter(2)
         self.assertEqual(program.kinds(1), [View])
-        # So many pass before the pace holds casts back. By the rules alone each goes to the site five times a second.
-        program.write(*[cast(b"x" * 1_024)] * 150)
+        # So many pass before the pace holds casts back, and find room in the site's socket at once. By the rules alone each goes there
+        # five times a second.
+        program.write(*[cast()] * 150)
         site.heard(DATA, 1.5)
         heard = site.heard(DATA, 2.0)
         self.assertLess(0, len(heard))

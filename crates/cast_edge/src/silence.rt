@@ -9,10 +9,9 @@ use cast_types::{DomainNo, SiteNo};
 use std::alloc::Global;
 use std::sync::{Mutex, Wait};
 
-// A site is silent once it has acknowledged nothing for so many times the ticks after which a message is late, and for a second at least.
-const LATE_TIMES: u64 = 10;
-
-const LEAST: u64 = 50;
+// A site is silent once it has acknowledged nothing for so many ticks: a second. The time after which a message is late says nothing here: it
+// grows with what is not acknowledged.
+const SILENT: u64 = 50;
 
 // So many messages a silent site is sent at a tick: 100 a second at most.
 const AT_A_TICK: u32 = 2;
@@ -23,18 +22,14 @@ struct Waiting {
     tick: u64,
     // When it was sent the first message behind its last acknowledgement.
     asked: Option<u64>,
-    // After how many ticks a message is late, as was noted since the last tick, and before that.
-    late: u64,
-    was_late: u64,
     // So many messages it may be sent until the next tick, if it is silent.
     room: u32,
 }
 
 impl Waiting {
     fn is_silent(&self) -> bool {
-        let late = self.late.max(self.was_late).saturating_mul(LATE_TIMES);
         match self.asked {
-            Some(asked) => self.tick.saturating_sub(asked) >= late.max(LEAST),
+            Some(asked) => self.tick.saturating_sub(asked) >= SILENT,
             None => false,
         }
     }
@@ -68,8 +63,6 @@ impl Silence {
             waiting: Mutex::new(Waiting {
                 tick: 0,
                 asked: None,
-                late: 0,
-                was_late: 0,
                 room: AT_A_TICK,
             }),
         }
@@ -84,15 +77,7 @@ impl Silence {
     pub fn tick<R: Wait>(&self, rt: &R) {
         let mut waiting = self.waiting.lock(rt);
         waiting.tick = waiting.tick.saturating_add(1);
-        waiting.was_late = waiting.late;
-        waiting.late = 0;
         waiting.room = AT_A_TICK;
-    }
-
-    /// Notes after how many ticks a message of a domain is late. The longest time counts.
-    pub fn note_late<R: Wait>(&self, rt: &R, ticks: u64) {
-        let mut waiting = self.waiting.lock(rt);
-        waiting.late = waiting.late.max(ticks);
     }
 
     /// Notes that the site acknowledged a message. Answers whether it was silent.

@@ -290,11 +290,6 @@ impl Unacknowledged {
         outs
     }
 
-    /// After how many ticks a message is late.
-    pub fn late<R: Wait>(&self, rt: &R) -> u64 {
-        self.flight.lock(rt).round_trip.late()
-    }
-
     /// All messages are due when the rules say so: the site was silent, and answers.
     pub fn begin_anew<R: Wait>(&self, rt: &R) {
         self.flight.lock(rt).dues.clear();

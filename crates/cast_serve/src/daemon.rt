@@ -102,9 +102,6 @@ fn send_again<T: SharedTable, R: Wait>(rt: &R, server: &mut Server<'_, T>) {
     }
     for unacknowledged in shared.unacknowledged {
         let again = unacknowledged.tick(rt);
-        if let Some(silence) = Silence::find(shared.silences, unacknowledged.site) {
-            silence.note_late(rt, unacknowledged.late(rt));
-        }
         server.send(rt, &again);
     }
 }
