@@ -7,7 +7,7 @@ CFLAGS = -O2 -Wall -Wextra -fPIC
 
 .PHONY: all install uninstall release
 
-# Proves and builds the program, in 36 minutes on four quiet cores, where it is not what its sources give.
+# Proves and builds the program, in 44 minutes on four cores, where it is not what its sources give.
 all: out/libcastd.a
 	tools/build castd
 

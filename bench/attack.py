@@ -301,9 +301,12 @@ class Attacker:
             self.streams.remove(it)
 
     def send(self, chance, data):
-        """Sends a datagram from a site or from nowhere."""
+        """Sends a datagram from the site that it names, and seldom from another one or from nowhere."""
+        link = self.sites.get(int.from_bytes(data[5:7], "big"))
+        if link is None or not chance.randrange(8):
+            link = chance.choice((self.unknown, *self.sites.values()))
         with contextlib.suppress(OSError):
-            chance.choice((self.unknown, *self.sites.values())).sendto(data, self.daemon.address)
+            link.sendto(data, self.daemon.address)
 
     def send_frame(self, chance, data):
         """Sends a frame, one in eight of them spoiled. One that so names the honest domain gets another magic."""

@@ -8,41 +8,51 @@ import time
 
 
 class Link(threading.Thread):
-    """Carries datagrams to an address, each after so many seconds, in their order. `address` is where it takes them."""
+    """Carries datagrams between two sites, each after so many seconds, in their order. Each site has the other at an address of this host,
+    from which what the other sends comes, too."""
 
-    def __init__(self, to, seconds):
+    def __init__(self, addresses, seconds):
         super().__init__(daemon=True)
-        host, port = to.rsplit(":", 1)
-        self.to, self.seconds, self.carried = (host, int(port)), seconds, 0
-        self.socket = socket.socket(socket.AF_INET, socket.SOCK_DGRAM)
-        self.socket.bind(("127.0.0.1", 0))
-        self.address = "{}:{}".format(*self.socket.getsockname())
+        self.seconds, self.carried, self.ends, self.sites = seconds, 0, {}, {}
+        for site, address in addresses.items():
+            host, port = address.rsplit(":", 1)
+            self.sites[site] = (host, int(port))
+            self.ends[site] = socket.socket(socket.AF_INET, socket.SOCK_DGRAM)
+            self.ends[site].bind(("127.0.0.1", 0))
         self.is_over = threading.Event()
+
+    def address(self, site):
+        """Where this site has the other one."""
+        return "{}:{}".format(*self.ends[site].getsockname())
 
     def run(self):
         waiting = collections.deque()
+        one, other = self.ends
         while not self.is_over.is_set():
             left = waiting[0][0] - time.monotonic() if waiting else 0.05
-            if select.select([self.socket], [], [], max(0, left))[0]:
-                waiting.append((time.monotonic() + self.seconds, self.socket.recv(65_536)))
-                self.carried += 1
+            ready = select.select([*self.ends.values()], [], [], max(0, left))[0]
+            for near, far in ((one, other), (other, one)):
+                if self.ends[near] in ready:
+                    waiting.append((time.monotonic() + self.seconds, far, self.ends[near].recv(65_536)))
+                    self.carried += 1
             while waiting and waiting[0][0] <= time.monotonic():
-                self.socket.sendto(waiting.popleft()[1], self.to)
+                _, far, data = waiting.popleft()
+                self.ends[far].sendto(data, self.sites[far])
 
     def end(self):
         self.is_over.set()
         self.join()
-        self.socket.close()
+        for it in self.ends.values():
+            it.close()
 
 
 def linked(addresses, seconds):
-    """Starts a link from each site to each other one. Gives by which addresses each site reaches all, and the links."""
-    links, told = [], {}
+    """Starts a link between each two sites. Gives by which addresses each site reaches all, and the links."""
+    links, told = [], {site: {site: address} for site, address in addresses.items()}
     for near in addresses:
-        told[near] = {near: addresses[near]}
-        for far in addresses.keys() - {near}:
-            link = Link(addresses[far], seconds)
+        for far in (it for it in addresses if it > near):
+            link = Link({site: addresses[site] for site in (near, far)}, seconds)
             link.start()
             links.append(link)
-            told[near][far] = link.address
+            told[near][far], told[far][near] = link.address(near), link.address(far)
     return told, links

@@ -352,8 +352,7 @@ class CallCases(Case):
         others = message(b"of another", OTHER, ATOMIC) + message(b"causal", OWN) + denied(2, 14)
         with self.connected(
             expect(command(PASS, 1, 1, OTHER)),
-            write(reply(1, OWN_ABCAST) + others),
-            quiet(PAUSE / 2),
+            quiet(PAUSE / 2, reply(1, OWN_ABCAST) + others),
             expect(command(PASS, 1, 1, OTHER)),
             write(reply(1, DONE)),
         ) as program:
@@ -372,8 +371,7 @@ class CallCases(Case):
     def test_news_before_the_refusal_is_no_news(self):
         with self.connected(
             expect(cast(1, b"one")),
-            write(view(1, 2, OWN) + reply(1, FLUSHING)),
-            quiet(PAUSE / 2),
+            quiet(PAUSE / 2, view(1, 2, OWN) + reply(1, FLUSHING)),
             expect(cast(1, b"one")),
             write(reply(1, DONE)),
         ) as program:

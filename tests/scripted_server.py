@@ -42,14 +42,18 @@ def expect(frames: bytes) -> Step:
     return step
 
 
-def quiet(seconds: float) -> Step:
-    """Waits so long, in which nothing may come."""
+def quiet(seconds: float, frames: bytes = b"") -> Step:
+    """Writes these bytes. Nothing may come within so long from then on. What comes later is left for the next step."""
 
     def step(stream: socket.socket) -> None:
-        stream.settimeout(seconds)
-        with contextlib.suppress(TimeoutError):
-            more = stream.recv(65_536)
-            raise AssertionError(f"nothing was expected, {more.hex() or 'the end'} came")
+        end = time.monotonic() + seconds
+        stream.sendall(frames)
+        while (left := end - time.monotonic()) > 0:
+            stream.settimeout(left)
+            with contextlib.suppress(TimeoutError):
+                more = stream.recv(65_536, socket.MSG_PEEK)
+                if time.monotonic() < end:
+                    raise AssertionError(f"nothing was expected, {more.hex() or 'the end'} came")
         stream.settimeout(PATIENCE)
 
     return step

@@ -301,7 +301,7 @@ class Scripted(CCase):
         ):
             steps = []
             for code in (FLUSHING, OWN_ABCAST, HELD_FULL):
-                steps += [expect(frame), write(reply(1, code)), quiet(AGAIN / 2)]
+                steps += [expect(frame), quiet(AGAIN / 2, reply(1, code))]
             steps += [expect(frame), write(reply(1, 0))]
             self.check_opened(steps, call, "read 0 -> opened 1.1", "read 0 -> none")
 

@@ -239,12 +239,13 @@ class Metrics(Case):
         self.assertEqual(values["castd_record_lost_events_total site=1"], 10)
 
     def test_datagrams_and_the_record_of_a_daemon_are_told(self):
-        setup = self.setup_of()
+        setup = self.setup_of(2)
         folder = f"{setup.folder}/record"
         os.mkdir(folder)
         keeper = self.keeper(setup, more=["--record", folder])
         host, port = setup.addresses[1].split(":")
         with socket.socket(socket.AF_INET, socket.SOCK_DGRAM) as sender:
+            sender.bind((setup.hosts[2], int(port)))
             for _ in range(3):
                 sender.sendto(b"no frame", (host, int(port)))
         end = time.monotonic() + PATIENCE

@@ -24,7 +24,7 @@ LARGEST = 16_384
 # So many casts fill what a program may have to read.
 MOST_CASTS = 1_000
 # Types of frames between sites, and where an id stands in a Data and in an Ack.
-DATA, ACK, ASK, PREPARE, FLUSHED, INSTALL, INSTALLED = 1, 2, 4, 6, 7, 10, 11
+DATA, ACK, ASK, ASKED, PREPARE, FLUSHED, INSTALL, INSTALLED = 1, 2, 4, 5, 6, 7, 10, 11
 ID = slice(7, 23)
 # Events in a trace before it is trimmed.
 MOST_TRACE = 4_096
@@ -114,7 +114,7 @@ class DaemonCase(Case):
         self.assertEqual(daemon.ask("stop"), "ok")
         self.assert_ends(daemon, 0)
         # What it would send itself of the last sessions finds its socket shut.
-        self.assertEqual(re.sub(r"castd: datagrams that could not be sent: \d+\n", "", daemon.complained()), told)
+        self.assertEqual(re.sub(r"castd: site \d+: datagrams that could not be sent: \d+\n", "", daemon.complained()), told)
         self.assertEqual(os.listdir(self.setup.site_folder(1)), [])
 
     def address(self, site: int) -> tuple[str, int]:
@@ -322,13 +322,13 @@ class Floods(DaemonCase):
 
 class Datagrams(DaemonCase):
     def test_garbage_is_counted_and_does_no_harm(self):
-        daemon = self.serving()
-        program = self.member()
-        with socket.socket(socket.AF_INET, socket.SOCK_DGRAM) as link:
-            for _datagram in range(10_000):
-                # The system may have no room for one.
-                with contextlib.suppress(OSError):
-                    link.sendto(b"garbage", self.address(1))
+        daemon = self.serving(self.setup_of(2, {"number": 1}))
+        program, site = self.member(), self.site(2)
+        for _datagram in range(10_000):
+            # The system may have no room for one.
+            with contextlib.suppress(OSError):
+                site.socket.sendto(b"garbage", self.address(1))
+        wait_until(lambda: self.counts(daemon)["undecoded"] > 0, "one is counted")
         self.assert_is_served(program)
         self.assertEqual(daemon.complained().partition("\n")[0], "castd: datagrams that could not be read: 1")
         self.assertEqual(daemon.ask("stop"), "ok")
@@ -393,27 +393,33 @@ class Datagrams(DaemonCase):
         self.assert_stops(daemon)
 
     def test_one_that_cannot_be_sent_is_counted_and_the_others_are_sent(self):
-        setup = self.setup_of(3, {"number": 1, "resend": 60_000})
+        setup = self.setup_of(2, {"number": 1}, {"number": 2, "home": 2, "socket": "second.sock"})
         # Only a socket that asked for it may send to all hosts.
         setup.addresses[2] = "255.255.255.255:9"
         setup.config = setup.write("castd.conf", setup.addresses)
         daemon = self.serving(setup)
-        program, site = self.member(), self.site(3)
-        site.enter(2)
-        self.assertEqual(program.kinds(1), [View])
-        # Of site 2 too, in whose name this one speaks.
-        site.say(ASK, struct.pack(">HIBHI", 1, 1, 1, 2, 1), 2)
-        site.say(FLUSHED, site.hear(PREPARE)[7:13] + bytes(9))
-        site.hear(INSTALL)
-        for number in (2, 3):
-            site.say(INSTALLED, struct.pack(">HI", 1, 3), number)
-        self.assertEqual(program.kinds(1), [View])
+        second = Program(f"{setup.site_folder(1)}/second.sock")
+        self.addCleanup(second.close)
         before = self.counts(daemon)
-        program.write(cast())
-        site.hear(DATA)
-        for name in ("sent", "lost"):
-            wait_until(lambda name=name: self.counts(daemon)[name] > before[name], f"one more is {name}")
-        self.assertEqual(daemon.complained().partition("\n")[0], "castd: datagrams that could not be sent: 1")
+        # Its home is asked.
+        second.join(1)
+        wait_until(lambda: self.counts(daemon)["lost"] > before["lost"], "one is lost")
+        self.assertEqual(daemon.complained().partition("\n")[0], "castd: site 2: datagrams that could not be sent: 1")
+        self.assert_is_served(self.member())
+        self.assertGreater(self.counts(daemon)["sent"], before["sent"])
+
+    def test_those_of_strangers_and_in_the_name_of_another_site_are_passed_over(self):
+        daemon = self.serving(self.setup_of(3, {"number": 1}))
+        program, second, third = self.member(), self.site(2), self.site(3)
+        ask = struct.pack(">HIBHI", 1, 1, 1, 2, 1)
+        with socket.socket(socket.AF_INET, socket.SOCK_DGRAM) as stranger:
+            stranger.sendto(struct.pack(">2s3BH", b"CD", 1, ASK, 1, 2) + ask, self.address(1))
+        third.say(ASK, ask, 2)
+        wait_until(lambda: self.counts(daemon)["undecoded"] == 1, "that of site 3 is counted")
+        self.assert_is_served(program)
+        self.assertEqual(second.heard(ASKED, 0.5), [])
+        second.enter(2)
+        self.assertEqual(program.kinds(1), [View])
 
 
 class Site:
@@ -459,8 +465,8 @@ class Console(DaemonCase):
         with contextlib.suppress(BlockingIOError):
             while True:
                 os.write(pipe, bytes(4_096))
-        daemon = self.serving(inside=["sh", "-c", f'exec "$@" 2>> {path}', "sh"])
-        with socket.socket(socket.AF_INET, socket.SOCK_DGRAM) as link:
+        daemon = self.serving(self.setup_of(2, {"number": 1}), inside=["sh", "-c", f'exec "$@" 2>> {path}', "sh"])
+        with Site(self, 2).socket as link:
             link.sendto(b"garbage", self.address(1))
         wait_until(lambda: daemon.ask("datagrams").endswith(" undecoded 1"), "a datagram is counted")
         self.assertEqual(daemon.ask("stop"), "ok")

@@ -135,6 +135,36 @@ class Sites(Case):
         self.assertEqual(self.suspected(), "")
 
 
+class Retiring(Sites):
+    def test_a_site_that_was_put_out_of_one_domain_serves_the_others(self):
+        setup = self.setup_of(3, {"number": 1}, {"number": 2, "home": 2, "socket": "second.sock"})
+        keepers = {site: self.keeper(setup, site) for site in (1, 2, 3)}
+        watches = {site: self.watch(setup, site, "--patience", str(SILENCE)) for site in keepers}
+        watches[2].wait_for_lines(*(f"site {site} is heard in domain 2" for site in (1, 3)))
+        first, path = self.joined(setup, 1, 1), f"{setup.site_folder(1)}/second.sock"
+        second = castd.Session(path, PATIENCE)
+        self.addCleanup(second.close)
+        second.join(1, PATIENCE)
+        keeper = keepers[1].process.pid
+        os.kill(keeper, signal.SIGSTOP)
+        self.addCleanup(os.kill, keeper, signal.SIGCONT)
+        watches[2].wait_for_lines("suspect 2 1: ok")
+        os.kill(keeper, signal.SIGCONT)
+        watches[1].wait_for_lines("site 1 was put out of domain 2: its programs are no longer served here", "retire 2: ok")
+        wait_for_end(second)
+        with self.assertRaises(castd.Refused) as refused:
+            castd.Session(path, PATIENCE)
+        self.assertEqual(refused.exception.code, castd.Code.HALTED)
+        # Views of the other domain, of which it is the home, still change.
+        self.joined(setup, 3, 2)
+        wait_for_view(first, 2)
+        told = "site 1 was put out of domain 2, whose programs are no longer served here"
+        self.assertIn(f"unhealthy: {told}", keepers[1].ask("health").split("\n"))
+        self.assertIn('castd_domain_retired{site="1",domain="2"} 1', keepers[1].ask("metrics"))
+        self.assertIn('castd_domain_retired{site="1",domain="1"} 0', keepers[1].ask("metrics"))
+        self.assertEqual(keepers[2].ask("suspected"), "suspected 2 1")
+
+
 class Failing(Sites):
     def test_a_site_that_is_killed_is_put_out(self):
         self.start(3)

@@ -12,7 +12,7 @@ BUILT = f"{ROOT}/crates/castd/out/rlib"
 # The file that names the kit by which all of that was proved.
 KIT = f"{BUILT}/kit"
 PARTS = ("src", "specs", "proofs")
-ALL_TAKE = "36 minutes on four quiet cores"
+ALL_TAKE = "44 minutes on four cores"
 PROVE = f"./castd prove proves and builds the program ({ALL_TAKE})"
 
 

@@ -13,11 +13,13 @@ TOLD = re.compile(rb"(?P<order>order \d+ answers )?(?P<what>(?:quote|news) \d+);
 
 
 class Network:
-    """Ways between sites. A daemon is told of each other site the address at which the way to that begins."""
+    """Ways between sites. A daemon is told of each other site the address at which the way to that begins. What comes from that site comes
+    from there, too."""
 
     def __init__(self, exchange: int, desk: int):
         self.exchange, self.desk = exchange, desk
         self.sent = self.lost = self.late = 0
+        self.ways: dict[tuple[int, int], Way] = {}
         # What came to the site of the desk: the quotes and the news, and how many orders came before what they answer.
         self._came: set[bytes] = set()
         self._orders: set[bytes] = set()
@@ -29,7 +31,7 @@ class Network:
         for other in addresses.keys() - {site}:
             host, port = addresses[other].rsplit(":", 1)
             slowest = SLOW if (site, other) == (self.exchange, self.desk) else FAST
-            way = Way(self, other, (host, int(port)), slowest)
+            way = self.ways[site, other] = Way(self, site, other, (host, int(port)), slowest)
             transport, _ = await asyncio.get_running_loop().create_datagram_endpoint(lambda: way, ("127.0.0.1", 0))
             told[other] = "{}:{}".format(*transport.get_extra_info("sockname"))
         return told
@@ -48,8 +50,8 @@ class Network:
 class Way(asyncio.DatagramProtocol):
     """The way from one site to another."""
 
-    def __init__(self, network: Network, site: int, address: tuple[str, int], slowest: float):
-        self.network, self.site, self.address, self.slowest = network, site, address, slowest
+    def __init__(self, network: Network, near: int, site: int, address: tuple[str, int], slowest: float):
+        self.network, self.near, self.site, self.address, self.slowest = network, near, site, address, slowest
         self.last = 0.0
 
     def connection_made(self, transport: asyncio.DatagramTransport) -> None:
@@ -69,5 +71,7 @@ class Way(asyncio.DatagramProtocol):
     def pass_on(self, data: bytes) -> None:
         if self.site == self.network.desk:
             self.network.note(data)
-        if not self.transport.is_closing():
-            self.transport.sendto(data, self.address)
+        # The other site has the near one where its own way back begins.
+        back = self.network.ways.get((self.site, self.near))
+        if back and not back.transport.is_closing():
+            back.transport.sendto(data, self.address)

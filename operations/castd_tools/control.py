@@ -20,6 +20,8 @@ UNHEALTHY = "unhealthy: "
 METRICS = "metrics"
 HEALTH = "health"
 SUSPECTED = "suspected"
+# So the line begins by which a daemon serves the programs of a domain no longer. The domain follows.
+RETIRE = "retire"
 # So the lines begin by which the failure detector says whether the home of a domain is silent. The domain follows.
 HOME_SILENT, HOME_HEARD = "home-silent", "home-heard"
 

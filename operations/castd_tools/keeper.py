@@ -258,6 +258,8 @@ class Keeper:
             exposition.add("castd_up", 1)
         except Unanswered:
             exposition.add("castd_up", 0)
+        for domain in self._standing.domains():
+            exposition.add("castd_domain_retired", int(domain in self._standing.retired), domain=domain)
         for domain, (_, is_silent) in self._standing.homes().items():
             exposition.add("castd_home_silent", int(is_silent), domain=domain)
         # A daemon that has just ended uses nothing.
@@ -273,6 +275,10 @@ class Keeper:
             return [f"{control.UNHEALTHY}the daemon does not answer within {_HEALTH_SECONDS:g} s"]
         reasons = [line for line in domains if control.is_refusal([line])]
         reasons += [f"domain {domain} is halted" for domain, runs in metrics.domains_of(domains).items() if not runs]
+        reasons += [
+            f"site {self._site} was put out of domain {domain}, whose programs are no longer served here"
+            for domain in sorted(self._standing.retired)
+        ]
         for domain, (home, is_silent) in self._standing.homes().items():
             if is_silent:
                 reasons.append(f"the home of domain {domain}, site {home}, is silent")

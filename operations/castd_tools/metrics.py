@@ -27,6 +27,7 @@ _METRICS = (
     ("castd_record_waiting_bytes", GAUGE, "Bytes that wait to be written to the record, or were written and still have their memory."),
     ("castd_record_lost_events_total", COUNTER, "Events that the record lacks."),
     ("castd_domain_running", GAUGE, "Whether the domain runs, and is not halted."),
+    ("castd_domain_retired", GAUGE, "Whether programs of the domain are no longer served here, since the site was put out of it."),
     ("castd_home_silent", GAUGE, "Whether the home of the domain, which is another site, is silent."),
     ("castd_sessions", GAUGE, "Programs that are connected."),
     ("castd_sessions_quota", GAUGE, "Most programs that may be connected."),

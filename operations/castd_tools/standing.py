@@ -2,13 +2,14 @@
 
 from __future__ import annotations
 
+from castd_tools import control
 from castd_tools.configuration import QUOTAS, Domain
 from castd_tools.console import OK
 
 
 class Standing:
-    """The quotas of the domains of a site, the sites that it put out of those of which it is the home, and the homes of the
-    others that are silent."""
+    """The quotas of the domains of a site, those whose programs it no longer serves, the sites that it put out of those of which
+    it is the home, and the homes of the others that are silent."""
 
     def __init__(self, site: int, domains: list[Domain]):
         self._others = {
@@ -18,6 +19,7 @@ class Standing:
         self._silent: set[int] = set()
         self._quotas = {(domain.number, name): domain.quota(name) for domain in domains for name in QUOTAS}
         self._suspected: set[tuple[int, int]] = set()
+        self.retired: set[int] = set()
 
     def observe(self, line: str, answer: list[str]) -> None:
         """Takes note of a line that was answered."""
@@ -26,8 +28,14 @@ class Standing:
         match line.split(" "):
             case ["quota", domain, name, value]:
                 self._quotas[int(domain), name] = int(value)
+            case [control.RETIRE, domain]:
+                self.retired.add(int(domain))
             case ["suspect", domain, site] if int(site) in self._others.get(int(domain), ()):
                 self._suspected.add((int(domain), int(site)))
+
+    def domains(self) -> list[int]:
+        """The domains of the site."""
+        return sorted(self._others)
 
     def quota(self, domain: int, name: str) -> int:
         return self._quotas[domain, name]

@@ -34,13 +34,14 @@ TOOL = SiteTool(
     "castd-watch CONFIG --site N [--control PATH] [--patience SECONDS] [--port-offset N]",
     "Detects sites that fail, beside the daemon of a site. Sites exchange beats as long as their daemons answer. At the"
     " home of a domain, a site that was heard and falls silent is suspected, if more than half of the domain stays. A"
-    " site that learns that it was put out stops its daemon. Where the home of a domain is silent, the keeper is told.",
+    " site that learns that it was put out of a domain serves the programs of that domain no longer, and stops its daemon"
+    " once it was put out of all. Where the home of a domain is silent, the keeper is told.",
     {
         0: "ended by SIGTERM or SIGINT",
         USAGE: "wrong command line",
         CONFIGURATION: "fault in the configuration",
         UNBOUND: "an address cannot be resolved or bound",
-        PUT_OUT: "the site was put out, and its daemon is stopped",
+        PUT_OUT: "the site was put out of all its domains, and its daemon is stopped",
     },
 )
 
@@ -73,7 +74,7 @@ def _patience(text: str) -> float:
 
 
 async def _watch(options: argparse.Namespace) -> int:
-    """Watches until a signal comes or the site is put out, and gives the exit status."""
+    """Watches until a signal comes or the site is put out of all its domains, and gives the exit status."""
     stop = stop_signals()
     watch = Watch(TOOL.configuration(options), options)
     stopped = asyncio.create_task(stop.wait())
@@ -121,22 +122,35 @@ class Watch:
         self._silent_homes: set[int] = set()
         # The domains of which the site is put out, as the last beat of their homes said, and since when they say so.
         self._told_out: dict[int, float] = {}
-        self._put_out: asyncio.Future[int] = asyncio.get_running_loop().create_future()
+        # Those of which it learnt so, and what waits for one more.
+        self._put_out: set[int] = set()
+        self._learnt: asyncio.Queue[int] = asyncio.Queue()
         self._counts_told = -math.inf
 
     async def run(self) -> int:
-        """Watches until the site learns that it was put out. Then stops the daemon, and gives the exit status."""
+        """Watches until the site was put out of all its domains and its daemon is stopped. Gives the exit status."""
         self._socket = await open_socket(self._configuration, self._site, self._others, self._offset, self._hear)
         self._last_pulse = time.monotonic()
         others = ", ".join(map(str, sorted(self._others))) or "none"
         self._teller.say(f"watches as site {self._site}, incarnation {self._incarnation}; other sites: {others}")
         async with asyncio.TaskGroup() as group:
             tasks = [group.create_task(repeat()) for repeat in (self._beat, self._look, self._feel_pulse)]
-            domain = await self._put_out
+            await self._retire()
             for task in tasks:
                 task.cancel()
-        await self._stop_daemon(domain)
         return PUT_OUT
+
+    async def _retire(self) -> None:
+        """Has the daemon serve the programs of a domain no longer, whenever the site learns that it was put out of one. Once it
+        was put out of all, the daemon is stopped."""
+        while True:
+            domain = await self._learnt.get()
+            told = f"site {self._site} was put out of domain {domain}: "
+            if self._put_out == self._homes.keys():
+                self._teller.say(f"{told}its daemon is to stop")
+                return await self._have_done(STOP)
+            self._teller.say(f"{told}its programs are no longer served here, and those of other domains are")
+            await self._have_done(f"{control.RETIRE} {domain}")
 
     async def _beat(self) -> None:
         """Beats as long as the daemon answers."""
@@ -165,7 +179,7 @@ class Watch:
             if domain in self._suspicions:
                 self._suspicions[domain].suspected.add(site)
         running = frozenset(domain for domain, runs in metrics.domains_of(domains).items() if runs)
-        return running, put_out
+        return running - self._put_out, put_out
 
     def _hear(self, heard: Beat) -> None:
         """A beat came from the address of its site."""
@@ -182,13 +196,15 @@ class Watch:
                 self._learn(domain, (domain, self._site) in heard.put_out)
 
     def _learn(self, domain: int, is_put_out: bool) -> None:
-        """A beat of the home says whether the site was put out. No single beat stops a daemon: another one has to follow."""
+        """A beat of the home says whether the site was put out. No single beat is enough: another one has to follow."""
         now = time.monotonic()
         if not is_put_out:
             self._told_out.pop(domain, None)
+        elif domain in self._put_out:
+            return
         elif now - self._told_out.setdefault(domain, now) >= self._patience / _BEATS_A_PATIENCE / 2:
-            if not self._put_out.done():
-                self._put_out.set_result(domain)
+            self._put_out.add(domain)
+            self._learnt.put_nowait(domain)
 
     async def _look(self) -> None:
         """Looks for sites that are silent."""
@@ -253,17 +269,16 @@ class Watch:
             self._heard_home = dict.fromkeys(self._heard_home, now)
             self._teller.say(f"goes on {late:.1f} s late: all silences start anew")
 
-    async def _stop_daemon(self, domain: int) -> None:
-        """Stops the daemon, so that its programs are told. One that does not answer is told again until it does."""
-        self._teller.say(f"site {self._site} was put out of domain {domain}: its daemon is to stop")
+    async def _have_done(self, line: str) -> None:
+        """Says a line to the daemon until it answers that it is done, or is gone."""
         while True:
             try:
-                answer = await self._ask(STOP)
+                answer = await self._ask(line)
             except control.NoKeeper as error:
                 return self._teller.say(f"the daemon is gone: {error}")
             except control.ControlError as error:
                 answer = [str(error)]
-            self._teller.tell(_DAEMON, f"{STOP}: {' '.join(answer)}")
+            self._teller.tell((line,), f"{line}: {' '.join(answer)}")
             if answer == [OK]:
                 return
             await asyncio.sleep(self._patience / _BEATS_A_PATIENCE)

@@ -12,7 +12,7 @@ use Rattle.cast_console.specs.declared.line.Line.TheVariants as line
 use Rattle.cast_console.specs.declared.line.LineFault.{LineFault}
 use Rattle.cast_events.specs.declared.told.Told.{Told}
 use Rattle.cast_console.specs.Lines.{fault_number}
-use Rattle.cast_console.specs.Texts.{datagrams_text, domains_text, group_lines, outcome_text, record_text, show_text, trace_text}
+use Rattle.cast_console.specs.Texts.{datagrams_text, domains_text, group_lines, outcome_text, record_text, retire_text, show_text, trace_text}
 
 -- the event that a line asks for
 abbrev pub event_of : Line → Option Event
@@ -21,6 +21,7 @@ event_of (line.Show d) = None
 event_of (line.Groups d) = None
 event_of (line.Suspect d s) = Some (event.Suspect d s)
 event_of (line.Quota d name value) = Some (event.Quota d name value)
+event_of (line.Retire d) = None
 event_of line.Trace = None
 event_of line.Datagrams = None
 event_of line.Record = None
@@ -44,6 +45,7 @@ line_text (line.Show d) t s came = show_text d s.table
 line_text (line.Groups d) t s came = group_lines d s.table
 line_text (line.Suspect d site) t s came = done_text came
 line_text (line.Quota d name value) t s came = done_text came
+line_text (line.Retire d) t s came = retire_text d s.table
 line_text line.Trace t s came = trace_text s
 line_text line.Datagrams t s came = datagrams_text t.datagrams
 line_text line.Record t s came = record_text t.record

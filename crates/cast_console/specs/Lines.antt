@@ -67,13 +67,14 @@ head_text head.Show = codes "show"
 head_text head.Groups = codes "groups"
 head_text head.Suspect = codes "suspect"
 head_text head.Quota = codes "quota"
+head_text head.Retire = codes "retire"
 head_text head.Trace = codes "trace"
 head_text head.Datagrams = codes "datagrams"
 head_text head.Record = codes "record"
 head_text head.Stop = codes "stop"
 
 abbrev pub heads : List Head
-heads = head.Domains ∷ head.Show ∷ head.Groups ∷ head.Suspect ∷ head.Quota ∷ head.Trace ∷ head.Datagrams ∷ head.Record ∷ head.Stop ∷ []
+heads = head.Domains ∷ head.Show ∷ head.Groups ∷ head.Suspect ∷ head.Quota ∷ head.Retire ∷ head.Trace ∷ head.Datagrams ∷ head.Record ∷ head.Stop ∷ []
 
 unfoldable pub head_of : List ℕ → Result Head LineFault
 head_of word = read (named_among head_text heads word)
@@ -112,6 +113,7 @@ behind head.Show ws = of_domain line.Show ws
 behind head.Groups ws = of_domain line.Groups ws
 behind head.Suspect ws = suspect ws
 behind head.Quota ws = quota ws
+behind head.Retire ws = of_domain line.Retire ws
 behind head.Trace ws = bare line.Trace ws
 behind head.Datagrams ws = bare line.Datagrams ws
 behind head.Record ws = bare line.Record ws

@@ -109,6 +109,10 @@ show_text d table = of_domain_text (option_map (shown_text d) (shown_at d table)
 abbrev pub group_lines : DomainNo → Table → List ℕ
 group_lines d table = of_domain_text (option_map groups_text (groups_at d table))
 
+-- a domain that is there may retire
+abbrev pub retire_text : DomainNo → Table → List ℕ
+retire_text d table = of_domain_text (option_map (λ s. codes "ok") (shown_at d table))
+
 -- How many events were taken, and how many of them are in the trace
 
 abbrev pub trace_text : Seen → List ℕ

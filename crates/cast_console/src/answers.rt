@@ -3,7 +3,7 @@ ghost use Rattle.std.specs.Fmt.{decimal};
 ghost use Rattle.std.specs.Option.{option_to_list};
 ghost use Rattle.std.specs.String.{string_bytes};
 ghost use Rattle.cast_console.specs.Lines.{fault_number, line_of};
-ghost use Rattle.cast_console.specs.Texts.{domains_text, group_lines, line_at, lines_after, show_text, trace_text};
+ghost use Rattle.cast_console.specs.Texts.{domains_text, group_lines, line_at, lines_after, retire_text, show_text, trace_text};
 ghost use Rattle.cast_console.specs.Answers.{HandsOn, IsServed, LeavesAll, answer_text, asked_event, done_text, event_of, line_text};
 
 use crate::line::{Line, LineFault, parse};
@@ -65,6 +65,16 @@ fn group_lines(alloc: Global, table: &Table, number: DomainNo) -> Result<String,
 {
     match table.groups(alloc, number)? {
         Some(groups) => groups_text(alloc, groups.as_slice()),
+        None => String::from_str(alloc, NO_DOMAIN),
+    }
+}
+
+// Whether there is a domain that is to retire.
+fn retire_text(alloc: Global, table: &Table, number: DomainNo) -> Result<String, NoMemory>
+    ensures { IfOk result (λ text. string_bytes text ≡ retire_text number table.now) }
+{
+    match table.show(number) {
+        Some(_) => String::from_str(alloc, "ok"),
         None => String::from_str(alloc, NO_DOMAIN),
     }
 }
@@ -152,6 +162,7 @@ fn answer_line<L: Ledger>(
             };
             serve_event(alloc, kept, mine, event)
         }
+        Line::Retire(domain) => text_answer(retire_text(alloc, kept.table(), domain)),
         Line::Trace => text_answer(trace_text(alloc, kept)),
         Line::Datagrams => text_answer(datagrams_text(alloc, told.datagrams)),
         Line::Record => text_answer(record_text(alloc, told.record)),

@@ -21,6 +21,8 @@ pub enum Line {
     Suspect(DomainNo, SiteNo),
     /// A quota of a domain is to have another value.
     Quota(DomainNo, QuotaName, u32),
+    /// The programs of a domain are no longer served here.
+    Retire(DomainNo),
     /// How many events were taken, and how many of them are in the trace.
     Trace,
     /// How many datagrams were sent and received.
@@ -79,6 +81,7 @@ pub(crate) enum Head {
     Groups,
     Suspect,
     Quota,
+    Retire,
     Trace,
     Datagrams,
     Record,
@@ -95,6 +98,7 @@ fn head_of(word: &str) -> Result<Head, LineFault>
         "groups" => Ok(Head::Groups),
         "suspect" => Ok(Head::Suspect),
         "quota" => Ok(Head::Quota),
+        "retire" => Ok(Head::Retire),
         "trace" => Ok(Head::Trace),
         "datagrams" => Ok(Head::Datagrams),
         "record" => Ok(Head::Record),
@@ -183,6 +187,14 @@ fn groups(rest: Option<&str>) -> Result<Line, LineFault>
     Ok(Line::Groups(domain_word(one_word(rest)?)?))
 }
 
+// `retire D`
+#[tactic(auto, unfolding(crate::specs::Lines::of_domain))]
+fn retire(rest: Option<&str>) -> Result<Line, LineFault>
+    ensures { result ≡ of_domain Line.Retire (words_of (option_copied rest.entry)) }
+{
+    Ok(Line::Retire(domain_word(one_word(rest)?)?))
+}
+
 // `suspect D S`
 #[tactic(auto, unfolding(crate::specs::Lines::suspect))]
 fn suspect(rest: Option<&str>) -> Result<Line, LineFault>
@@ -211,6 +223,7 @@ fn behind(head: Head, rest: Option<&str>) -> Result<Line, LineFault>
         Head::Groups => groups(rest),
         Head::Suspect => suspect(rest),
         Head::Quota => quota(rest),
+        Head::Retire => retire(rest),
         Head::Trace => bare(rest, Line::Trace),
         Head::Datagrams => bare(rest, Line::Datagrams),
         Head::Record => bare(rest, Line::Record),

@@ -3,9 +3,9 @@ use crate::lanes::Lanes;
 use crate::share::{CountShare, SpareCount};
 use cast_console::{Answer, Line, LineFault, answer, parse};
 use cast_edge::acknowledged_in;
-use cast_events::{Asked, Fault, Outs, Raw, Told};
+use cast_events::{Asked, Event, Fault, Outs, Raw, Told};
 use cast_pool::{Channels, Done, Gate, Job, Kept, Outcome, Task, decode, work};
-use cast_shared::{CUT, Came, Pace, Reply, SharedTable, Tape, Turn};
+use cast_shared::{CUT, Came, Instruction, Pace, Reply, SharedTable, Tape, Turn};
 use cast_types::{DomainNo, SiteNo, Uid};
 use crossbeam_channel::{Receiver, Sender};
 use std::alloc::Global;
@@ -119,6 +119,17 @@ fn cast_and_look<L: Ledger, R: Wait>(
     Ok(done)
 }
 
+// What a line asks of the threads.
+fn instruction_of<L: Ledger>(kept: &Kept<L>, line: &str) -> Option<Instruction> {
+    match parse(line) {
+        Ok(Line::Stop) => Some(Instruction::Stop),
+        Ok(Line::Retire(domain)) if kept.table().show(domain).is_some() => {
+            Some(Instruction::Retire(domain))
+        }
+        Ok(_) | Err(_) => None,
+    }
+}
+
 // Answers a line, and cuts the trace as `complete` does.
 fn answer_line<L: Ledger, R: Wait>(
     rt: &R,
@@ -139,7 +150,7 @@ fn answer_line<L: Ledger, R: Wait>(
     Reply {
         text,
         done,
-        is_stop: parse(line) == Ok(Line::Stop),
+        instruction: instruction_of(kept, line),
     }
 }
 
@@ -149,7 +160,7 @@ fn unread_line(alloc: Global) -> Reply<Done> {
     Reply {
         text: format!(in alloc; "{fault}"),
         done: None,
-        is_stop: false,
+        instruction: None,
     }
 }
 
@@ -221,6 +232,13 @@ impl<L: Ledger + Send + Sync> SharedTable for LockedTable<'_, L> {
 
     fn job(&self, asked: Asked) -> Option<Job> {
         decode(self.alloc, Raw { number: 0, asked }).ok()
+    }
+
+    fn sender(&self, job: &Job) -> Option<SiteNo> {
+        match job.task() {
+            Task::Serve(Event::Frame(_, site, _)) => Some(*site),
+            Task::Serve(_) | Task::Show(_) => None,
+        }
     }
 
     fn acknowledged(&self, job: &Job) -> Option<(DomainNo, SiteNo, Uid)> {

@@ -1,5 +1,5 @@
 //! What an operator has to know, as lines on standard error.
-use cast_types::DomainNo;
+use cast_types::{DomainNo, SiteNo};
 use crossbeam_channel::Receiver;
 use libc::net as c;
 use libc::types::pollfd;
@@ -13,15 +13,19 @@ use std::sync::Wait;
 pub enum Report {
     /// Want of memory halted the domain.
     Halted(DomainNo),
+    /// The programs of the domain are no longer served, as the operator said.
+    Retired(DomainNo),
     /// A program that connected to the domain could not be served.
     NotServed(DomainNo),
     /// No more programs can connect to the domain for now: accepting one failed.
     NotAccepting(DomainNo),
-    /// So many datagrams came that are no frame, or that found no memory.
+    /// So many datagrams came that are no frame of the site that they came from, or that found no memory.
     Unread(u64),
-    /// So many datagrams were not sent: the system refused them, or they found no memory. Most frames are sent again.
-    Unsent(u64),
-    /// The socket of the datagrams failed.
+    /// So many datagrams for the site were not sent: there was no room for them, or the system refused them. Most frames are sent again.
+    Unsent(SiteNo, u64),
+    /// So many datagrams found no memory to be sent. Most frames are sent again.
+    Unspelled(u64),
+    /// The sockets of the datagrams failed.
     LinkFailed,
     /// More events wait to be recorded than may wait, and some were lost. The record says where.
     RecordBehind,
@@ -36,6 +40,10 @@ impl Display for Report {
                 let number = domain.0;
                 write!(f, "castd: domain {number}: halted")
             }
+            Report::Retired(domain) => {
+                let number = domain.0;
+                write!(f, "castd: domain {number}: programs are no longer served")
+            }
             Report::NotServed(domain) => {
                 let number = domain.0;
                 write!(f, "castd: domain {number}: a program was not served")
@@ -45,7 +53,19 @@ impl Display for Report {
                 write!(f, "castd: domain {number}: no program can connect")
             }
             Report::Unread(count) => write!(f, "castd: datagrams that could not be read: {count}"),
-            Report::Unsent(count) => write!(f, "castd: datagrams that could not be sent: {count}"),
+            Report::Unsent(site, count) => {
+                let number = site.0;
+                write!(
+                    f,
+                    "castd: site {number}: datagrams that could not be sent: {count}"
+                )
+            }
+            Report::Unspelled(count) => {
+                write!(
+                    f,
+                    "castd: datagrams that found no memory to be sent: {count}"
+                )
+            }
             Report::LinkFailed => write!(f, "castd: datagrams cannot be received"),
             Report::RecordBehind => write!(f, "castd: the record lacks events"),
             Report::RecordEnded(events) => {

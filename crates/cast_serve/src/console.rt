@@ -1,5 +1,5 @@
 //! The operator's lines.
-use cast_shared::{Reply, Shared, SharedTable};
+use cast_shared::{Instruction, Reply, Shared, SharedTable};
 use crossbeam_channel::Sender;
 use std::alloc::Global;
 use std::fmt::Display;
@@ -15,7 +15,7 @@ fn say<T: Display, W: Write>(what: &T, out: &mut W) {
     let _ = out.flush();
 }
 
-// Answers a line, and hands on what its event came to. Answers whether the daemon is to stop.
+// Answers a line, and does what it asks, and hands on what its event came to. Answers whether the daemon is to stop.
 fn answer_line<T: SharedTable, R: Wait, W: Write>(
     rt: &R,
     shared: &Shared<'_, T>,
@@ -28,7 +28,7 @@ fn answer_line<T: SharedTable, R: Wait, W: Write>(
     let Reply {
         text,
         done,
-        is_stop,
+        instruction,
     } = {
         let _way = shared.turnstile.way.lock(rt);
         shared.turnstile.close();
@@ -39,11 +39,14 @@ fn answer_line<T: SharedTable, R: Wait, W: Write>(
     if let Some(done) = done {
         let _ = dones.send(rt, done);
     }
+    if let Some(Instruction::Retire(domain)) = instruction {
+        shared.desk.lock(rt).retire(rt, domain);
+    }
     match text {
         Ok(text) => say(&text, out),
         Err(_) => say(&"no memory", out),
     }
-    is_stop
+    instruction == Some(Instruction::Stop)
 }
 
 // What comes from the console.

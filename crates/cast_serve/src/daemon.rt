@@ -4,12 +4,12 @@ ghost use Rattle.std.specs.Prelude.{◌<◌};
 use crate::console::run_console;
 use cast_config::{DomainSocket, Setup};
 use cast_device::{Watched, tell};
-use cast_edge::{Report, Silence, Unacknowledged, run_reporter};
+use cast_edge::{Count, Report, Silence, Unacknowledged, run_reporter};
 use cast_events::{Config, DomainConfig, Raw};
 use cast_shared::{
     Desk, Pace, Record, Shared, SharedTable, Tape, Traffic, Turnstile, run_recorder,
 };
-use cast_sockets::{Listening, Peer, SocketFault, Sockets, bind, resolve_all, widen};
+use cast_sockets::{Link, Listening, SocketFault, Sockets, bind, resolve_all, widen};
 use cast_threads::{Server, run_dispatcher, run_program, run_receiver, server_of};
 use cast_types::{NoMemory, SiteNo};
 use crossbeam_channel::{Receiver, Sender};
@@ -94,9 +94,12 @@ fn take_outboxes<T: SharedTable, R: Wait>(rt: &R, server: &mut Server<'_, T>, al
     }
 }
 
-// Sends again what seems to be lost, and notes that time goes by.
+// Sends again what seems to be lost, looks for the way to sites that had none, and notes that time goes by.
 fn send_again<T: SharedTable, R: Wait>(rt: &R, server: &mut Server<'_, T>) {
     let shared = server.shared;
+    for link in shared.links {
+        link.connect();
+    }
     for silence in shared.silences {
         silence.tick(rt);
     }
@@ -106,9 +109,22 @@ fn send_again<T: SharedTable, R: Wait>(rt: &R, server: &mut Server<'_, T>) {
     }
 }
 
+// Tells the operator how many datagrams for each site were not sent.
+fn report_unsent<T: SharedTable, R: Wait>(rt: &R, shared: &Shared<'_, T>, counts: &mut [Count]) {
+    for (link, count) in shared.links.iter().zip(counts.iter_mut()) {
+        if let Some(unsent) = count.reach(link.unsent()) {
+            shared.report(rt, Report::Unsent(link.site, unsent));
+        }
+    }
+}
+
 // Tells the domains the time, and asks once more for what was refused.
-fn run_ticker<T: SharedTable, R: Wait + Clock>(rt: &R, server: Server<'_, T>) -> io::Result<()> {
-    let mut server = server;
+fn run_ticker<T: SharedTable, R: Wait + Clock>(
+    rt: &R,
+    server: Server<'_, T>,
+    unsent: Vec<Count>,
+) -> io::Result<()> {
+    let (mut server, mut unsent) = (server, unsent);
     let shared = server.shared;
     let start = Instant::now(rt)?;
     let mut until_all = 0;
@@ -120,6 +136,7 @@ fn run_ticker<T: SharedTable, R: Wait + Clock>(rt: &R, server: Server<'_, T>) ->
         shared.desk.lock(rt).tick(rt, millis);
         shared.desk.lock(rt).hand_in_ends(rt);
         send_again(rt, &mut server);
+        report_unsent(rt, shared, unsent.as_mut_slice());
         let is_halted = shared.trim_after_halt(rt);
         take_outboxes(rt, &mut server, is_halted || until_all == 0);
         until_all = if until_all == 0 {
@@ -213,10 +230,11 @@ where
     let dispatching = server_of(rt, shared)?;
     let receiving = server_of(rt, shared)?;
     let ticking = server_of(rt, shared)?;
+    let unsent = vec![in shared.alloc; Count::new(); shared.links.len()]?;
     let _ = scope.spawn(move || run_dispatcher(rt, dispatching, answered))?;
     let _ = scope.spawn(move || run_receiver(rt, shared, receiving))?;
     let _ = scope.spawn(move || {
-        let _ = run_ticker(rt, ticking);
+        let _ = run_ticker(rt, ticking, unsent);
     })?;
     if shared.is_recorded {
         let _ = scope.spawn(move || run_recorder(rt, shared, record))?;
@@ -343,11 +361,11 @@ fn unacknowledged_of(
 }
 
 // The other sites: none was sent anything yet.
-fn silences_of(alloc: Global, own: SiteNo, peers: &[Peer]) -> Result<Vec<Silence>, NoMemory> {
+fn silences_of(alloc: Global, own: SiteNo, links: &[Link]) -> Result<Vec<Silence>, NoMemory> {
     let mut all = Vec::new(alloc);
-    for peer in peers {
-        if peer.site != own {
-            all.push(Silence::new(peer.site))?;
+    for link in links {
+        if link.site != own {
+            all.push(Silence::new(link.site))?;
         }
     }
     Ok(all)
@@ -361,7 +379,6 @@ fn run<T, R, B, W, E, K>(
     table: &T,
     tape: &Tape,
     workers: u8,
-    peers: &[Peer],
     sockets: &Sockets,
     console: B,
     out: &mut W,
@@ -386,14 +403,14 @@ where
     let (reporting, reports) = crossbeam_channel::bounded::<Report, Global>(alloc, REPORTS)?;
     let desk = Mutex::new(Desk::new(alloc, jobs, reporting));
     let halts = AtomicU64::new(0);
-    let room = widen(&sockets.udp);
+    let room = widen(sockets.links.as_slice());
     let paces = paces_of(alloc, setup.config.domains.as_slice(), room)?;
     let unacknowledged = unacknowledged_of(
         alloc,
         setup.config.site,
         setup.config.domains.as_slice(),
     )?;
-    let silences = silences_of(alloc, setup.config.site, peers)?;
+    let silences = silences_of(alloc, setup.config.site, sockets.links.as_slice())?;
     let turnstile = Turnstile::new();
     let traffic = Traffic::new();
     let ground = Ground {
@@ -401,8 +418,7 @@ where
             alloc,
             desk: &desk,
             table,
-            udp: &sockets.udp,
-            peers,
+            links: sockets.links.as_slice(),
             paces: paces.as_slice(),
             unacknowledged: unacknowledged.as_slice(),
             silences: silences.as_slice(),
@@ -534,7 +550,7 @@ where
         }
     };
     match run(
-        rt, alloc, setup, table, tape, workers, &peers, &sockets, console, out, log, record,
+        rt, alloc, setup, table, tape, workers, &sockets, console, out, log, record,
     ) {
         Ok(report) => {
             if let Some(what) = report {

@@ -1,5 +1,5 @@
 //! Which programs are served, what is asked of the workers, and which sessions are still to end.
-use cast_edge::{Client, Report, Session};
+use cast_edge::{Client, Count, Report, Session};
 use cast_events::{Asked, Event, Raw};
 use cast_types::{DomainNo, NoMemory, Refusal};
 use crossbeam_channel::Sender;
@@ -125,37 +125,6 @@ fn hand_in<R: Wait>(rt: &R, jobs: &Sender<Raw>, ending: &mut Ending) {
     }
 }
 
-// How often something happened that an operator has to know. It is reported the first time, the tenth, the hundredth, and so on.
-#[derive(Clone, Copy)]
-struct Count {
-    so_far: u64,
-    next_report: u64,
-}
-
-impl Count {
-    // It has not happened.
-    fn new() -> Self {
-        Count {
-            so_far: 0,
-            next_report: 1,
-        }
-    }
-
-    // It happened so many times more. Answers the whole number if that is to be reported.
-    fn add(&mut self, more: u64) -> Option<u64> {
-        self.so_far = self.so_far.saturating_add(more);
-        if self.so_far < self.next_report {
-            return None;
-        }
-        for _ in 0..20u8 {
-            if self.next_report <= self.so_far {
-                self.next_report = self.next_report.saturating_mul(10);
-            }
-        }
-        Some(self.so_far)
-    }
-}
-
 /// What the threads of a daemon know of each other.
 #[derive(Drop)]
 pub struct Desk {
@@ -168,10 +137,14 @@ pub struct Desk {
     clients: BTreeMap<Session, Arc<Client, Global>>,
     reports: Option<Sender<Report>>,
     is_stopping: bool,
-    // Datagrams that are no frame, or found no memory.
+    // Whether the programs of a domain are no longer served, by its number.
+    retired: [bool; 256],
+    // Datagrams that are no frame of the site that they came from, or found no memory.
     unread: Count,
-    // Datagrams that the system refused, or found no memory.
-    unsent: Count,
+    // Datagrams that the system did not send.
+    unsent: u64,
+    // Datagrams that found no memory to be sent.
+    unspelled: Count,
 }
 
 impl Desk {
@@ -187,8 +160,10 @@ impl Desk {
             ends: Endings::new(alloc),
             clients: BTreeMap::new(alloc),
             is_stopping: false,
+            retired: [false; 256],
             unread: Count::new(),
-            unsent: Count::new(),
+            unsent: 0,
+            unspelled: Count::new(),
         }
     }
 
@@ -267,9 +242,9 @@ impl Desk {
         }
     }
 
-    /// Lets a program in. False if the daemon stops.
+    /// Lets a program in. False if the daemon stops, or no longer serves its domain.
     pub fn add(&mut self, client: Arc<Client, Global>) -> Result<bool, NoMemory> {
-        if self.is_stopping {
+        if self.is_stopping || self.is_retired(client.session.domain) {
             return Ok(false);
         }
         let session = client.session;
@@ -335,23 +310,29 @@ impl Desk {
         None
     }
 
-    /// Counts a datagram that is no frame, or found no memory.
-    pub fn count_unread<R: Wait>(&mut self, rt: &R) {
-        if let Some(count) = self.unread.add(1) {
+    /// Counts datagrams that are no frame of the site that they came from, or found no memory.
+    pub fn count_unread<R: Wait>(&mut self, rt: &R, more: u64) {
+        if let Some(count) = self.unread.add(more) {
             self.report(rt, Report::Unread(count));
         }
     }
 
-    /// Counts datagrams that the system refused, or that found no memory.
-    pub fn count_unsent<R: Wait>(&mut self, rt: &R, more: u64) {
-        if let Some(count) = self.unsent.add(more) {
-            self.report(rt, Report::Unsent(count));
+    /// Counts datagrams that the system did not send.
+    pub fn count_unsent(&mut self, more: u64) {
+        self.unsent = self.unsent.saturating_add(more);
+    }
+
+    /// Counts datagrams that found no memory to be sent.
+    pub fn count_unspelled<R: Wait>(&mut self, rt: &R, more: u64) {
+        if let Some(count) = self.unspelled.add(more) {
+            self.report(rt, Report::Unspelled(count));
         }
     }
 
     /// How many datagrams could not be sent, and how many that came could not be read.
     pub fn failures(&self) -> (u64, u64) {
-        (self.unsent.so_far, self.unread.so_far)
+        let unsent = self.unsent.saturating_add(self.unspelled.so_far());
+        (unsent, self.unread.so_far())
     }
 
     /// Tells the operator something. It is lost once reports have ended, or if much else waits to be told.
@@ -369,6 +350,24 @@ impl Desk {
     /// Whether the daemon stops.
     pub fn is_stopping(&self) -> bool {
         self.is_stopping
+    }
+
+    /// Whether the programs of a domain are no longer served.
+    pub fn is_retired(&self, domain: DomainNo) -> bool {
+        self.retired[usize::from(domain.0)]
+    }
+
+    /// Ends the threads of the programs of a domain, and lets no more of them in.
+    pub fn retire<R: Wait>(&mut self, rt: &R, domain: DomainNo) {
+        if !self.is_retired(domain) {
+            self.report(rt, Report::Retired(domain));
+        }
+        self.retired[usize::from(domain.0)] = true;
+        for client in self.clients.values() {
+            if client.session.domain == domain {
+                client.close(rt);
+            }
+        }
     }
 
     /// Ends the threads of every program, and lets no program in. What was asked is still served.

@@ -17,5 +17,5 @@ pub use desk::{Desk, Opened, Opening, Purpose};
 pub use pace::{Pace, Patience, Turn};
 pub use record::{CUT, Record, Tape, run_recorder};
 pub use shared::{Shared, Traffic, Turnstile};
-pub use table::{Came, Reply, SharedTable};
+pub use table::{Came, Instruction, Reply, SharedTable};
 pub use udp::Udp;

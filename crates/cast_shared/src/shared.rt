@@ -5,10 +5,9 @@ use crate::record::Tape;
 use crate::table::SharedTable;
 use cast_edge::{Report, Silence, Unacknowledged};
 use cast_events::{Asked, Datagrams, Recording, Told};
-use cast_sockets::Peer;
+use cast_sockets::Link;
 use cast_types::SiteNo;
 use std::alloc::Global;
-use std::net::UdpSocket;
 use std::sync::atomic::{AtomicU64, Ordering};
 use std::sync::{Mutex, Wait};
 
@@ -72,8 +71,7 @@ pub struct Shared<'a, T: SharedTable> {
     pub alloc: Global,
     pub desk: &'a Mutex<Desk>,
     pub table: &'a T,
-    pub udp: &'a UdpSocket,
-    pub peers: &'a [Peer],
+    pub links: &'a [Link],
     /// Of each domain that has other sites.
     pub paces: &'a [Pace],
     /// Of each domain and each of its other sites.
@@ -130,11 +128,17 @@ impl<T: SharedTable> Shared<'_, T> {
         }
     }
 
+    /// Counts datagrams that came from another address than that of the site.
+    pub fn count_foreign<R: Wait>(&self, rt: &R, count: u64) {
+        self.traffic.received.fetch_add(count, Ordering::SeqCst);
+        self.desk.lock(rt).count_unread(rt, count);
+    }
+
     /// The job of what is asked. `None` for bytes that are no frame, and where memory ran out; either is counted.
     pub fn job<R: Wait>(&self, rt: &R, asked: Asked) -> Option<T::Job> {
         let job = self.table.job(asked);
         if job.is_none() {
-            self.desk.lock(rt).count_unread(rt);
+            self.desk.lock(rt).count_unread(rt, 1);
         }
         job
     }

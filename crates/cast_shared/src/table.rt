@@ -8,6 +8,15 @@ use std::sync::Wait;
 /// An answer, and what came of its event.
 pub type Came = (Result<Taken, Fault>, Outs);
 
+/// What a line of the console asks of the threads.
+#[derive(Clone, Copy, Debug, PartialEq, Eq)]
+pub enum Instruction {
+    /// The daemon is to stop.
+    Stop,
+    /// The programs of the domain are no longer to be served.
+    Retire(DomainNo),
+}
+
 /// What came of a line of the console.
 #[derive(Drop)]
 pub struct Reply<D> {
@@ -15,8 +24,8 @@ pub struct Reply<D> {
     pub text: Result<String, NoMemory>,
     /// What came of the line's event, if it has one.
     pub done: Option<D>,
-    /// Whether the line asks that the daemon stops.
-    pub is_stop: bool,
+    /// What the line asks of the threads, if it does.
+    pub instruction: Option<Instruction>,
 }
 
 /// A table that threads share.
@@ -38,6 +47,9 @@ pub trait SharedTable {
 
     /// The job of what is asked. `None` for bytes that are no frame, and where memory ran out.
     fn job(&self, asked: Asked) -> Option<Self::Job>;
+
+    /// The site that the frame of a job says it is from. `None` for what is no frame.
+    fn sender(&self, job: &Self::Job) -> Option<SiteNo>;
 
     /// What the frame of a job acknowledges, if it does, in which domain and from which site.
     fn acknowledged(&self, job: &Self::Job) -> Option<(DomainNo, SiteNo, Uid)>;

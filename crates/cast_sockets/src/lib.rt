@@ -1,4 +1,5 @@
-//! The sockets of a daemon: one for datagrams, and one for the programs of each domain.
+//! The sockets of a daemon: one for the datagrams of each site, and one for the programs of each
+//! domain.
 //!
 //! `bind` makes them. `Sockets::stop` removes their files and wakes who waits for them. Promised:
 //! every call is safe.
@@ -7,5 +8,5 @@
 mod datagrams;
 mod sockets;
 
-pub use datagrams::{Peer, widen};
+pub use datagrams::{Link, Peer, Received, widen};
 pub use sockets::{Listening, SocketFault, Sockets, bind, resolve_all};

@@ -1,9 +1,9 @@
-//! The sockets of a daemon: one for datagrams, and one for the programs of each domain.
-use crate::datagrams::Peer;
+//! The sockets of a daemon: those for datagrams, and one for the programs of each domain.
+use crate::datagrams::{Link, Peer, bind_links};
 use cast_config::{DomainSocket, Setup, SiteAddress};
-use cast_types::{DomainNo, SiteNo};
+use cast_types::{DomainNo, NoMemory, SiteNo};
 use std::alloc::Global;
-use std::net::{Net, Shutdown, SocketAddr, ToSocketAddrs, UdpSocket};
+use std::net::{Net, Shutdown, SocketAddr, ToSocketAddrs};
 use std::os::fd::OwnedFd;
 use std::os::unix::fs::MetadataExt;
 use std::os::unix::net::{UnixListener, UnixStream};
@@ -31,10 +31,11 @@ pub struct Listening {
 /// The sockets of a daemon.
 #[derive(Drop)]
 pub struct Sockets {
-    pub udp: UdpSocket,
+    /// For each site that has a domain with this one, itself too.
+    pub links: Vec<Link>,
     pub listening: Vec<Listening>,
-    // A second handle of the socket for datagrams. Once that is shut down, each receive fails at once. It has no peer, so the call fails,
-    // and wakes the receiver all the same. It is made when the daemon starts: at its end there may be no descriptor to spare.
+    // A second handle of the socket of one link. Once that is shut down, the receiver is woken. It is made when the daemon starts: at its end
+    // there may be no descriptor to spare.
     stopper: UnixStream,
 }
 
@@ -187,11 +188,20 @@ fn bind_all<'a, R: Net + Files>(
     Ok(listening)
 }
 
-// Binds the socket for datagrams, with a second handle of it.
-fn bind_udp<R: Net>(rt: &R, address: SocketAddr) -> io::Result<(UdpSocket, UnixStream)> {
-    let udp = UdpSocket::bind(rt, address)?;
-    let stopper = UnixStream::from(OwnedFd::from(udp.try_clone()?));
-    Ok((udp, stopper))
+// The other sites that have a domain with this one.
+fn partners(alloc: Global, setup: &Setup, peers: &[Peer]) -> Result<Vec<Peer>, NoMemory> {
+    let mut found = Vec::new(alloc);
+    for peer in peers {
+        let domains = setup.config.domains.as_slice();
+        if peer.site != setup.config.site
+            && domains
+                .iter()
+                .any(|domain| domain.sites.as_slice().contains(&peer.site))
+        {
+            found.push(*peer)?;
+        }
+    }
+    Ok(found)
 }
 
 /// Binds the sockets of a daemon, or answers the name of the first that cannot be bound.
@@ -206,13 +216,20 @@ pub fn bind<'a, R: Net + Files>(
     let Some(peer) = peers.iter().find(|peer| peer.site == own) else {
         return Err(SocketFault::Name(name));
     };
-    let Ok((udp, stopper)) = bind_udp(rt, peer.address) else {
-        return Err(SocketFault::Name(name));
+    let Ok(partners) = partners(alloc, setup, peers) else {
+        return Err(SocketFault::NoMemory);
+    };
+    let (links, handle) = match bind_links(rt, alloc, *peer, partners.as_slice()) {
+        Ok(bound) => bound,
+        Err(error) if error.kind() == io::ErrorKind::OutOfMemory => {
+            return Err(SocketFault::NoMemory);
+        }
+        Err(_) => return Err(SocketFault::Name(name)),
     };
     let listening = bind_all(rt, alloc, setup.sockets.as_slice())?;
     Ok(Sockets {
-        udp,
+        links,
         listening,
-        stopper,
+        stopper: UnixStream::from(handle),
     })
 }

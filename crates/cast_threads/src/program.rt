@@ -37,12 +37,15 @@ fn refuse(alloc: Global, stream: &UnixStream, refusal: Refusal) {
     let _ = pump_out(alloc, &mut writer, &[Push::Closed(refusal)]);
 }
 
-// Asks for a session, and waits for it.
+// Asks for a session, and waits for it. A domain whose programs are no longer served counts as halted.
 fn open<T: SharedTable, R: Wait>(
     rt: &R,
     shared: &Shared<'_, T>,
     domain: DomainNo,
 ) -> Result<Opening, NoMemory> {
+    if shared.desk.lock(rt).is_retired(domain) {
+        return Ok(Opening::Refused(Refusal::Halted));
+    }
     let (to, opened) = crossbeam_channel::bounded::<Opening, Global>(shared.alloc, 1)?;
     if !shared.desk.lock(rt).open(rt, domain, to) {
         return Ok(Opening::Lost);

@@ -33,7 +33,7 @@ impl<T: SharedTable> Receiver<'_, T> {
         self.server.note_messages(rt, &outs);
         let (others, lost) = self.stables.hold(outs);
         if lost > 0 {
-            self.server.shared.desk.lock(rt).count_unsent(rt, lost);
+            self.server.shared.desk.lock(rt).count_unspelled(rt, lost);
         }
         self.server.send(rt, &others);
     }
@@ -69,10 +69,18 @@ impl<T: SharedTable> Receiver<'_, T> {
             match self.server.wire.receive_now() {
                 Ok(Some(bytes)) => self.serve(rt, Asked::Datagram(bytes)),
                 Ok(None) => return false,
-                Err(_) => self.server.shared.desk.lock(rt).count_unread(rt),
+                Err(_) => self.server.shared.desk.lock(rt).count_unread(rt, 1),
             }
         }
         true
+    }
+
+    // Counts the datagrams that were passed over.
+    fn count_foreign<R: Wait>(&mut self, rt: &R) {
+        let count = self.server.wire.take_foreign();
+        if count > 0 {
+            self.server.shared.count_foreign(rt, count);
+        }
     }
 
     // Serves a datagram and those that wait behind it, then writes what they pushed, and sends their Stables. Answers whether there
@@ -80,6 +88,7 @@ impl<T: SharedTable> Receiver<'_, T> {
     fn serve_all<R: Wait>(&mut self, rt: &R, first: Asked) -> bool {
         self.serve(rt, first);
         let is_more = self.serve_waiting(rt);
+        self.count_foreign(rt);
         self.write_pushed(rt);
         self.send_stables(rt);
         is_more
@@ -125,7 +134,7 @@ pub fn run_receiver<T: SharedTable, R: Wait + Clock>(
                 }
             }
             Err(LinkFault::NoMemory) => {
-                shared.desk.lock(rt).count_unread(rt);
+                shared.desk.lock(rt).count_unread(rt, 1);
                 thread::sleep(rt, Duration::from_millis(PAUSE));
             }
             Err(LinkFault::Device) => {

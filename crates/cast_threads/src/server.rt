@@ -46,7 +46,7 @@ impl<'a, T: SharedTable> Server<'a, T> {
         Server {
             shared,
             share,
-            wire: Udp::new(shared.alloc, shared.udp, shared.peers),
+            wire: Udp::new(shared.alloc, shared.links),
             room: Vec::new(shared.alloc),
         }
     }
@@ -78,10 +78,15 @@ impl<'a, T: SharedTable> Server<'a, T> {
         served
     }
 
-    /// Serves a datagram. `None` if its bytes are no frame. After an acknowledgement, what seems to be lost is sent again.
+    /// Serves the datagram that was received last. `None` if its bytes are no frame of the site that it came from. After an acknowledgement,
+    /// what seems to be lost is sent again.
     pub fn serve_datagram<R: Wait>(&mut self, rt: &R, datagram: Asked) -> Option<Outs> {
         self.shared.traffic.received.fetch_add(1, Ordering::SeqCst);
         let job = self.shared.job(rt, datagram)?;
+        if self.shared.table.sender(&job) != self.wire.sender() {
+            self.shared.desk.lock(rt).count_unread(rt, 1);
+            return None;
+        }
         let acknowledged = self.shared.table.acknowledged(&job);
         let (_, outs) = self.do_job(rt, job);
         if let Some((domain, site, id)) = acknowledged
@@ -154,10 +159,10 @@ impl<'a, T: SharedTable> Server<'a, T> {
                     .sent
                     .fetch_add(sent.sent, Ordering::SeqCst);
                 if sent.lost > 0 {
-                    self.shared.desk.lock(rt).count_unsent(rt, sent.lost);
+                    self.shared.desk.lock(rt).count_unsent(sent.lost);
                 }
             }
-            Err(_) => self.shared.desk.lock(rt).count_unsent(rt, count),
+            Err(_) => self.shared.desk.lock(rt).count_unspelled(rt, count),
         }
     }
 

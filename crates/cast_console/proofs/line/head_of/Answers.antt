@@ -24,6 +24,10 @@ pub returns-in-quota : goal.returns-in-quota
 unfolding head_of
 returns-in-quota c = rw c.in-quota.is refl
 
+pub returns-in-retire : goal.returns-in-retire
+unfolding head_of
+returns-in-retire c = rw c.in-retire.is refl
+
 pub returns-in-trace : goal.returns-in-trace
 unfolding head_of
 returns-in-trace c = rw c.in-trace.is refl
@@ -49,6 +53,7 @@ returns-in_default c =
       | head.Groups ↦ c.in_default.not-groups
       | head.Suspect ↦ c.in_default.not-suspect
       | head.Quota ↦ c.in_default.not-quota
+      | head.Retire ↦ c.in_default.not-retire
       | head.Trace ↦ c.in_default.not-trace
       | head.Datagrams ↦ c.in_default.not-datagrams
       | head.Record ↦ c.in_default.not-record
