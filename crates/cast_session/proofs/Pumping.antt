@@ -22,7 +22,7 @@ use Rattle.cast_session.specs.Commands.{Heard, nothing, only_bad, and_then, comm
 use Rattle.cast_session.specs.Pushes.{IsCut}
 use Rattle.cast_session.specs.Ahead.{IsFilled}
 use Rattle.cast_session.specs.Handing.{HandedOn, EndedIn, StopsIn, HandsOn}
-use Rattle.cast_session.specs.Incoming.{Ended, PumpedIn, EndsBad}
+use Rattle.cast_session.specs.Incoming.{Ended, PumpedIn, Pumping, EndsBad}
 use Rattle.cast_session.proofs.Fronts.{no_front}
 use Rattle.cast_session.proofs.Heard.{by_what_stands, request_first}
 
@@ -151,16 +151,12 @@ cut_fits bytes cut =
       | of_the_frame said long says part is ↦ (let most = (length_fits bytes said says).most in omega (arith, most, part))
     ]
 
--- the frames that were handed on, and then the bytes that are kept of the next one
-pub record Pumping (before now : Option (List ℕ)) (old new : Option (List Command)) (kept : List ℕ) : Type 0 where
-  pub done : List ℕ
-  pub consumed : Consumes before now (done ++ kept)
-  pub handed : HandedOn old new done
-  pub cut : IsCut kept
+pub no_bytes_are_cut : (kept : List ℕ) → kept ≡ [] → IsCut kept
+no_bytes_are_cut kept none = (4, rw none no_front)
 
 pub begun : (a : Option (List ℕ)) (s : Option (List Command)) (kept : List ℕ) → kept ≡ [] → Pumping a a s s kept
 begun a s kept none =
-    record { done = []; consumed = rw none (consumes_nothing a); handed = handed_nothing s; cut = (4, rw none no_front) }
+    record { done = []; consumed = rw none (consumes_nothing a); handed = handed_nothing s; cut = no_bytes_are_cut kept none }
 
 ended_so : (end : InEnd) (left : Option (List ℕ)) (said : Heard) (commands : List Command) → EndedIn end said commands → Ended end left said commands
 ended_so (ends.Bad e) left said commands is = is

@@ -1,5 +1,5 @@
 -- What a pump of commands did when it ended.
-use Rattle.std.specs.Prelude.{◌≡◌, ◌≢◌, ℕ, List, [], ◌∷◌, Option, Some, None}
+use Rattle.std.specs.Prelude.{◌≡◌, ◌≢◌, ℕ, List, [], ◌∷◌, ◌++◌, Option, Some, None}
 use Rattle.std.specs.Io.KnownBytes.{Consumes, IsAtEnd}
 use Rattle.cast_field.specs.declared.fault.FrameFault.{FrameFault}
 use Rattle.cast_field.specs.declared.fault.FrameFault.TheVariants.{NoMemory}
@@ -10,6 +10,8 @@ use Rattle.cast_session.specs.declared.incoming.InEnd.{InEnd}
 use Rattle.cast_session.specs.declared.incoming.InEnd.TheVariants as ends
 use Rattle.cast_session.specs.Known.{Adds}
 use Rattle.cast_session.specs.Commands.{Heard, commands_of}
+use Rattle.cast_session.specs.Handing.{HandedOn}
+use Rattle.cast_session.specs.Pushes.{IsCut}
 
 -- which of the commands that were heard were handed on, and what is left of the reader
 abbrev pub Ended : InEnd → Option (List ℕ) → Heard → List Command → Type 0
@@ -26,6 +28,23 @@ pub record PumpedIn (before left : Option (List ℕ)) (old new : Option (List Co
   pub handed : List Command
   pub taken : Adds old new handed
   pub ended : Ended end left (commands_of read) handed
+
+-- the frames that were handed on, and then the bytes that are kept of the next one
+pub record Pumping (before now : Option (List ℕ)) (old new : Option (List Command)) (kept : List ℕ) : Type 0 where
+  pub done : List ℕ
+  pub consumed : Consumes before now (done ++ kept)
+  pub handed : HandedOn old new done
+  pub cut : IsCut kept
+
+-- the same where it may have ended
+abbrev pub PumpsTo : Option (List ℕ) → Option (List ℕ) → Option (List Command) → Option (List Command) → List ℕ → Option InEnd → Type 0
+PumpsTo before now old new kept None = Pumping before now old new kept
+PumpsTo before now old new kept (Some end) = PumpedIn before now old new end
+
+-- what was pumped up to here, from wherever it began, goes on to there
+abbrev pub GoesOn : Option (List ℕ) → Option (List ℕ) → Option (List Command) → Option (List Command) → List ℕ → List ℕ → Option InEnd → Type 0
+GoesOn here there taken taken_there kept kept_there end =
+    (before : Option (List ℕ)) (old : Option (List Command)) → Pumping before here old taken kept → PumpsTo before there old taken_there kept_there end
 
 -- `Bad` was handed on for this fault of the bytes, or nothing for want of memory
 abbrev pub EndsBad : Option (List Command) → Option (List Command) → FrameFault → InEnd → Type 0

@@ -1,7 +1,9 @@
-ghost use Rattle.std.specs.Prelude.{◌≡◌};
-ghost use Rattle.cast_device.specs.Watching.{HasFailed, HasFailedOrLasted};
+ghost use Rattle.std.specs.Prelude.{◌≡◌, ◌↔◌, Some, None};
+ghost use Rattle.cast_device.specs.Watching.{HasFailed, HasFailedOrLasted, calls_of};
+ghost use Rattle.cast_session.specs.Ahead.{bytes_of};
 ghost use Rattle.cast_session.specs.Handing.{HandsOn};
-ghost use Rattle.cast_session.specs.Incoming.{EndsBad, PumpedIn};
+ghost use Rattle.cast_session.specs.Incoming.{EndsBad, GoesOn, PumpedIn};
+ghost use Rattle.cast_session.specs.Pushes.{IsCut};
 
 use crate::ahead::{Ahead, Filled};
 use crate::sink::Sink;
@@ -11,6 +13,7 @@ use cast_field::FrameFault;
 use cast_message::{ClientFrame, Command};
 use std::alloc::Global;
 use std::io::Read;
+use std::sync::Wait;
 
 /// What ended the commands of a program.
 #[derive(Clone, Copy, Debug, PartialEq, Eq)]
@@ -37,21 +40,60 @@ pub fn pump_in<R: Read, S: Sink>(alloc: Global, reader: &mut Watched<R>, sink: &
     ensures fault { result ≡ InEnd.ReadFault → HasFailedOrLasted reader.new }
 {
     let mut ahead = Ahead::new(alloc);
+    match pump_turns(alloc, &mut ahead, reader, sink) {
+        Some(end) => end,
+        None => InEnd::ReadFault,
+    }
+}
+
+/// Reads the frames of a program as `pump_in` does, however many calls of `read` that takes.
+pub fn pump_on<C: Wait, R: Read, S: Sink>(
+    rt: &C,
+    alloc: Global,
+    reader: &mut Watched<R>,
+    sink: &mut S,
+) -> InEnd
+    ensures pumped { PumpedIn (R.remaining reader.old.device) (R.remaining reader.new.device) (S.taken sink.old) (S.taken sink.new) result }
+    // The reader's fault comes exactly where a call failed.
+    ensures failed { HasFailed reader.new ↔ result ≡ InEnd.ReadFault }
+{
+    let mut ahead = Ahead::new(alloc);
+    for _ in rt.forever() {
+        if let Some(end) = pump_turns(alloc, &mut ahead, reader, sink) {
+            return end;
+        }
+    }
+    unreachable!()
+}
+
+// Makes `PATIENCE` calls of `read`, unless this ends the commands before. What is kept of the next frame stays in `ahead`.
+fn pump_turns<R: Read, S: Sink>(
+    alloc: Global,
+    ahead: &mut Ahead,
+    reader: &mut Watched<R>,
+    sink: &mut S,
+) -> Option<InEnd>
+    requires cut { IsCut (bytes_of ahead.old) }
+    // Whatever was pumped before goes on so.
+    ensures pumped { GoesOn (R.remaining reader.old.device) (R.remaining reader.new.device) (S.taken sink.old) (S.taken sink.new) (bytes_of ahead.old) (bytes_of ahead.new) result }
+    ensures failed { HasFailed reader.new ↔ result ≡ Some InEnd.ReadFault }
+    ensures lasted { result ≡ None → calls_of reader.new ≡ PATIENCE }
+{
     reader.begin();
     for _turn in 0..PATIENCE {
         if ahead.make_room().is_err() {
-            return InEnd::NoMemory;
+            return Some(InEnd::NoMemory);
         }
         match ahead.fill(reader) {
             Filled::More => match hand_on(alloc, ahead.bytes(), sink) {
                 Ok(count) => ahead.drop_front(count),
-                Err(end) => return end,
+                Err(end) => return Some(end),
             },
-            Filled::End => return InEnd::End,
-            Filled::ReadFault => return InEnd::ReadFault,
+            Filled::End => return Some(InEnd::End),
+            Filled::ReadFault => return Some(InEnd::ReadFault),
         }
     }
-    InEnd::ReadFault
+    None
 }
 
 // Hands on the commands of the whole frames at the front of the bytes: how many bytes these have, or what ended it.

@@ -20,6 +20,6 @@ mod sink;
 
 pub use cast_device::{PATIENCE, Watched};
 pub use client::{PushFault, read_push, write_command};
-pub use incoming::{InEnd, pump_in};
+pub use incoming::{InEnd, pump_in, pump_on};
 pub use outgoing::{OutFault, pump_out, spell_out};
 pub use sink::Sink;

@@ -4,7 +4,7 @@ use cast_device::Watched;
 use cast_edge::{Client, Session};
 use cast_events::{Asked, Event, Fault, Outs, Taken};
 use cast_message::{Command, Request};
-use cast_session::{InEnd, Sink, pump_in};
+use cast_session::{InEnd, Sink, pump_on};
 use cast_shared::{Came, Pace, Patience, SharedTable};
 use cast_types::{NoMemory, Refusal};
 use std::alloc::{AllocError, Global};
@@ -252,7 +252,7 @@ pub fn run_reader<T: SharedTable, R: Wait + Clock>(
     };
     let mut source = Watched::new(source);
     let mut sink = Serving { rt, reader };
-    let end = pump_in(alloc, &mut source, &mut sink);
+    let end = pump_on(rt, alloc, &mut source, &mut sink);
     reader.lock(rt).flush(rt);
     match end {
         InEnd::Bad(_) => wait_for_close(&client.stream),
