@@ -77,6 +77,11 @@ class Program(raw.Session):
         self.socket.sendall(b"".join(castd.codec.frame_of(it, tag) for tag, it in enumerate(commands)))
 
 
+def bundle(*frames: bytes, head: bytes = b"CB\1\0") -> bytes:
+    """A datagram of these frames, each behind its length."""
+    return head + b"".join(struct.pack(">H", len(it)) + it for it in frames)
+
+
 def cast(payload: bytes = b"hi") -> castd.codec.Cast:
     return castd.codec.Cast(1, castd.CAUSAL, payload)
 
@@ -343,6 +348,29 @@ class Datagrams(DaemonCase):
         _, *words = daemon.ask("datagrams").split()
         return {name: int(count) for name, count in zip(words[::2], words[1::2])}
 
+    def test_each_frame_of_a_bundle_is_served(self):
+        daemon = self.serving(self.setup_of(2, {"number": 1, "resend": 60_000}))
+        program, site = self.member(), self.site(2)
+        site.enter(2)
+        self.assertEqual(program.kinds(1), [View])
+        program.write(*[cast()] * 4)
+        acks = [site.frame(ACK, site.hear(DATA)[ID]) for _ in range(4)]
+        whole = bundle(*acks)
+        bad = (
+            *(bundle(*acks, head=head) for head in (b"CB\0\0", b"CB\2\0", b"CB\1\1")),
+            *(bundle(), b"CB", b"CB\1", whole[:-1], whole + b"\0", whole[:4] + b"\0" + whole[4:]),
+        )
+        for datagram in bad:
+            site.socket.sendto(datagram, self.address(1))
+        wait_until(lambda: self.counts(daemon)["undecoded"] == len(bad), "they are refused")
+        self.assertRegex(daemon.ask("show 1"), " held 4 ")
+        # One of them is no frame, and one is of another site.
+        site.socket.sendto(bundle(acks[0], b"garbage", *acks[1:], site.frame(ACK, acks[0][7:], 3), b""), self.address(1))
+        wait_until(lambda: " held 0 " in daemon.ask("show 1"), "the others are served")
+        wait_until(lambda: self.counts(daemon)["undecoded"] == len(bad) + 3, "they are counted")
+        self.assertEqual(daemon.ask("stop"), "ok")
+        self.assert_ends(daemon, 0)
+
     def test_a_message_that_seems_lost_is_sent_again(self):
         # By the rules nothing is sent again for a minute.
         daemon = self.serving(self.setup_of(2, {"number": 1, "resend": 60_000}))
@@ -431,9 +459,12 @@ class Site:
         self.socket.bind(case.address(number))
         self.socket.settimeout(PATIENCE)
 
+    def frame(self, kind: int, fields: bytes, number: int | None = None) -> bytes:
+        """A frame of domain 1, in the name of another site if one is named."""
+        return struct.pack(">2s3BH", b"CD", 1, kind, 1, number or self.number) + fields
+
     def say(self, kind: int, fields: bytes, number: int | None = None) -> None:
-        """Sends a frame of domain 1, in the name of another site if one is named."""
-        self.socket.sendto(struct.pack(">2s3BH", b"CD", 1, kind, 1, number or self.number) + fields, self.daemon)
+        self.socket.sendto(self.frame(kind, fields, number), self.daemon)
 
     def hear(self, kind: int) -> bytes:
         """The next datagram of this type."""
@@ -541,6 +572,17 @@ class Console(DaemonCase):
             events, kept = map(int, found.groups())
             self.assertEqual((events - 1) % MOST_TRACE + 1, kept)
             seen.add(events > MOST_TRACE)
+        self.assert_stops(daemon)
+
+    def test_a_trace_with_many_bytes_of_payloads_is_trimmed(self):
+        daemon = self.serving()
+        program, events, kept = self.member(), 0, 0
+        while events == kept:
+            program.write(*[cast(bytes(LARGEST))] * 16)
+            self.assertEqual(program.kinds(32).count(Deliver), 16)
+            found = re.fullmatch(r"events (\d+) kept (\d+)", daemon.ask("trace"))
+            events, kept = map(int, found.groups())
+            self.assertLessEqual(events, MOST_TRACE)
         self.assert_stops(daemon)
 
     def test_datagrams_and_what_is_not_recorded_yet_are_counted(self):

@@ -5,6 +5,7 @@ ghost use Rattle.cast_table.specs.Owns.{are_distinct, have_rising_groups};
 use crate::lanes::Lanes;
 use crate::share::SpareCount;
 use crate::table::LockedTable;
+use crate::trimmer::Trimmer;
 use cast_config::{Cause, ConfigFault, Field, Setup, complain};
 use cast_device::{Watched, tell};
 use cast_pool::{Kept, can_keep};
@@ -61,7 +62,8 @@ where
     let tape = Tape::new(alloc);
     let recorded = record.is_some().then_some(&tape);
     let spare = SpareCount::new(all, PARTS);
-    let table = LockedTable::new(alloc, kept, lanes, spare, recorded);
+    let trimmer = Trimmer::new(recorded, rt);
+    let table = LockedTable::new(alloc, kept, lanes, spare, trimmer);
     cast_serve::serve(
         rt, alloc, setup, &table, &tape, workers, record, console, out, err, log,
     )

@@ -1,4 +1,4 @@
-//! Lanes: of the threads that serve one domain, one at a time waits for the table.
+//! Lanes: of the threads that serve one domain, one at a time waits for the table, and of the lanes, one at a time is next.
 use cast_events::DomainConfig;
 use cast_types::{DomainNo, NoMemory};
 use std::alloc::Global;
@@ -12,10 +12,12 @@ struct Lane {
 }
 
 /// A lock for each domain, which a thread takes before that of the table. So of the threads that serve a domain, however many, one is
-/// among those that wait for the table.
+/// among those that wait for the table. Of those one is next: it alone waits at the table's lock, which may be taken again by whoever
+/// is first, and so again and again by the threads of one domain.
 #[derive(Drop)]
 pub struct Lanes {
     list: Vec<Lane>,
+    next: Mutex<()>,
 }
 
 impl Lanes {
@@ -28,7 +30,15 @@ impl Lanes {
                 lock: Mutex::new(()),
             })?;
         }
-        Ok(Lanes { list })
+        Ok(Lanes {
+            list,
+            next: Mutex::new(()),
+        })
+    }
+
+    /// Waits until nobody else is next, and is next until the guard is dropped.
+    pub fn be_next<R: Wait>(&self, rt: &R) -> MutexGuard<'_, ()> {
+        self.next.lock(rt)
     }
 
     /// Waits until nobody is in the lane of a domain, and enters it. `None` if no domain is named, or there is none of this number.

@@ -2,8 +2,9 @@
 //!
 //! A `LockedTable` is the `SharedTable` of the threads: it serves by the calls of `cast_pool` and
 //! `cast_console` under the lock. A thread that serves an event of a domain takes the lane of the
-//! domain first (`Lanes`), so that a tenant with many programs has one place at the lock. `serve`
-//! makes a `LockedTable` and runs the threads. Promised: every call is safe.
+//! domain first (`Lanes`), so that a tenant with many programs has one place at the lock. A
+//! `Trimmer` keeps the trace short. `serve` makes a `LockedTable` and runs the threads. Promised:
+//! every call is safe.
 #![tactic(auto)]
 
 mod daemon;
@@ -11,6 +12,7 @@ mod file;
 mod lanes;
 mod share;
 mod table;
+mod trimmer;
 
 pub use cast_edge::Folder;
 pub use daemon::serve;

@@ -1,26 +1,28 @@
 //! The table behind its lock.
 use crate::lanes::Lanes;
 use crate::share::{CountShare, SpareCount};
+use crate::trimmer::{Trimmer, payload_len};
 use cast_console::{Answer, Line, LineFault, answer, parse};
 use cast_edge::acknowledged_in;
 use cast_events::{Asked, Event, Fault, Outs, Raw, Told};
 use cast_pool::{Channels, Done, Gate, Job, Kept, Outcome, Task, decode, work};
-use cast_shared::{CUT, Came, Instruction, Pace, Reply, SharedTable, Tape, Turn};
+use cast_shared::{Came, Instruction, Pace, Reply, SharedTable, Turn};
 use cast_types::{DomainNo, SiteNo, Uid};
 use crossbeam_channel::{Receiver, Sender};
 use std::alloc::Global;
+use std::rt::Clock;
 use std::sync::ledger::Ledger;
 use std::sync::{Mutex, MutexGuard, Wait};
 
-/// The table of a daemon behind its lock, with the lanes of its domains, the part of the count that no thread has, and the tape if the
-/// daemon is recorded.
+/// The table of a daemon behind its lock, with the lanes of its domains, the part of the count that no thread has, and what trims the
+/// trace.
 #[derive(Drop)]
-pub struct LockedTable<'a, L: Ledger> {
+pub struct LockedTable<'a, L: Ledger, C> {
     alloc: Global,
     kept: Mutex<Kept<L>>,
     lanes: Lanes,
     spare: Mutex<SpareCount<L>>,
-    tape: Option<&'a Tape>,
+    trimmer: Trimmer<'a, C>,
 }
 
 // The domain that a job concerns, if it is one alone.
@@ -31,38 +33,17 @@ fn domain_of(job: &Job) -> Option<DomainNo> {
     }
 }
 
-// Cuts the events off the trace. False if there was no memory for that.
-fn cut<L: Ledger, R: Wait>(rt: &R, tape: &Tape, kept: &mut Kept<L>) -> bool {
-    let events = kept.events();
-    let Ok(entries) = kept.cut(tape.room(rt)) else {
-        return false;
-    };
-    if !entries.is_empty() {
-        let before = events.saturating_sub(entries.len() as u64);
-        tape.add(rt, before, entries);
-    }
-    true
-}
-
-// Cuts the events off the trace, if they are recorded and there are many.
-fn cut_many<L: Ledger, R: Wait>(rt: &R, tape: Option<&Tape>, kept: &mut Kept<L>) {
-    if let Some(tape) = tape
-        && kept.trace_len() >= CUT
-    {
-        cut(rt, tape, kept);
-    }
-}
-
 // Does a job. A trace that is recorded is cut, and not trimmed, so that none of its events is lost.
-fn complete<L: Ledger, R: Wait>(
+fn complete<L: Ledger, C: Clock, R: Wait>(
     rt: &R,
-    tape: Option<&Tape>,
+    trimmer: &Trimmer<'_, C>,
     kept: &mut Kept<L>,
     share: &mut CountShare<L>,
     job: Job,
 ) -> Done {
-    let done = share.serve(kept, job, tape.is_none());
-    cut_many(rt, tape, kept);
+    let len = payload_len(&job);
+    let done = share.serve(kept, job, trimmer.may_lose());
+    trimmer.served(rt, kept, len);
     done
 }
 
@@ -82,24 +63,24 @@ fn due<L: Ledger>(paces: &[Pace], kept: &Kept<L>, domain: Option<DomainNo>) -> u
 }
 
 // Does a job, and answers the place of the pace whose readers may go on.
-fn serve_and_look<L: Ledger, R: Wait>(
+fn serve_and_look<L: Ledger, C: Clock, R: Wait>(
     rt: &R,
-    tape: Option<&Tape>,
+    trimmer: &Trimmer<'_, C>,
     kept: &mut Kept<L>,
     share: &mut CountShare<L>,
     job: Job,
     paces: &[Pace],
 ) -> (Done, usize) {
     let domain = domain_of(&job);
-    let done = complete(rt, tape, kept, share, job);
+    let done = complete(rt, trimmer, kept, share, job);
     let due = due(paces, kept, domain);
     (done, due)
 }
 
 // Does the job of a cast, unless its program has to wait: then the job comes back.
-fn cast_and_look<L: Ledger, R: Wait>(
+fn cast_and_look<L: Ledger, C: Clock, R: Wait>(
     rt: &R,
-    tape: Option<&Tape>,
+    trimmer: &Trimmer<'_, C>,
     kept: &mut Kept<L>,
     share: &mut CountShare<L>,
     job: Job,
@@ -112,7 +93,7 @@ fn cast_and_look<L: Ledger, R: Wait>(
     {
         return Err((job, turn));
     }
-    let done = complete(rt, tape, kept, share, job);
+    let done = complete(rt, trimmer, kept, share, job);
     if let (Some(before), Some(after)) = (before, kept.table().backlog(pace.domain)) {
         pace.note(rt, before, after);
     }
@@ -131,22 +112,20 @@ fn instruction_of<L: Ledger>(kept: &Kept<L>, line: &str) -> Option<Instruction> 
 }
 
 // Answers a line, and cuts the trace as `complete` does.
-fn answer_line<L: Ledger, R: Wait>(
+fn answer_line<L: Ledger, C: Clock, R: Wait>(
     rt: &R,
     alloc: Global,
-    tape: Option<&Tape>,
+    trimmer: &Trimmer<'_, C>,
     kept: &mut Kept<L>,
     share: &mut CountShare<L>,
     told: &Told,
     line: &str,
 ) -> Reply<Done> {
     let Answer { text, done } = answer(alloc, kept, &mut share.worked, told, line);
-    if let Some(done) = &done
-        && tape.is_none()
-    {
-        kept.let_go(done);
+    if let Some(done) = &done {
+        trimmer.let_go(kept, done);
     }
-    cut_many(rt, tape, kept);
+    trimmer.cut_many(rt, kept);
     Reply {
         text,
         done,
@@ -175,51 +154,61 @@ fn came_of(alloc: Global, done: Done) -> Came {
 
 // Has a worker go by the lanes. Cuts the trace after what it served, if it is recorded and has many events.
 #[derive(Drop)]
-struct WorkerGate<'a, R, L: Ledger> {
+struct WorkerGate<'a, R, L: Ledger, C> {
     rt: &'a R,
-    tape: Option<&'a Tape>,
+    trimmer: &'a Trimmer<'a, C>,
     kept: &'a Mutex<Kept<L>>,
     lanes: &'a Lanes,
 }
 
-impl<'a, R: Wait, L: Ledger> Gate for WorkerGate<'a, R, L> {
-    type Pass = Option<MutexGuard<'a, ()>>;
+impl<'a, R: Wait, L: Ledger, C: Clock> Gate for WorkerGate<'a, R, L, C> {
+    // The lane of the domain, and that the worker is next.
+    type Pass = (Option<MutexGuard<'a, ()>>, MutexGuard<'a, ()>);
 
-    fn decoded(&self, _number: u64, job: &Job) -> Option<MutexGuard<'a, ()>> {
-        self.lanes.enter(self.rt, domain_of(job))
+    fn decoded(&self, _number: u64, job: &Job) -> Self::Pass {
+        let lane = self.lanes.enter(self.rt, domain_of(job));
+        (lane, self.lanes.be_next(self.rt))
     }
 
     fn served(&self, _number: u64) {}
 
     // What came of the job is on its way: nobody waits for the table on account of this.
     fn done(&self, _number: u64) {
-        if self.tape.is_some() {
-            cut_many(self.rt, self.tape, &mut self.kept.lock(self.rt));
+        if !self.trimmer.may_lose() {
+            let _next = self.lanes.be_next(self.rt);
+            self.trimmer.cut_many(self.rt, &mut self.kept.lock(self.rt));
         }
     }
 }
 
-impl<'a, L: Ledger> LockedTable<'a, L> {
-    /// A table with the whole count, of which no thread has a share yet, and the lanes of its domains. Events that are cut off its trace
-    /// go to the tape, if there is one.
+impl<'a, L: Ledger, C: Clock> LockedTable<'a, L, C> {
+    /// A table with the whole count, of which no thread has a share yet, the lanes of its domains, and what trims its trace.
     pub fn new(
         alloc: Global,
         kept: Kept<L>,
         lanes: Lanes,
         spare: SpareCount<L>,
-        tape: Option<&'a Tape>,
+        trimmer: Trimmer<'a, C>,
     ) -> Self {
         LockedTable {
             alloc,
             kept: Mutex::new(kept),
             lanes,
             spare: Mutex::new(spare),
-            tape,
+            trimmer,
         }
     }
 }
 
-impl<L: Ledger + Send + Sync> SharedTable for LockedTable<'_, L> {
+impl<L: Ledger, C> LockedTable<'_, L, C> {
+    // Locks the table. Of all threads that want to, one waits at its lock.
+    fn lock<R: Wait>(&self, rt: &R) -> MutexGuard<'_, Kept<L>> {
+        let _next = self.lanes.be_next(rt);
+        self.kept.lock(rt)
+    }
+}
+
+impl<L: Ledger + Send + Sync, C: Clock + Sync> SharedTable for LockedTable<'_, L, C> {
     type Share = CountShare<L>;
 
     type Job = Job;
@@ -257,8 +246,8 @@ impl<L: Ledger + Send + Sync> SharedTable for LockedTable<'_, L> {
     ) -> (Came, usize) {
         let (done, due) = {
             let _lane = self.lanes.enter(rt, domain_of(&job));
-            let mut kept = self.kept.lock(rt);
-            serve_and_look(rt, self.tape, &mut kept, share, job, paces)
+            let mut kept = self.lock(rt);
+            serve_and_look(rt, &self.trimmer, &mut kept, share, job, paces)
         };
         (came_of(self.alloc, done), due)
     }
@@ -273,8 +262,8 @@ impl<L: Ledger + Send + Sync> SharedTable for LockedTable<'_, L> {
     ) -> Result<Came, (Job, Turn)> {
         let served = {
             let _lane = self.lanes.enter(rt, domain_of(&job));
-            let mut kept = self.kept.lock(rt);
-            cast_and_look(rt, self.tape, &mut kept, share, job, pace, asks)
+            let mut kept = self.lock(rt);
+            cast_and_look(rt, &self.trimmer, &mut kept, share, job, pace, asks)
         };
         match served {
             Ok(done) => Ok(came_of(self.alloc, done)),
@@ -297,11 +286,11 @@ impl<L: Ledger + Send + Sync> SharedTable for LockedTable<'_, L> {
         };
         let gate = WorkerGate {
             rt,
-            tape: self.tape,
+            trimmer: &self.trimmer,
             kept: &self.kept,
             lanes: &self.lanes,
         };
-        let may_trim = self.tape.is_none();
+        let may_trim = self.trimmer.may_lose();
         let _ = work(
             rt, self.alloc, &self.kept, worked, may_trim, &mut post, &gate,
         );
@@ -317,8 +306,8 @@ impl<L: Ledger + Send + Sync> SharedTable for LockedTable<'_, L> {
         let Some(line) = line else {
             return unread_line(self.alloc);
         };
-        let mut kept = self.kept.lock(rt);
-        answer_line(rt, self.alloc, self.tape, &mut kept, share, told, line)
+        let mut kept = self.lock(rt);
+        answer_line(rt, self.alloc, &self.trimmer, &mut kept, share, told, line)
     }
 
     fn parts(&self, done: Done) -> (u64, Option<Came>) {
@@ -330,10 +319,6 @@ impl<L: Ledger + Send + Sync> SharedTable for LockedTable<'_, L> {
     }
 
     fn trim<R: Wait>(&self, rt: &R) -> bool {
-        let mut kept = self.kept.lock(rt);
-        match self.tape {
-            Some(tape) => cut(rt, tape, &mut kept),
-            None => kept.trim().is_ok(),
-        }
+        self.trimmer.trim(rt, &mut self.lock(rt))
     }
 }

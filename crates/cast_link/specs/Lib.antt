@@ -1,2 +1,4 @@
 pub mod Wires
 pub mod Links
+pub mod Bundles
+pub mod Laws

@@ -144,7 +144,7 @@ module _ {s t : Option (List Command)} {bytes : List ℕ} {done : ℕ} where
 -- ---- between two calls of `read`
 
 -- a part of a frame has fewer bytes than a frame
-pub cut_fits : (bytes : List ℕ) → IsCut bytes → length bytes < 32768
+pub cut_fits : (bytes : List ℕ) → IsCut bytes → length bytes < 65536
 cut_fits bytes cut =
     elim (more_is_wanting bytes cut.0 cut.1) [
       | of_the_length short is ↦ omega arith

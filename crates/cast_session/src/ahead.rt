@@ -9,7 +9,7 @@ use std::io::{ErrorKind, Read};
 const FIRST_ROOM: usize = 4096;
 
 /// Bytes of the room in the end: more than any frame has.
-pub const ROOM: usize = 32_768;
+pub const ROOM: usize = 65_536;
 
 /// What one call of `read` came to.
 #[derive(Clone, Copy, Debug, PartialEq, Eq)]

@@ -28,7 +28,7 @@ pub enum InEnd {
     NoMemory,
 }
 
-/// Reads the frames of a program to the reader's end, as many bytes at a time as there are, up to 32 KiB. The command of each
+/// Reads the frames of a program to the reader's end, as many bytes at a time as there are, up to 64 KiB. The command of each
 /// whole frame that was read is handed on before it reads further.
 ///
 /// A push in a command's place is the fault `WrongType`. An interrupted call of `read` is made again.

@@ -206,7 +206,7 @@ fn a_room_that_was_filled_grows(rt: HostRuntime) -> Result<(), Fail> {
         room: 455,
         end: InEnd::End,
         count: 455,
-        asked: &[4096, 32_764, 32_768],
+        asked: &[4096, 65_532, 65_536],
     };
     let well = reads(rt.alloc(), &row);
     assert!(rt; well);

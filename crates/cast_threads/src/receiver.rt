@@ -1,11 +1,13 @@
 //! The receiver: it serves the datagrams that come.
 use crate::server::{Server, session_of};
+use bytes::Bytes;
 use cast_edge::{Report, Session, Stables};
 use cast_events::{Asked, Outs};
-use cast_link::{LinkFault, Wire, receive_one};
+use cast_link::{LinkFault, Unpacked, Wire, receive_one, unpack};
 use cast_shared::{Shared, SharedTable};
 use std::rt::Clock;
 use std::sync::Wait;
+use std::sync::atomic::Ordering;
 use std::thread;
 use std::time::Duration;
 
@@ -55,11 +57,26 @@ impl<T: SharedTable> Receiver<'_, T> {
         }
     }
 
-    // Serves a datagram.
-    fn serve<R: Wait>(&mut self, rt: &R, datagram: Asked) {
-        if let Some(outs) = self.server.serve_datagram(rt, datagram) {
+    // Serves a frame.
+    fn serve_frame<R: Wait>(&mut self, rt: &R, frame: Asked) {
+        if let Some(outs) = self.server.serve_frame(rt, frame) {
             self.note(rt, &outs);
             self.send(rt, outs);
+        }
+    }
+
+    // Serves a datagram: one frame, or each frame of a bundle as if it had come alone.
+    fn serve<R: Wait>(&mut self, rt: &R, datagram: Bytes) {
+        let shared = self.server.shared;
+        shared.traffic.received.fetch_add(1, Ordering::SeqCst);
+        match unpack(shared.alloc, datagram) {
+            Ok(Unpacked::Alone(bytes)) => self.serve_frame(rt, Asked::Datagram(bytes)),
+            Ok(Unpacked::Bundle(frames)) => {
+                for bytes in frames.into_vec() {
+                    self.serve_frame(rt, Asked::Datagram(bytes));
+                }
+            }
+            Ok(Unpacked::Bad) | Err(_) => shared.desk.lock(rt).count_unread(rt, 1),
         }
     }
 
@@ -67,7 +84,7 @@ impl<T: SharedTable> Receiver<'_, T> {
     fn serve_waiting<R: Wait>(&mut self, rt: &R) -> bool {
         for _ in 1..GATHERED {
             match self.server.wire.receive_now() {
-                Ok(Some(bytes)) => self.serve(rt, Asked::Datagram(bytes)),
+                Ok(Some(bytes)) => self.serve(rt, bytes),
                 Ok(None) => return false,
                 Err(_) => self.server.shared.desk.lock(rt).count_unread(rt, 1),
             }
@@ -85,7 +102,7 @@ impl<T: SharedTable> Receiver<'_, T> {
 
     // Serves a datagram and those that wait behind it, then writes what they pushed, and sends their Stables. Answers whether there
     // may be more.
-    fn serve_all<R: Wait>(&mut self, rt: &R, first: Asked) -> bool {
+    fn serve_all<R: Wait>(&mut self, rt: &R, first: Bytes) -> bool {
         self.serve(rt, first);
         let is_more = self.serve_waiting(rt);
         self.count_foreign(rt);
@@ -129,7 +146,10 @@ pub fn run_receiver<T: SharedTable, R: Wait + Clock>(
         match receive_one(&mut receiver.server.wire, 0) {
             Ok(raw) => {
                 is_failing = false;
-                if receiver.serve_all(rt, raw.asked) && shared.is_stopping(rt) {
+                let Asked::Datagram(bytes) = raw.asked else {
+                    continue;
+                };
+                if receiver.serve_all(rt, bytes) && shared.is_stopping(rt) {
                     break;
                 }
             }

@@ -78,11 +78,10 @@ impl<'a, T: SharedTable> Server<'a, T> {
         served
     }
 
-    /// Serves the datagram that was received last. `None` if its bytes are no frame of the site that it came from. After an acknowledgement,
-    /// what seems to be lost is sent again.
-    pub fn serve_datagram<R: Wait>(&mut self, rt: &R, datagram: Asked) -> Option<Outs> {
-        self.shared.traffic.received.fetch_add(1, Ordering::SeqCst);
-        let job = self.shared.job(rt, datagram)?;
+    /// Serves a frame of the datagram that was received last. `None` if its bytes are no frame of the site that it came from. After an
+    /// acknowledgement, what seems to be lost is sent again.
+    pub fn serve_frame<R: Wait>(&mut self, rt: &R, frame: Asked) -> Option<Outs> {
+        let job = self.shared.job(rt, frame)?;
         if self.shared.table.sender(&job) != self.wire.sender() {
             self.shared.desk.lock(rt).count_unread(rt, 1);
             return None;
