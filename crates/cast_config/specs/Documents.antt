@@ -1,7 +1,7 @@
 -- What a document gives a site: its tests in order, and the set-up where it passes them.
 use Rattle.std.specs.Prelude.{ℕ, Bool, true, not, ◌&&◌, ◌==◌, if◌then◌else◌, List, [], ◌∷◌, filter, length, map, Option, Some, None, Result, Ok, Err}
 use Rattle.std.specs.List.{list_all, list_any}
-use Rattle.toml.specs.Data.{Data, Members, as_table}
+use Rattle.toml.specs.Data.{Data, Members}
 use Rattle.toml.specs.Parse.{parse_document}
 use Rattle.cast_types.specs.declared.names.SiteNo.{SiteNo}
 use Rattle.cast_types.specs.Names.{site_eq}
@@ -16,11 +16,8 @@ use Rattle.cast_config.specs.declared.fault.Field.TheVariants as field
 use Rattle.cast_config.specs.declared.fault.Cause.TheVariants.{NotToml, Range, Repeated, NotListed}
 use Rattle.cast_config.specs.declared.fault.ConfigFault.{ConfigFault}
 use Rattle.cast_config.specs.Faults.{fault}
-use Rattle.cast_config.specs.Fields.{all_pass, counted, items_of_array, needed, of_kind}
-use Rattle.cast_config.specs.Entries.{domain_of, site_of}
-
-unfoldable pub table_of : Field → Data → Result Members ConfigFault
-table_of f d = of_kind f (as_table d)
+use Rattle.cast_config.specs.Fields.{all_pass, at_field, counted, items_of_array, needed, table_of}
+use Rattle.cast_config.specs.Entries.{bundle_of, domain_of, site_of}
 
 -- the tables at a field of the document, which has to be an array of tables
 unfoldable pub tables_at : Field → Members → Result (List Members) ConfigFault
@@ -102,26 +99,43 @@ configs_of domains = map (λ d. d.config) domains
 abbrev pub sockets_of : List DomainEntry → List DomainSocket
 sockets_of domains = map (λ d. record { domain = d.config.domain; path = d.socket }) domains
 
--- the set-up of a site with these domains, of which there have to be some
-unfoldable pub given : SiteNo → List SiteAddress → List DomainEntry → Result Setup ConfigFault
-given own sites [] = Err (fault field.Domain Range)
-given own sites (d ∷ ds) =
-    Ok (record { config = record { site = own; domains = configs_of (d ∷ ds) }; addresses = sites; sockets = sockets_of (d ∷ ds) })
+-- what is found of the network gives no bundles where it is absent
+abbrev pub bundle_found : Option Data → Result (Option ℕ) ConfigFault
+bundle_found None = Ok None
+bundle_found (Some d) = do
+  members ← table_of field.Network d
+  bundle_of members
 
--- from the tables of sites and domains: first the sites, then how many domains there are, then the domains
-unfoldable pub tables_give : SiteNo → List Members → List Members → Result Setup ConfigFault
-tables_give own site_tables domain_tables = do
+-- the most bytes of a bundle by the network of the document, which may be absent, and is else a table
+unfoldable pub bundle_at : Members → Result (Option ℕ) ConfigFault
+bundle_at members = bundle_found (at_field field.Network members)
+
+-- the set-up of a site with these domains, of which there have to be some, and then with the network of the document
+unfoldable pub given : SiteNo → Members → List SiteAddress → List DomainEntry → Result Setup ConfigFault
+given own members sites [] = Err (fault field.Domain Range)
+given own members sites (d ∷ ds) = do
+  bundle ← bundle_at members
+  Ok (record {
+    config = record { site = own; domains = configs_of (d ∷ ds) };
+    addresses = sites;
+    sockets = sockets_of (d ∷ ds);
+    bundle = bundle;
+  })
+
+-- from the tables of sites and domains: first the sites, then how many domains there are, then the domains, then the network
+unfoldable pub tables_give : SiteNo → Members → List Members → List Members → Result Setup ConfigFault
+tables_give own members site_tables domain_tables = do
   sites ← sites_of own site_tables
   few ← counted field.Domain 16 (length domain_tables)
   domains ← domains_of sites domain_tables
-  given own sites (own_domains own domains)
+  given own members sites (own_domains own domains)
 
 -- what a document gives a site
 unfoldable pub document_gives : SiteNo → Members → Result Setup ConfigFault
 document_gives own members = do
   site_tables ← tables_at field.Site members
   domain_tables ← tables_at field.Domain members
-  tables_give own site_tables domain_tables
+  tables_give own members site_tables domain_tables
 
 -- the document that a text is
 abbrev pub parsed : Option Members → Result Members ConfigFault

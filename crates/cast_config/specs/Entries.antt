@@ -1,5 +1,5 @@
--- What a site's table and a domain's table say, field by field.
-use Rattle.std.specs.Prelude.{ℕ, List, map, Result, Ok}
+-- What a site's table, a domain's table and the table of the network say, field by field.
+use Rattle.std.specs.Prelude.{ℕ, if◌then◌else◌, List, map, Option, Some, None, Result, Ok}
 use Rattle.toml.specs.Data.{Members}
 use Rattle.cast_types.specs.declared.names.SiteNo.{SiteNo}
 use Rattle.cast_types.specs.declared.names.GroupNo.{GroupNo}
@@ -7,9 +7,9 @@ use Rattle.cast_quota.specs.declared.quotas.Quotas.{Quotas}
 use Rattle.cast_script.specs.WordReadings.{◌>>=◌}
 use Rattle.cast_config.specs.declared.domains.DomainEntry.{DomainEntry}
 use Rattle.cast_config.specs.declared.sites.SiteAddress.{SiteAddress}
-use Rattle.cast_config.specs.declared.fault.Field.TheVariants.{Number, Address, Home, Sites, Groups, Socket, Sessions, Held, Outbox, Resend}
+use Rattle.cast_config.specs.declared.fault.Field.TheVariants.{Number, Address, Home, Sites, Groups, Socket, Sessions, Held, Outbox, Resend, Bundle, Datagram}
 use Rattle.cast_config.specs.declared.fault.ConfigFault.{ConfigFault}
-use Rattle.cast_config.specs.Fields.{number_at, number_at_or, numbers_at, text_at}
+use Rattle.cast_config.specs.Fields.{boolean_at, number_at, number_at_or, numbers_at, text_at}
 
 -- a site with the text of its address
 unfoldable pub site_of : Members → Result SiteAddress ConfigFault
@@ -46,3 +46,10 @@ domain_of members = do
     config = record { domain = record { 0 = n }; home = record { 0 = home }; sites = sites_from sites; groups = groups_from groups; quotas = quotas };
     socket = path;
   })
+
+-- the most bytes of a bundle, if frames are to share datagrams; the number is tested in any case
+unfoldable pub bundle_of : Members → Result (Option ℕ) ConfigFault
+bundle_of members = do
+  bundle ← boolean_at Bundle members
+  most ← number_at_or Datagram 8972 512 60000 members
+  Ok (if bundle then Some most else None)

@@ -20,6 +20,9 @@ field_text field.Sessions = codes "sessions"
 field_text field.Held = codes "held"
 field_text field.Outbox = codes "outbox"
 field_text field.Resend = codes "resend"
+field_text field.Network = codes "network"
+field_text field.Bundle = codes "bundle"
+field_text field.Datagram = codes "datagram"
 
 abbrev pub cause_text : Cause → List ℕ
 cause_text cause.NotToml = codes "not toml"

@@ -1,7 +1,7 @@
--- What a field of a table says: a number within limits, a text, a list of numbers.
-use Rattle.std.specs.Prelude.{ℕ, ℤ, pos, negsuc, ◌&&◌, ◌==◌, nat_lt, nat_le, if◌then◌else◌, List, [], ◌∷◌, length, option_map, Option, Some, None, Result, Ok, Err}
+-- What a field of a table says: a boolean, a number within limits, a text, a table, a list of numbers.
+use Rattle.std.specs.Prelude.{ℕ, ℤ, pos, negsuc, Bool, false, ◌&&◌, ◌==◌, nat_lt, nat_le, if◌then◌else◌, List, [], ◌∷◌, length, option_map, Option, Some, None, Result, Ok, Err}
 use Rattle.std.specs.Ordering.{nat_cmp}
-use Rattle.toml.specs.Data.{Data, Items, no_items, item, Members, as_array, as_integer, as_str, get_member}
+use Rattle.toml.specs.Data.{Data, Items, no_items, item, Members, as_array, as_bool, as_integer, as_str, as_table, get_member}
 use Rattle.cast_types.specs.Sets.{set_of}
 use Rattle.cast_script.specs.WordReadings.{◌>>=◌, each}
 use Rattle.cast_config.specs.declared.fault.Field.{Field}
@@ -47,6 +47,12 @@ number_of f least most d = do
 
 unfoldable pub text_of : Field → Data → Result (List ℕ) ConfigFault
 text_of f d = of_kind f (as_str d)
+
+unfoldable pub boolean_of : Field → Data → Result Bool ConfigFault
+boolean_of f d = of_kind f (as_bool d)
+
+unfoldable pub table_of : Field → Data → Result Members ConfigFault
+table_of f d = of_kind f (as_table d)
 
 unfoldable pub items_of_array : Field → Data → Result (List Data) ConfigFault
 items_of_array f d = of_kind f (option_map list_of (as_array d))
@@ -97,3 +103,11 @@ unfoldable pub numbers_at : Field → ℕ → Members → Result (List ℕ) Conf
 numbers_at f most members = do
   d ← needed f members
   numbers_of f most d
+
+abbrev pub boolean_or_false : Field → Option Data → Result Bool ConfigFault
+boolean_or_false f None = Ok false
+boolean_or_false f (Some d) = boolean_of f d
+
+-- a boolean at a field that may be absent, and is then false
+unfoldable pub boolean_at : Field → Members → Result Bool ConfigFault
+boolean_at f members = boolean_or_false f (at_field f members)

@@ -28,6 +28,10 @@ pub enum Field {
     Held,
     Outbox,
     Resend,
+    /// The table of the network.
+    Network,
+    Bundle,
+    Datagram,
 }
 
 impl Field {
@@ -49,6 +53,9 @@ impl Field {
             Field::Held => "held",
             Field::Outbox => "outbox",
             Field::Resend => "resend",
+            Field::Network => "network",
+            Field::Bundle => "bundle",
+            Field::Datagram => "datagram",
         }
     }
 }

@@ -5,7 +5,7 @@ ghost use Rattle.toml.specs.View.{items_view, table_view, view};
 ghost use Rattle.cast_types.specs.Sets.{set_of};
 ghost use Rattle.cast_script.specs.WordReadings.{each};
 ghost use Rattle.cast_config.specs.Faults.{Gives, GivesAs, IsSeen, fault};
-ghost use Rattle.cast_config.specs.Fields.{all_pass, at_field, counted, integer_of, items_of_array, list_of, needed, number_at, number_at_or, number_of, numbers_at, numbers_of, rising, text_at, text_of, within};
+ghost use Rattle.cast_config.specs.Fields.{all_pass, at_field, boolean_at, boolean_of, counted, integer_of, items_of_array, list_of, needed, number_at, number_at_or, number_of, numbers_at, numbers_of, rising, table_of, text_at, text_of, within};
 ghost use Rattle.cast_config.specs.Documents.{are_distinct};
 
 use crate::fault::{Cause, ConfigFault, Field};
@@ -20,8 +20,8 @@ pub fn fault(field: Field, cause: Cause) -> ConfigFault
     ConfigFault { field, cause }
 }
 
-// What stands at a field of a table.
-fn find(table: &Table, field: Field) -> Option<&Value>
+/// What stands at a field of a table.
+pub fn find(table: &Table, field: Field) -> Option<&Value>
     ensures { option_map (λ v. view v.now) result ≡ at_field field (table_view table.now) }
 {
     table.get(field.name())
@@ -113,6 +113,39 @@ pub fn text_at(table: &Table, field: Field) -> Result<&str, ConfigFault>
     ensures { IsSeen (λ text. text.now) result (text_at field (table_view table.now)) }
 {
     text_of(require(table, field)?, field)
+}
+
+/// A table.
+#[tactic(auto, unfolding(crate::specs::Fields::table_of))]
+pub fn table_of(value: &Value, field: Field) -> Result<&Table, ConfigFault>
+    ensures { IsSeen (λ table. table_view table.now) result (table_of field (view value.now)) }
+{
+    match value.as_table() {
+        Some(table) => Ok(table),
+        None => Err(fault(field, Cause::WrongKind)),
+    }
+}
+
+// A boolean.
+#[tactic(auto, unfolding(crate::specs::Fields::boolean_of))]
+fn boolean_of(value: &Value, field: Field) -> Result<bool, ConfigFault>
+    ensures { result ≡ boolean_of field (view value.now) }
+{
+    match value.as_bool() {
+        Some(truth) => Ok(truth),
+        None => Err(fault(field, Cause::WrongKind)),
+    }
+}
+
+/// The boolean at a field of a table; false where the field is absent.
+#[tactic(auto, unfolding(crate::specs::Fields::boolean_at))]
+pub fn boolean_at(table: &Table, field: Field) -> Result<bool, ConfigFault>
+    ensures { result ≡ boolean_at field (table_view table.now) }
+{
+    match find(table, field) {
+        Some(value) => boolean_of(value, field),
+        None => Ok(false),
+    }
 }
 
 /// The items of an array.

@@ -8,6 +8,7 @@
 mod domains;
 mod fault;
 mod fields;
+mod network;
 mod setup;
 mod sites;
 mod text;

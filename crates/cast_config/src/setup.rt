@@ -2,12 +2,14 @@ ghost use Rattle.std.specs.Prelude.{◌≡◌, IfOk, map};
 ghost use Rattle.toml.specs.View.{table_view, view};
 ghost use Rattle.toml.specs.Parse.{parse_document};
 ghost use Rattle.cast_script.specs.WordReadings.{each};
-ghost use Rattle.cast_config.specs.Faults.{Gives, GivesAs, IsSeen};
-ghost use Rattle.cast_config.specs.Documents.{configs_of, document_gives, given, parsed, setup_of, sockets_of, table_of, tables_at, tables_give};
+ghost use Rattle.cast_config.specs.Faults.{Gives, GivesAs};
+ghost use Rattle.cast_config.specs.Fields.{table_of};
+ghost use Rattle.cast_config.specs.Documents.{configs_of, document_gives, given, parsed, setup_of, sockets_of, tables_at, tables_give};
 
 use crate::domains::{DomainEntry, domains_of, own_domains};
 use crate::fault::{Cause, ConfigFault, Field};
-use crate::fields::{check_count, fault, items_of, require};
+use crate::fields::{check_count, fault, items_of, require, table_of};
+use crate::network::bundle_at;
 use crate::sites::{SiteAddress, sites_of};
 use crate::text::Text;
 use cast_events::{Config, DomainConfig};
@@ -33,17 +35,8 @@ pub struct Setup {
     pub addresses: List<SiteAddress>,
     /// The socket of each domain of the configuration, in the same order.
     pub sockets: List<DomainSocket>,
-}
-
-// A value that is a table.
-#[tactic(auto, unfolding(crate::specs::Documents::table_of))]
-fn table_of(value: &Value, field: Field) -> Result<&Table, ConfigFault>
-    ensures { IsSeen (λ table. table_view table.now) result (table_of field (view value.now)) }
-{
-    match value.as_table() {
-        Some(table) => Ok(table),
-        None => Err(fault(field, Cause::WrongKind)),
-    }
+    /// The most bytes of a bundle, if frames are to share datagrams.
+    pub bundle: Option<u32>,
 }
 
 // Values that are tables.
@@ -109,15 +102,16 @@ fn sockets_of(alloc: Global, domains: &[DomainEntry]) -> Result<List<DomainSocke
     Ok(sockets)
 }
 
-// The set-up of a site with these domains, of which there have to be some.
+// The set-up of a site with these domains, of which there have to be some, and with the network of the document.
 #[tactic(auto, unfolding(crate::specs::Documents::given))]
 fn build_setup(
     alloc: Global,
     own: SiteNo,
+    document: &Table,
     addresses: List<SiteAddress>,
     domains: &[DomainEntry],
 ) -> Result<Setup, ConfigFault>
-    ensures { Gives result (given own addresses domains.now) }
+    ensures { Gives result (given own (table_view document.now) addresses domains.now) }
 {
     if domains.is_empty() {
         return Err(fault(Field::Domain, Cause::Range));
@@ -129,24 +123,26 @@ fn build_setup(
         },
         addresses,
         sockets: sockets_of(alloc, domains)?,
+        bundle: bundle_at(document)?,
     })
 }
 
-// The set-up that these tables of sites and of domains give a site.
+// The set-up that these tables of sites and of domains, and the network of their document, give a site.
 #[tactic(auto, unfolding(crate::specs::Documents::tables_give))]
 fn tables_give(
     alloc: Global,
     own: SiteNo,
+    document: &Table,
     site_tables: &[&Table],
     domain_tables: &[&Table],
 ) -> Result<Setup, ConfigFault>
-    ensures { Gives result (tables_give own (map (λ t. table_view t.now) site_tables.now) (map (λ t. table_view t.now) domain_tables.now)) }
+    ensures { Gives result (tables_give own (table_view document.now) (map (λ t. table_view t.now) site_tables.now) (map (λ t. table_view t.now) domain_tables.now)) }
 {
     let sites = sites_of(alloc, site_tables, own)?;
     check_count(domain_tables.len(), Field::Domain, MAX_DOMAINS)?;
     let domains = domains_of(alloc, domain_tables, sites.as_slice())?;
     let domains = own_domains(alloc, domains, own)?;
-    build_setup(alloc, own, sites, domains.as_slice())
+    build_setup(alloc, own, document, sites, domains.as_slice())
 }
 
 // The set-up that a document gives a site.
@@ -156,7 +152,7 @@ fn document_gives(alloc: Global, own: SiteNo, document: &Table) -> Result<Setup,
 {
     let sites = tables_at(alloc, document, Field::Site)?;
     let domains = tables_at(alloc, document, Field::Domain)?;
-    tables_give(alloc, own, &sites, &domains)
+    tables_give(alloc, own, document, &sites, &domains)
 }
 
 /// Reads the configuration of a daemon at a site from the text of a TOML document.
@@ -165,8 +161,9 @@ fn document_gives(alloc: Global, own: SiteNo, document: &Table) -> Result<Setup,
 /// `site` its `number` and `address`; that their numbers are all different, and the given site is among them; that there are
 /// 1 to 16 domains; of each `domain` its `number`, `home`, `sites`, `groups` and `socket`, and `sessions`, `held`, `outbox` and
 /// `resend` where it has them; that their numbers are all different; of each domain that its sites are in the document and its
-/// home is one of them; that the given site has a domain. A domain that it has not is left out. `NoMemory` comes where an
-/// allocation was refused, and says nothing of the text.
+/// home is one of them; that the given site has a domain; that `network`, where the document has it, is a table, and of it
+/// `bundle` and `datagram` where it has them. A domain that the site has not is left out. `NoMemory` comes where an allocation
+/// was refused, and says nothing of the text.
 #[tactic(auto, unfolding(crate::specs::Documents::setup_of))]
 pub fn read(alloc: Global, text: &str, site: SiteNo) -> Result<Setup, ConfigFault>
     // Which set-up, or the first fault.

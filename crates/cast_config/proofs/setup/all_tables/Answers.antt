@@ -4,7 +4,7 @@ use Rattle.std.proofs.lemmas.Result.{err_from_is_err_and}
 use Rattle.toml.specs.View.{table_view, view}
 use Rattle.cast_script.specs.WordReadings.{each}
 use Rattle.cast_script.proofs.Each.{ends, goes_on, is_done}
-use Rattle.cast_config.specs.Documents.{table_of}
+use Rattle.cast_config.specs.Fields.{table_of}
 use Rattle.cast_config.proofs.setup.all_tables.Goals as goal
 
 pub returns-in_err-table_of : goal.returns-in_err-table_of

@@ -2,7 +2,7 @@ use Rattle.std.proofs.Common.{◌≡◌, drop, map}
 use Rattle.toml.specs.View.{table_view, view}
 use Rattle.cast_script.specs.WordReadings.{each}
 use Rattle.cast_script.proofs.Each.{with_front}
-use Rattle.cast_config.specs.Documents.{table_of}
+use Rattle.cast_config.specs.Fields.{table_of}
 use Rattle.cast_config.proofs.setup.all_tables.Given as goal
 
 -- what was read, and what is still read
