@@ -79,6 +79,14 @@ FAULTS = {
     "no room for messages": (GOOD + "held = 0", "domain 1: held: 0 is not 1 to 1024"),
     "a great outbox": (GOOD + "outbox = 4097", "domain 1: outbox: 4097 is not 1 to 4096"),
     "a short time": (GOOD + "resend = 9", "domain 1: resend: 9 is not 10 to 60000"),
+    "a network that is no table": ("network = true\n" + GOOD, "network: not a table [network]"),
+    "two tables of the network": (GOOD + 2 * "[[network]]\nbundle = true\n", "network: not a table [network]"),
+    "a bundle of another kind": (GOOD + "[network]\nbundle = 1", "network: bundle: not a boolean"),
+    "a datagram of another kind": (GOOD + "[network]\ndatagram = 512.0", "network: datagram: not a whole number"),
+    "a datagram with a truth": (GOOD + "[network]\ndatagram = true", "network: datagram: not a whole number"),
+    "a short datagram": (GOOD + "[network]\ndatagram = 511", "network: datagram: 511 is not 512 to 60000"),
+    "a long datagram": (GOOD + "[network]\nbundle = true\ndatagram = 60001", "network: datagram: 60001 is not"),
+    "no bundles, and a short datagram": (GOOD + "[network]\nbundle = false\ndatagram = 0", "network: datagram: 0 is"),
 }
 
 # What castd does not refuse with status 6: the text, the finding, and the status of castd, None where it serves.
@@ -86,6 +94,7 @@ KNOWLEDGE = {
     "an unknown key of the document": ("title = 1\n" + GOOD, "the document: title: unknown", None),
     "an unknown key of a site": (SITES + "port = 1\n" + DOMAIN, "site 2: port: unknown", None),
     "an unknown key of a domain": (GOOD + "quota = 1", "domain 1: quota: unknown", None),
+    "an unknown key of the network": (GOOD + "[network]\nbundles = true", "network: bundles: unknown", None),
     "a name for an address": (GOOD.replace("127.0.0.2", "localhost"), "site 2: address: localhost is a name", None),
     "no port": (GOOD.replace("127.0.0.2:7002", "127.0.0.2"), "site 2: address: '127.0.0.2' is not host:port", UNBOUND),
     "port 65536": (GOOD.replace(":7002", ":65536"), "site 2: address: '127.0.0.2:65536' is not host:port", UNBOUND),
@@ -165,10 +174,13 @@ class ConfigurationCase(Case):
 
     def planned(self, plan: dict) -> str:
         """Writes a plan."""
-        fields = {name: value for name, value in plan.items() if name != "domain"}
-        tables = [fields, *plan.get("domain", [])]
-        texts = ["".join(f"{name} = {json.dumps(value)}\n" for name, value in table.items()) for table in tables]
-        return self.written("[[domain]]\n".join(texts), "plan.toml")
+        fields = {name: value for name, value in plan.items() if name != "domain" and not isinstance(value, dict)}
+        tables = [("", fields), *(("[[domain]]\n", table) for table in plan.get("domain", []))]
+        tables += [(f"[{name}]\n", table) for name, table in plan.items() if isinstance(table, dict)]
+        text = ""
+        for head, table in tables:
+            text += head + "".join(f"{name} = {json.dumps(value)}\n" for name, value in table.items())
+        return self.written(text, "plan.toml")
 
     def made(self, plan: dict) -> str:
         """The file of the configuration that a plan makes."""
@@ -187,9 +199,11 @@ class ConfigurationCase(Case):
 
 class Lint(ConfigurationCase):
     def test_finds_nothing_in_what_is_good(self):
-        path = self.written(GOOD)
-        self.assert_found(path, [])
-        self.assertIsNone(Daemon(self, path, 1, self.folder).status())
+        for network in ("", "[network]\n", "[network]\nbundle = true\n", "[network]\nbundle = true\ndatagram = 60000\n"):
+            with self.subTest(network):
+                path = self.written(GOOD + network)
+                self.assert_found(path, [])
+                self.assertIsNone(Daemon(self, path, 1, self.folder).status())
 
     def test_finds_what_castd_refuses_at_the_field_that_castd_names(self):
         for name, (text, finding) in FAULTS.items():
@@ -276,12 +290,22 @@ class Check(ConfigurationCase):
             (site + domain.replace("home = 1", "home = 2") + rest, 1, "home: not listed"),
             (site + domain.replace("sites = [1]", "sites = [1, 2]") + rest, 1, "sites: not listed"),
             (site + 2 * (domain + rest), 1, "number: repeated"),
+            ("network = 1\n" + site + domain + rest, 1, "network: wrong kind"),
+            (site + domain + rest + '[network]\nbundle = "true"\ndatagram = 0\n', 1, "bundle: wrong kind"),
+            (site + domain + rest + "[network]\nbundle = true\ndatagram = true\n", 1, "datagram: wrong kind"),
+            (site + domain + rest + "[network]\nbundle = true\ndatagram = 60001\n", 1, "datagram: out of range"),
+            (site + domain + rest + "[network]\nbundle = false\ndatagram = 511\n", 1, "datagram: out of range"),
+            (site + domain + rest + "[network]\ndatagram = -512\n", 1, "datagram: out of range"),
+            # The network is looked at last.
+            ("network = 1\n" + site + site.replace("= 1", "= 2", 1) + domain + rest, 2, "domain: out of range"),
         ):
             with self.subTest(fault):
                 ran = self.check(text, site=number)
                 self.assertEqual((ran.returncode, ran.stdout, ran.stderr), (REFUSED, "", f"castd: config: {fault}\n"))
-        ran = self.check(site + domain + rest, site=1)
-        self.assertIn("domain 1 home 1 sites 1 groups 1,2 quotas 16 256 256 200\n", ran.stdout)
+        for network in ("", "[network]\nbundle = true\ndatagram = 512\n", "[network]\nbundle = false\n"):
+            with self.subTest(network):
+                ran = self.check(site + domain + rest + network, site=1)
+                self.assertIn("domain 1 home 1 sites 1 groups 1,2 quotas 16 256 256 200\n", ran.stdout)
 
     def test_refuses_what_is_not_served_in_the_same_words(self):
         for text in (GOOD.replace("home = 1", "home = 3"), SITES, GOOD + "="):
@@ -320,6 +344,15 @@ class Make(ConfigurationCase):
         self.assertEqual(document["site"][0], {"number": 601, "address": "127.0.0.1:9001"})
         self.assertIsNone(Daemon(self, path, 703, self.folder).status())
 
+    def test_carries_the_network_of_a_plan_over(self):
+        for network in ({"bundle": True, "datagram": 1472}, {"bundle": False}):
+            with self.subTest(network):
+                path = self.made({**PLAN, "network": network})
+                self.assertEqual(tomllib.loads(pathlib.Path(path).read_text())["network"], network)
+                self.assertIsNone(Daemon(self, path, 203, self.folder).status())
+        for plan in (PLAN, {**PLAN, "network": {}}):
+            self.assertNotIn("network", tomllib.loads(pathlib.Path(self.made(plan)).read_text()))
+
     def test_refuses_a_plan_at_fault(self):
         domain = PLAN["domain"][0]
         faults = {
@@ -344,6 +377,10 @@ class Make(ConfigurationCase):
             "no generations": ({key: PLAN[key] for key in ("hosts", "domain")}, "the plan: generations: missing"),
             "no domains": ({key: PLAN[key] for key in ("hosts", "generations")}, "domain: missing"),
             "a quota out of range": ({**PLAN, "domain": [{**domain, "held": 0}]}, "domain 1: held: 0 is not 1 to 1024"),
+            "a network that is no table": ({**PLAN, "network": 1}, "network: not a table [network]"),
+            "an unknown key of the network": ({**PLAN, "network": {"size": 1}}, "network: size: unknown"),
+            "a bundle of another kind": ({**PLAN, "network": {"bundle": 1}}, "network: bundle: not a boolean"),
+            "a datagram out of range": ({**PLAN, "network": {"datagram": 511}}, "network: datagram: 511 is not 512 to"),
         }
         for name, (plan, text) in faults.items():
             with self.subTest(name):

@@ -22,6 +22,7 @@ class Reading(unittest.TestCase):
         domain = read.domains[1]
         self.assertEqual((domain.home, domain.sites, domain.groups, domain.socket), (1, (1,), (1, 2), "/tmp/one.sock"))
         self.assertEqual(domain.quotas, {"sessions": 16, "held": 256, "outbox": 256, "resend": 200})
+        self.assertIsNone(read.bundle)
 
     def test_quotas_that_are_absent_are_the_usual_ones(self):
         domain = configuration.parse(SITE + DOMAIN + "held = 9\n").domains[1]
@@ -29,8 +30,21 @@ class Reading(unittest.TestCase):
         quotas = [domain.quota(name) for name in ("sessions", "held", "outbox", "resend")]
         self.assertEqual(quotas, [16, 9, 256, 200])
 
+    def test_a_bundle_has_as_many_bytes_as_the_network_says(self):
+        for network, most in (
+            ("", None),
+            ("[network]\n", None),
+            ("[network]\ndatagram = 512\n", None),
+            ("[network]\nbundle = false\ndatagram = 60000\n", None),
+            ("[network]\nbundle = true\n", 8972),
+            ("[network]\nbundle = true\ndatagram = 512\n", 512),
+            ("[network]\nbundle = true\ndatagram = 60000\n", 60000),
+        ):
+            with self.subTest(network):
+                self.assertEqual(configuration.parse(SITE + DOMAIN + network).bundle, most)
+
     def test_what_castd_ignores_is_ignored(self):
-        read = configuration.parse('title = "x"\n' + SITE + 'color = "red"\n' + DOMAIN + "more = [1]\n")
+        read = configuration.parse('title = "x"\n' + SITE + 'color = "red"\n' + DOMAIN + "more = [1]\n[network]\nx = 1\n")
         self.assertEqual(list(read.domains), [1])
 
     def test_an_address_of_version_six_stands_in_brackets(self):
@@ -59,6 +73,12 @@ class Reading(unittest.TestCase):
             (SITE + DOMAIN.replace('"/tmp/one.sock"', "1"), "domain 1: socket: not a text"),
             (SITE + DOMAIN + "held = 1025\n", "domain 1: held: 1025 is not 1 to 1024"),
             (SITE + DOMAIN + "resend = 9\n", "domain 1: resend: 9 is not 10 to 60000"),
+            ("network = 1\n" + SITE + DOMAIN, "network: not a table [network]"),
+            ("network = 1\n" + SITE, "the document: domain: missing"),
+            (SITE + DOMAIN + "[network]\nbundle = 1\ndatagram = 0\n", "network: bundle: not a boolean"),
+            (SITE + DOMAIN + "[network]\ndatagram = true\n", "network: datagram: not a whole number"),
+            (SITE + DOMAIN + "[network]\ndatagram = 511\n", "network: datagram: 511 is not 512 to 60000"),
+            (SITE + DOMAIN + "[network]\nbundle = true\ndatagram = 60001\n", "network: datagram: 60001 is not"),
         ):
             with self.subTest(text[:60]):
                 with self.assertRaises(configuration.ConfigurationError) as raised:

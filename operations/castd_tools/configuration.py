@@ -16,8 +16,8 @@ MOST_PORT = 65_535
 
 
 @dataclass(frozen=True)
-class QuotaRange:
-    """The least and most value of a quota, and the usual one, which stands for one that is absent."""
+class NumberRange:
+    """The least and most value of a number, and the usual one, which stands for one that is absent."""
 
     least: int
     most: int
@@ -25,11 +25,13 @@ class QuotaRange:
 
 
 QUOTAS = {
-    "sessions": QuotaRange(1, 64, 16),
-    "held": QuotaRange(1, 1_024, 256),
-    "outbox": QuotaRange(1, 4_096, 256),
-    "resend": QuotaRange(10, 60_000, 200),
+    "sessions": NumberRange(1, 64, 16),
+    "held": NumberRange(1, 1_024, 256),
+    "outbox": NumberRange(1, 4_096, 256),
+    "resend": NumberRange(10, 60_000, 200),
 }
+# Bytes of a bundle at most.
+DATAGRAM = NumberRange(512, 60_000, 8_972)
 
 
 class ConfigurationError(Exception):
@@ -71,6 +73,8 @@ class Configuration:
 
     sites: dict[int, Address]
     domains: dict[int, Domain]
+    bundle: int | None = None
+    """The most bytes of a bundle. None where frames share no datagrams."""
 
     def domains_of(self, site: int) -> list[Domain]:
         """The domains that a site serves. A `ConfigurationError` where the file lacks the site or it serves none."""
@@ -108,7 +112,9 @@ def parse(text: str) -> Configuration:
     domains = _by_number("domain", [(domain.number, domain) for domain in map(_domain, domain_tables)])
     for domain in domains.values():
         _check_sites(domain, sites)
-    return Configuration(sites, domains)
+    network = _network(document)
+    is_bundling, most = _is_bundling(network), _datagram(network)
+    return Configuration(sites, domains, most if is_bundling else None)
 
 
 def _tables(document: dict, name: str) -> list[dict]:
@@ -171,6 +177,27 @@ def _check_sites(domain: Domain, sites: dict[int, Address]) -> None:
             raise ConfigurationError(f"domain {domain.number}: sites: site {site} is not listed")
     if domain.home not in domain.sites:
         raise ConfigurationError(f"domain {domain.number}: home: {domain.home} is not one of its sites")
+
+
+def _network(document: dict) -> dict:
+    """The table `[network]` of a document, which is empty where there is none."""
+    network = document.get("network", {})
+    if not isinstance(network, dict):
+        raise ConfigurationError("network: not a table [network]")
+    return network
+
+
+def _is_bundling(network: dict) -> bool:
+    """Whether frames are to share datagrams."""
+    bundle = network.get("bundle", False)
+    if not isinstance(bundle, bool):
+        raise ConfigurationError("network: bundle: not a boolean")
+    return bundle
+
+
+def _datagram(network: dict) -> int:
+    """The most bytes of a bundle, if there are to be bundles."""
+    return _within(network.get("datagram", DATAGRAM.usual), "datagram", "network", DATAGRAM.least, DATAGRAM.most)
 
 
 def _field(table: dict, name: str, where: str) -> object:

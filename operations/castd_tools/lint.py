@@ -28,6 +28,9 @@ from castd_tools.configuration import (
     Domain,
     _address,
     _check_sites,
+    _datagram,
+    _is_bundling,
+    _network,
     _number,
     _numbers,
     _tables,
@@ -35,9 +38,10 @@ from castd_tools.configuration import (
 )
 from castd_tools.numbers import numbers_alike
 
-DOCUMENT_FIELDS = ("site", "domain")
+DOCUMENT_FIELDS = ("site", "domain", "network")
 SITE_FIELDS = ("number", "address")
 DOMAIN_FIELDS = ("number", "home", "sites", "groups", "socket", *QUOTAS)
+NETWORK_FIELDS = ("bundle", "datagram")
 
 # The longest path that a Unix socket can have on Linux, in bytes.
 LONGEST_PATH = 107
@@ -94,6 +98,7 @@ def findings_of(document: dict) -> list[str]:
     _find_repeated(found, sites, readable)
     if site_tables is not None:
         _find_unlisted(found, sites, readable)
+    _find_in_network(found, document)
     for site in sites:
         _find_in_address(found, site)
     for domain in readable:
@@ -165,6 +170,16 @@ def _find_unlisted(found: Findings, sites: list[Site], domains: list[Domain]) ->
     listed = {site.number: site.address for site in sites}
     for domain in domains:
         found.read(_check_sites, domain, listed)
+
+
+def _find_in_network(found: Findings, document: dict) -> None:
+    """The table of the network, or a field of it, is at fault."""
+    network = found.read(_network, document)
+    if network is None:
+        return
+    found.read(_is_bundling, network)
+    found.read(_datagram, network)
+    _find_unknown(found, "network", network, NETWORK_FIELDS)
 
 
 def _find_in_address(found: Findings, site: Site) -> None:

@@ -15,13 +15,14 @@ from castd_tools.configuration import (
     MOST_SITES_OF_A_DOMAIN,
     Address,
     ConfigurationError,
+    _network,
     _number,
     _tables,
     _text,
 )
-from castd_tools.lint import DOCUMENT_FIELDS, DOMAIN_FIELDS
+from castd_tools.lint import DOMAIN_FIELDS, NETWORK_FIELDS
 
-PLAN_FIELDS = ("hosts", "generations", "first_generation", "first_port", "domain")
+PLAN_FIELDS = ("hosts", "generations", "first_generation", "first_port", "domain", "network")
 DOMAIN_PLAN_FIELDS = ("hosts", *(name for name in DOMAIN_FIELDS if name != "sites"))
 
 USUAL_FIRST_PORT = 7_001
@@ -37,12 +38,13 @@ HEAD = """\
 
 @dataclass(frozen=True)
 class Plan:
-    """What a plan says. `domains` are its tables."""
+    """What a plan says. `domains` are its tables. `network` is its table `[network]`, empty where it has none."""
 
     hosts: list[str]
     generations: range
     first_port: int
     domains: list[dict]
+    network: dict
 
     def site(self, generation: int, host: str) -> int:
         """The number of a host in a generation."""
@@ -58,11 +60,14 @@ def plan_of(document: dict) -> Plan:
     first = _number(usual, "first_generation", where, 1, MOST_GENERATION - count + 1)
     hosts = _hosts(document, where)
     last_port = MOST_PORT - count * len(hosts) + 1
+    network = _network(document)
+    _refuse_unknown(network, "network", NETWORK_FIELDS)
     return Plan(
         hosts=hosts,
         generations=range(first, first + count),
         first_port=_number(usual, "first_port", where, 1, last_port),
         domains=_tables(document, "domain"),
+        network=network,
     )
 
 
@@ -75,6 +80,7 @@ def configuration_of(plan: Plan) -> dict:
             for place, (number, host) in enumerate(sites)
         ],
         "domain": [_domain(plan, place, table) for place, table in enumerate(plan.domains, 1)],
+        "network": plan.network,
     }
 
 
@@ -128,8 +134,9 @@ def _refuse_unknown(table: dict, where: str, known: Iterable[str]) -> None:
 
 def text_of(document: dict) -> str:
     """The text of a document, in which nothing is at fault."""
-    tables = [(kind, table) for kind in DOCUMENT_FIELDS for table in document[kind]]
-    return HEAD + "".join(f"\n[[{kind}]]\n{_fields(table)}" for kind, table in tables)
+    tables = [(f"[[{kind}]]", table) for kind in ("site", "domain") for table in document[kind]]
+    tables += [("[network]", document["network"])] if document["network"] else []
+    return HEAD + "".join(f"\n{head}\n{_fields(table)}" for head, table in tables)
 
 
 def _fields(table: dict) -> str:
@@ -137,5 +144,8 @@ def _fields(table: dict) -> str:
 
 
 def _value(value: object) -> str:
-    """A number, a text or an array of numbers. A text is spelled as in JSON, but for a character that TOML escapes."""
+    """A number, a boolean, a text or an array of numbers.
+
+    A text is spelled as in JSON, but for a character that TOML escapes.
+    """
     return json.dumps(value, ensure_ascii=False).replace("\x7f", "\\u007f")
