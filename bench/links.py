@@ -1,6 +1,7 @@
 """Links between daemons that take their time."""
 
-import collections
+import heapq
+import itertools
 import select
 import socket
 import threading
@@ -8,12 +9,12 @@ import time
 
 
 class Link(threading.Thread):
-    """Carries datagrams between two sites, each after so many seconds, in their order. Each site has the other at an address of this host,
-    from which what the other sends comes, too."""
+    """Carries datagrams between two sites. Of each `fate` says after how many seconds it is delivered: once for each number that it gives.
+    Each site has the other at an address of this host, from which what the other sends comes, too."""
 
-    def __init__(self, addresses, seconds):
+    def __init__(self, addresses, fate):
         super().__init__(daemon=True)
-        self.seconds, self.carried, self.ends, self.sites = seconds, 0, {}, {}
+        self.fate, self.carried, self.ends, self.sites = fate, 0, {}, {}
         for site, address in addresses.items():
             host, port = address.rsplit(":", 1)
             self.sites[site] = (host, int(port))
@@ -26,17 +27,19 @@ class Link(threading.Thread):
         return "{}:{}".format(*self.ends[site].getsockname())
 
     def run(self):
-        waiting = collections.deque()
+        waiting, place = [], itertools.count()
         one, other = self.ends
         while not self.is_over.is_set():
             left = waiting[0][0] - time.monotonic() if waiting else 0.05
             ready = select.select([*self.ends.values()], [], [], max(0, left))[0]
             for near, far in ((one, other), (other, one)):
                 if self.ends[near] in ready:
-                    waiting.append((time.monotonic() + self.seconds, far, self.ends[near].recv(65_536)))
+                    data = self.ends[near].recv(65_536)
+                    for seconds in self.fate():
+                        heapq.heappush(waiting, (time.monotonic() + seconds, next(place), far, data))
                     self.carried += 1
             while waiting and waiting[0][0] <= time.monotonic():
-                _, far, data = waiting.popleft()
+                _, _, far, data = heapq.heappop(waiting)
                 self.ends[far].sendto(data, self.sites[far])
 
     def end(self):
@@ -46,12 +49,14 @@ class Link(threading.Thread):
             it.close()
 
 
-def linked(addresses, seconds):
-    """Starts a link between each two sites. Gives by which addresses each site reaches all, and the links."""
+def linked(addresses, fate):
+    """Starts a link between each two sites. Gives by which addresses each site reaches all, and the links. A `fate` that is a number is that
+    of each datagram."""
+    fates = fate if callable(fate) else lambda: (fate,)
     links, told = [], {site: {site: address} for site, address in addresses.items()}
     for near in addresses:
         for far in (it for it in addresses if it > near):
-            link = Link({site: addresses[site] for site in (near, far)}, seconds)
+            link = Link({site: addresses[site] for site in (near, far)}, fates)
             link.start()
             links.append(link)
             told[near][far], told[far][near] = link.address(near), link.address(far)

@@ -41,10 +41,10 @@ class Setup:
     makes its sockets.
     """
 
-    def __init__(self, folder: str, sites: int, domains: list[dict], is_one_host: bool):
+    def __init__(self, folder: str, sites: int, domains: list[dict], is_one_host: bool, network: Mapping[str, object]):
         block = f"127.{random.randint(1, 254)}.{random.randint(1, 254)}"
         numbers = range(1, sites + 1)
-        self.folder, self.is_one_host = folder, is_one_host
+        self.folder, self.is_one_host, self.network = folder, is_one_host, network
         self.hosts = {site: f"{block}.{1 if is_one_host else site}" for site in numbers}
         self.addresses = {site: f"{host}:{PORT + site if is_one_host else PORT}" for site, host in self.hosts.items()}
         self.domains = [
@@ -63,6 +63,8 @@ class Setup:
             lines += ["[[site]]", f"number = {site}", f'address = "{address}"']
         for domain in self.domains:
             lines += ["[[domain]]", *(f"{name} = {json.dumps(value)}" for name, value in domain.items())]
+        if self.network:
+            lines += ["[network]", *(f"{name} = {json.dumps(value)}" for name, value in self.network.items())]
         path = f"{self.folder}/{name}"
         pathlib.Path(path).write_text("\n".join(lines) + "\n", encoding="utf-8")
         return path
@@ -84,9 +86,15 @@ class Case(unittest.TestCase):
     def setUp(self) -> None:
         self.folder = self.enterContext(tempfile.TemporaryDirectory(prefix="castd-"))
 
-    def setup_of(self, sites: int = 1, *domains: dict, is_one_host: bool = False) -> Setup:
+    def setup_of(
+        self,
+        sites: int = 1,
+        *domains: dict,
+        is_one_host: bool = False,
+        network: Mapping[str, object] = NOTHING,
+    ) -> Setup:
         """So many sites. They serve domain 1, of which site 1 is the home, where no domains are named."""
-        return Setup(tempfile.mkdtemp(dir=self.folder), sites, list(domains) or [{"number": 1}], is_one_host)
+        return Setup(tempfile.mkdtemp(dir=self.folder), sites, list(domains) or [{"number": 1}], is_one_host, network)
 
     def keeper(self, setup: Setup, site: int = 1, **how) -> Keeper:
         """A keeper that serves. What `how` may say, `started_keeper` has."""

@@ -82,6 +82,17 @@ def bundle(*frames: bytes, head: bytes = b"CB\1\0") -> bytes:
     return head + b"".join(struct.pack(">H", len(it)) + it for it in frames)
 
 
+def frames_of(datagram: bytes) -> list[bytes] | None:
+    """The frames of a bundle, or the one that another datagram is. None for what begins as a bundle, and is none."""
+    if datagram[:2] != b"CB":
+        return [datagram]
+    frames, rest = [], datagram[4:]
+    while len(rest) >= 2 and len(rest) >= (end := 2 + int.from_bytes(rest[:2])):
+        frames.append(rest[2:end])
+        rest = rest[end:]
+    return frames if datagram[2:4] == b"\1\0" and frames and not rest else None
+
+
 def cast(payload: bytes = b"hi") -> castd.codec.Cast:
     return castd.codec.Cast(1, castd.CAUSAL, payload)
 
@@ -458,6 +469,8 @@ class Site:
         self.socket = socket.socket(socket.AF_INET, socket.SOCK_DGRAM)
         self.socket.bind(case.address(number))
         self.socket.settimeout(PATIENCE)
+        # The frames of the last datagram that were not heard yet.
+        self.frames: list[bytes] = []
 
     def frame(self, kind: int, fields: bytes, number: int | None = None) -> bytes:
         """A frame of domain 1, in the name of another site if one is named."""
@@ -467,13 +480,16 @@ class Site:
         self.socket.sendto(self.frame(kind, fields, number), self.daemon)
 
     def hear(self, kind: int) -> bytes:
-        """The next datagram of this type."""
-        while (frame := self.socket.recv(65_536))[3] != kind:
-            pass
-        return frame
+        """The next frame of this type."""
+        while True:
+            while not self.frames:
+                self.frames = frames_of(self.socket.recv(65_536))
+            frame = self.frames.pop(0)
+            if frame[3] == kind:
+                return frame
 
     def heard(self, kind: int, seconds: float) -> list[bytes]:
-        """The datagrams of this type that come within so many seconds."""
+        """The frames of this type that come within so many seconds, each in a datagram of its own."""
         end, frames = time.monotonic() + seconds, []
         while (left := end - time.monotonic()) > 0:
             if select.select([self.socket], [], [], left)[0]:

@@ -1,5 +1,5 @@
 -- Frames, each behind its length.
-use Rattle.std.proofs.Common.{◌≡◌, ◌≢◌, ℕ, ◌+◌, ◌≤◌, ◌<◌, List, [], ◌∷◌, ◌++◌, length, take, drop, get_or, Some, None, true, refl, sym, ap, ◌∙◌, append_assoc, arith}
+use Rattle.std.proofs.Common.{◌≡◌, ℕ, ◌+◌, ◌≤◌, ◌<◌, List, [], ◌∷◌, ◌++◌, length, take, drop, get_or, Some, None, true, refl, sym, ap, ◌∙◌, append_assoc, arith}
 use Rattle.std.specs.Prelude.{IsTrue, nat_lt}
 use Rattle.std.specs.List.{flat_map}
 use Rattle.std.specs.Int.{w16, to_be_bytes, from_be_bytes}
@@ -12,20 +12,14 @@ use Rattle.std.proofs.lemmas.List.Folds.{list_all-append}
 use Rattle.cast_field.specs.Spelling.{short}
 use Rattle.cast_frame.specs.Spelling.{spelled_site}
 use Rattle.cast_link.specs.Laws.{BundlesAreUnique, FramesStandAlone}
-use Rattle.cast_link.specs.Bundles.{head, in_bundle, fit, IsBundle, IsFirst, Splits}
+use Rattle.cast_link.specs.Bundles.{in_bundle, fit, BeginsAsBundle, IsBundle, IsFirst, Splits}
 
 -- whatever frames these bytes are, the rest are some of them
 abbrev pub LeadsTo : List ℕ → List ℕ → Type 0
 LeadsTo bytes rest =
     (all : List (List ℕ)) → IsTrue (fit all) → bytes ≡ flat_map in_bundle all → (left : List (List ℕ)) × IsTrue (fit left) × (rest ≡ flat_map in_bundle left)
 
-pub begun : (bytes : List ℕ) → LeadsTo bytes bytes
-begun bytes all fits are = (all, fits, are)
-
 -- ---- the first of some frames
-
-behind : (n : ℕ) (more : List ℕ) → drop 2 (to_be_bytes w16 n ++ more) ≡ more
-behind n more = refl
 
 length_in : (frame more : List ℕ) → length (in_bundle frame ++ more) ≡ 2 + length frame + length more
 length_in frame more = omega (arith, length-append (in_bundle frame) more, length-append (to_be_bytes w16 (length frame)) frame)
@@ -120,34 +114,19 @@ one_more bytes rest frames n split first =
           ∙ ap (λ (l : List ℕ). l ++ more) (sym (flat_map-append in_bundle frames (frame ∷ []) ∙ ap (λ (l : List ℕ). flat_map in_bundle frames ++ l) (append-nil (in_bundle frame))))));
     }
 
-pub splits_all : (bytes rest : List ℕ) (frames : List (List ℕ)) → HasSplit bytes frames rest → rest ≡ [] → Splits bytes (Some frames)
-splits_all bytes rest frames split none =
-    (split.fitting, split.spelled ∙ (ap (λ (l : List ℕ). flat_map in_bundle frames ++ l) none ∙ append-nil (flat_map in_bundle frames)))
-
 -- ---- bundles
 
-pub bundle : (bytes : List ℕ) (frames : List (List ℕ)) → take 4 bytes ≡ head → Splits (drop 4 bytes) (Some frames) → frames ≢ [] → IsBundle bytes frames
-bundle bytes frames heads splits some =
-    record {
-      some = some;
-      fitting = splits.0;
-      spelled = sym (take-append-drop 4 bytes) ∙ (ap (λ (l : List ℕ). l ++ drop 4 bytes) heads ∙ ap (λ (l : List ℕ). head ++ l) splits.1);
-    }
-
 -- no bundle begins otherwise
-pub bad_head : (bytes : List ℕ) → (take 4 bytes ≡ head → ⊥) → (frames : List (List ℕ)) → IsBundle bytes frames → ⊥
-bad_head bytes other frames is = other (ap (take 4) is.spelled)
-
 behind_head : (bytes : List ℕ) (frames : List (List ℕ)) → IsBundle bytes frames → drop 4 bytes ≡ flat_map in_bundle frames
 behind_head bytes frames is = ap (drop 4) is.spelled
-
-pub cut_off : (bytes : List ℕ) → Splits (drop 4 bytes) None → (frames : List (List ℕ)) → IsBundle bytes frames → ⊥
-cut_off bytes none frames is = none frames is.fitting (behind_head bytes frames is)
 
 pub without_frames : (bytes : List ℕ) → drop 4 bytes ≡ [] → (frames : List (List ℕ)) → IsBundle bytes frames → ⊥
 without_frames bytes empty [] is = is.some refl
 without_frames bytes empty (frame ∷ frames) is =
     omega (arith, length_in frame (flat_map in_bundle frames), ap length (sym empty ∙ behind_head bytes (frame ∷ frames) is))
+
+pub begins : (bytes : List ℕ) (frames : List (List ℕ)) → IsBundle bytes frames → BeginsAsBundle bytes
+begins bytes frames is = ap (take 2) is.spelled
 
 pub bundles_are_unique : BundlesAreUnique
 bundles_are_unique bytes frames others is is_other =

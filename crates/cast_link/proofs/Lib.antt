@@ -1,1 +1,3 @@
 pub mod Bundles
+pub mod Packs
+pub mod Readings

@@ -1,4 +1,5 @@
 pub mod Wires
 pub mod Links
 pub mod Bundles
+pub mod Packing
 pub mod Laws

@@ -1,5 +1,5 @@
 -- The datagrams of frames, and what is handed on of one that came.
-use Rattle.std.specs.Prelude.{◌≡◌, ℕ, List, map, ⊤, Option, Result, Ok, Err}
+use Rattle.std.specs.Prelude.{◌≡◌, ℕ, List, map, Option, Result, Ok, Err}
 use Rattle.cast_types.specs.declared.names.DomainNo.{DomainNo}
 use Rattle.cast_types.specs.declared.names.SiteNo.{SiteNo}
 use Rattle.cast_message.specs.declared.site.SiteFrame.{SiteFrame}

@@ -7,19 +7,19 @@ use cast_types::{List, NoMemory};
 use std::alloc::Global;
 
 /// What a bundle begins with: `CB`.
-const MAGIC: [u8; 2] = [0x43, 0x42];
+pub const MAGIC: [u8; 2] = [0x43, 0x42];
 
 /// The version of bundles.
-const VERSION: u8 = 1;
+pub const VERSION: u8 = 1;
 
 /// The flags of a bundle: none.
-const FLAGS: u8 = 0;
+pub const FLAGS: u8 = 0;
 
 /// How many bytes stand before the first frame.
-const HEAD: usize = 4;
+pub const HEAD: usize = 4;
 
 /// How many bytes the length of a frame takes.
-const LENGTH: usize = 2;
+pub const LENGTH: usize = 2;
 
 /// What a datagram has.
 #[derive(Drop)]

@@ -1,7 +1,9 @@
-ghost use Rattle.std.specs.Prelude.{◌≡◌, ◌+◌, ◌<◌, ◌^◌, IfOk, OnOk, OnErr, Err, length, map};
+ghost use Rattle.std.specs.Prelude.{◌≡◌, ◌+◌, ◌<◌, ◌≤◌, ◌^◌, IfOk, OnOk, OnErr, Err, length, map};
 ghost use Rattle.cast_link.specs.Wires.{AddsAll, Stays};
+ghost use Rattle.cast_link.specs.Packing.{AddsPacked};
 ghost use Rattle.cast_link.specs.Links.{HandsOn, datagram_of, datagrams_of};
 
+use crate::packing::pack;
 use crate::wire::{LinkFault, Wire};
 use bytes::Bytes;
 use cast_events::{Asked, Outs, Raw};
@@ -83,6 +85,27 @@ pub fn send_all<W: Wire>(
     ensures err { OnErr result (wire.new ≡ wire.old) }
 {
     let datagrams = datagrams_of(alloc, own, outs.frames.as_slice())?;
+    Ok(send_each(wire, &datagrams))
+}
+
+/// As `send_all`, but frames for the same site share datagrams: bundles of at most so many bytes. A frame that has none to share with, or
+/// no room, goes as itself.
+pub fn send_bundled<W: Wire>(
+    alloc: Global,
+    wire: &mut W,
+    own: SiteNo,
+    outs: &Outs,
+    most: usize,
+) -> Result<Sent, NoMemory>
+    requires { W.failed wire.old + length outs.now.frames < 2 ^ 64 }
+    ensures given { OnOk result (AddsPacked most (W.given wire.old) (W.given wire.new) (datagrams_of own outs.now.frames)) }
+    ensures waiting { Stays (W.waiting wire.old) (W.waiting wire.new) }
+    ensures counted { IfOk result (λ s. s.sent + s.lost ≤ length outs.now.frames) }
+    ensures lost { IfOk result (λ s. W.failed wire.new ≡ W.failed wire.old + s.lost) }
+    ensures err { OnErr result (wire.new ≡ wire.old) }
+{
+    let frames = datagrams_of(alloc, own, outs.frames.as_slice())?;
+    let datagrams = pack(alloc, frames, most)?;
     Ok(send_each(wire, &datagrams))
 }
 

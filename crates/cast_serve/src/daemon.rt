@@ -104,9 +104,10 @@ fn send_again<T: SharedTable, R: Wait>(rt: &R, server: &mut Server<'_, T>) {
         silence.tick(rt);
     }
     for unacknowledged in shared.unacknowledged {
-        let again = unacknowledged.tick(rt);
-        server.send(rt, &again);
+        let mut again = unacknowledged.tick(rt);
+        server.gather(rt, &mut again);
     }
+    server.send_gathered(rt);
 }
 
 // Tells the operator how many datagrams for each site were not sent.
@@ -428,6 +429,7 @@ where
             tape,
             is_recorded,
             own: setup.config.site,
+            bundle: setup.bundle.map(|most| most as usize),
         },
         sockets,
     };

@@ -86,6 +86,8 @@ pub struct Shared<'a, T: SharedTable> {
     pub tape: &'a Tape,
     pub is_recorded: bool,
     pub own: SiteNo,
+    /// The most bytes of a bundle. `None` if each frame has a datagram of its own.
+    pub bundle: Option<usize>,
 }
 
 impl<T: SharedTable> Shared<'_, T> {

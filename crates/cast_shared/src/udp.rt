@@ -1,4 +1,4 @@
-//! The wire between sites: a socket for each of them, with one frame in each datagram.
+//! The wire between sites: a socket for each of them.
 use bytes::Bytes;
 use cast_link::{LinkFault, Wire};
 use cast_sockets::{Link, Received};

@@ -40,8 +40,8 @@ fn dispatch<T: SharedTable, R: Wait>(rt: &R, server: &mut Server<'_, T>, done: T
     };
     let shared = server.shared;
     tell(rt, &mut shared.desk.lock(rt), number, &answer);
-    let outs = Unacknowledged::pass(rt, shared.alloc, shared.unacknowledged, outs);
-    server.finish(rt, &outs);
+    let mut outs = Unacknowledged::pass(rt, shared.alloc, shared.unacknowledged, outs);
+    server.finish(rt, &mut outs);
     for pace in shared.paces {
         pace.wake_any(rt);
     }

@@ -31,7 +31,7 @@ pub struct Reader<'a, T: SharedTable> {
     untaken: u32,
     // Its own commands pushed to it since it took the outbox last.
     is_pushed: bool,
-    // What came of the last command. Its frames are still to be sent.
+    // What came of the last command. Its frames are still to be gathered.
     unsent: Option<Outs>,
     // The other sessions that its commands pushed to, and that were not called.
     pushed: Vec<Session>,
@@ -95,7 +95,7 @@ impl<'a, T: SharedTable> Reader<'a, T> {
             Command::Request(Request::Cast { payload, .. }) => Some(payload.len()),
             _ => None,
         };
-        self.send_frames(rt);
+        self.gather_frames(rt);
         if self.client.is_over(rt) {
             return false;
         }
@@ -156,16 +156,22 @@ impl<'a, T: SharedTable> Reader<'a, T> {
         self.pushed.clear();
     }
 
-    // Sends the frames of the last command.
-    fn send_frames<R: Wait>(&mut self, rt: &R) {
-        if let Some(outs) = self.unsent.take() {
+    // Gathers the frames of the last command with those of the commands before it.
+    fn gather_frames<R: Wait>(&mut self, rt: &R) {
+        if let Some(mut outs) = self.unsent.take() {
             self.server.note_messages(rt, &outs);
-            self.server.send(rt, &outs);
+            self.server.gather(rt, &mut outs);
         }
     }
 
-    // Writes what the commands pushed to the program, unless another thread does so, and sends the frames of the last command. They
-    // go first if the command delivered nothing.
+    // Sends the frames of the commands.
+    fn send_frames<R: Wait>(&mut self, rt: &R) {
+        self.gather_frames(rt);
+        self.server.send_gathered(rt);
+    }
+
+    // Writes what the commands pushed to the program, unless another thread does so, and sends their frames. These go first if the last
+    // command delivered nothing.
     fn flush<R: Wait>(&mut self, rt: &R) {
         let is_frame_first = match &self.unsent {
             Some(outs) => outs.delivered.is_empty(),

@@ -4,7 +4,9 @@ use bytes::Bytes;
 use cast_edge::{Report, Session, Stables};
 use cast_events::{Asked, Outs};
 use cast_link::{LinkFault, Unpacked, Wire, receive_one, unpack};
+use cast_message::SiteFrame;
 use cast_shared::{Shared, SharedTable};
+use cast_types::{DomainNo, SiteNo};
 use std::rt::Clock;
 use std::sync::Wait;
 use std::sync::atomic::Ordering;
@@ -14,8 +16,11 @@ use std::time::Duration;
 // How many milliseconds the receiver waits after a call of the system failed, so that it does not turn in place.
 const PAUSE: u64 = 10;
 
-// So many datagrams are served at most before what they pushed is written.
+// After so many frames no more datagrams are served before what they pushed is written.
 const GATHERED: u32 = 32;
+
+// Of one bundle so many frames are.
+const MOST_UNWRITTEN: u32 = 64;
 
 // For so many sessions the receiver writes what datagrams pushed. The writers of the others do it themselves.
 const DIRECT: usize = 2;
@@ -27,23 +32,29 @@ struct Receiver<'a, T: SharedTable> {
     // The sessions that they pushed to, and for which it writes.
     pushed: Vec<Session>,
     stables: Stables,
+    // How many frames were served since it wrote.
+    served: u32,
+    // Another site waits for a frame that is gathered.
+    is_urgent: bool,
+}
+
+// Whether another site waits for a frame: by an acknowledgement or a Stable it only forgets.
+fn is_urgent(frame: &(DomainNo, SiteNo, SiteFrame)) -> bool {
+    !matches!(frame.2, SiteFrame::Ack(_) | SiteFrame::Stable(_))
 }
 
 impl<T: SharedTable> Receiver<'_, T> {
-    // Sends the frames of an event. Its Stables wait.
-    fn send<R: Wait>(&mut self, rt: &R, outs: Outs) {
+    // Gathers the frames of an event. Its Stables wait.
+    fn gather<R: Wait>(&mut self, rt: &R, outs: Outs) {
         self.server.note_messages(rt, &outs);
-        let (others, lost) = self.stables.hold(outs);
+        let (mut others, lost) = self.stables.hold(outs);
         if lost > 0 {
             self.server.shared.desk.lock(rt).count_unspelled(rt, lost);
         }
-        self.server.send(rt, &others);
-    }
-
-    // Sends the Stables that wait.
-    fn send_stables<R: Wait>(&mut self, rt: &R) {
-        let outs = self.stables.take();
-        self.server.send(rt, &outs);
+        if others.frames.as_slice().iter().any(is_urgent) {
+            self.is_urgent = true;
+        }
+        self.server.gather(rt, &mut others);
     }
 
     // Remembers the sessions that a datagram pushed to, or has their outboxes taken.
@@ -61,8 +72,9 @@ impl<T: SharedTable> Receiver<'_, T> {
     fn serve_frame<R: Wait>(&mut self, rt: &R, frame: Asked) {
         if let Some(outs) = self.server.serve_frame(rt, frame) {
             self.note(rt, &outs);
-            self.send(rt, outs);
+            self.gather(rt, outs);
         }
+        self.served = self.served.saturating_add(1);
     }
 
     // Serves a datagram: one frame, or each frame of a bundle as if it had come alone.
@@ -74,6 +86,9 @@ impl<T: SharedTable> Receiver<'_, T> {
             Ok(Unpacked::Bundle(frames)) => {
                 for bytes in frames.into_vec() {
                     self.serve_frame(rt, Asked::Datagram(bytes));
+                    if self.served >= MOST_UNWRITTEN {
+                        self.finish(rt);
+                    }
                 }
             }
             Ok(Unpacked::Bad) | Err(_) => shared.desk.lock(rt).count_unread(rt, 1),
@@ -83,6 +98,9 @@ impl<T: SharedTable> Receiver<'_, T> {
     // Serves the datagrams that wait, and answers whether there may be more.
     fn serve_waiting<R: Wait>(&mut self, rt: &R) -> bool {
         for _ in 1..GATHERED {
+            if self.served >= GATHERED {
+                break;
+            }
             match self.server.wire.receive_now() {
                 Ok(Some(bytes)) => self.serve(rt, bytes),
                 Ok(None) => return false,
@@ -100,15 +118,27 @@ impl<T: SharedTable> Receiver<'_, T> {
         }
     }
 
-    // Serves a datagram and those that wait behind it, then writes what they pushed, and sends their Stables. Answers whether there
-    // may be more.
+    // Serves a datagram and those that wait behind it, and finishes them. Answers whether there may be more.
     fn serve_all<R: Wait>(&mut self, rt: &R, first: Bytes) -> bool {
         self.serve(rt, first);
         let is_more = self.serve_waiting(rt);
         self.count_foreign(rt);
-        self.write_pushed(rt);
-        self.send_stables(rt);
+        self.finish(rt);
         is_more
+    }
+
+    // Writes what the frames that were served pushed, and sends what is gathered, with their Stables. If another site waits for it, it goes
+    // first.
+    fn finish<R: Wait>(&mut self, rt: &R) {
+        if self.is_urgent {
+            self.server.send_gathered(rt);
+        }
+        self.write_pushed(rt);
+        let mut stables = self.stables.take();
+        self.server.gather(rt, &mut stables);
+        self.server.send_gathered(rt);
+        self.is_urgent = false;
+        self.served = 0;
     }
 
     // Writes what was pushed to the sessions that are remembered.
@@ -137,6 +167,8 @@ pub fn run_receiver<T: SharedTable, R: Wait + Clock>(
         server,
         pushed: Vec::new(shared.alloc),
         stables: Stables::new(shared.alloc),
+        served: 0,
+        is_urgent: false,
     };
     let mut is_failing = false;
     for _ in rt.forever() {

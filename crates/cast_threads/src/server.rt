@@ -4,11 +4,11 @@ use cast_edge::{
     write_now, write_whole,
 };
 use cast_events::{Asked, Event, Fault, Outs, Taken};
-use cast_link::{Wire, send_all};
+use cast_link::{Sent, Wire, send_all, send_bundled};
 use cast_message::Push;
 use cast_session::spell_out;
 use cast_shared::{Came, Pace, Shared, SharedTable, Turn, Udp};
-use cast_types::{DomainNo, List, Refusal, SiteNo};
+use cast_types::{DomainNo, List, NoMemory, Refusal, SiteNo};
 use std::mem;
 use std::sync::Wait;
 use std::sync::atomic::Ordering;
@@ -22,6 +22,9 @@ const ROUNDS: u32 = 4;
 // So many bytes of room are kept for what is to be written.
 const ROOM: usize = 65_536;
 
+// So many frames are gathered at most before they are sent.
+const MOST_GATHERED: usize = 128;
+
 /// What a thread needs to serve events.
 #[derive(Drop)]
 pub struct Server<'a, T: SharedTable> {
@@ -30,6 +33,8 @@ pub struct Server<'a, T: SharedTable> {
     pub wire: Udp<'a>,
     // The bytes of entries that are to be written.
     room: Vec<u8>,
+    // The frames that are gathered, to be sent together. None if each frame has a datagram of its own.
+    gathered: Outs,
 }
 
 /// The session that an entry was pushed to.
@@ -48,6 +53,7 @@ impl<'a, T: SharedTable> Server<'a, T> {
             share,
             wire: Udp::new(shared.alloc, shared.links),
             room: Vec::new(shared.alloc),
+            gathered: Outs::new(shared.alloc),
         }
     }
 
@@ -96,8 +102,8 @@ impl<'a, T: SharedTable> Server<'a, T> {
             )
         {
             self.end_silence(rt, site);
-            let again = unacknowledged.acknowledge(rt, id);
-            self.send_frames(rt, &again);
+            let mut again = unacknowledged.acknowledge(rt, id);
+            self.gather(rt, &mut again);
         }
         Some(outs)
     }
@@ -128,16 +134,51 @@ impl<'a, T: SharedTable> Server<'a, T> {
         Unacknowledged::note_all(rt, self.shared.unacknowledged, outs);
     }
 
-    /// Sends the frames of an event, and tells the operator which domains it halted.
-    pub fn send<R: Wait>(&mut self, rt: &R, outs: &Outs) {
-        self.send_frames(rt, outs);
+    /// Takes the frames of an event, to be sent with those of others at the latest by `send_gathered`, and tells the operator which
+    /// domains it halted. If each frame has a datagram of its own, they are sent now.
+    pub fn gather<R: Wait>(&mut self, rt: &R, outs: &mut Outs) {
+        if self.shared.bundle.is_none() {
+            self.send_frames(rt, outs);
+        } else {
+            self.gather_frames(rt, outs);
+        }
         for domain in outs.halted.as_slice() {
             self.shared.note_halt();
             self.shared.report(rt, Report::Halted(*domain));
         }
     }
 
-    // Sends the frames of an event, but for messages for silent sites beyond the first few.
+    // Gathers the frames of an event. Sends them once they are many.
+    fn gather_frames<R: Wait>(&mut self, rt: &R, outs: &mut Outs) {
+        let frames = mem::replace(&mut outs.frames, List::new(self.shared.alloc));
+        for frame in frames.into_vec() {
+            if self.gathered.frames.push(frame).is_err() {
+                self.shared.desk.lock(rt).count_unspelled(rt, 1);
+            }
+            if self.gathered.frames.len() >= MOST_GATHERED {
+                self.send_gathered(rt);
+            }
+        }
+    }
+
+    /// Sends the frames that are gathered.
+    pub fn send_gathered<R: Wait>(&mut self, rt: &R) {
+        if !self.gathered.frames.is_empty() {
+            let outs = mem::replace(&mut self.gathered, Outs::new(self.shared.alloc));
+            self.send_frames(rt, &outs);
+        }
+    }
+
+    /// Sends the frames of an event, and tells the operator which domains it halted. Frames that were gathered before go with them.
+    pub fn send<R: Wait>(&mut self, rt: &R, outs: &mut Outs) {
+        let has_frames = !outs.frames.is_empty();
+        self.gather(rt, outs);
+        if has_frames {
+            self.send_gathered(rt);
+        }
+    }
+
+    // Sends frames, but for messages for silent sites beyond the first few.
     fn send_frames<R: Wait>(&mut self, rt: &R, outs: &Outs) {
         match Silence::pass(rt, self.shared.alloc, self.shared.silences, outs) {
             Some(passed) => self.send_passed(rt, &passed),
@@ -145,13 +186,22 @@ impl<'a, T: SharedTable> Server<'a, T> {
         }
     }
 
-    // Sends the frames of an event, if there is room to count one more failure of each.
+    // Gives the links frames. They share datagrams if they may.
+    fn give(&mut self, outs: &Outs) -> Result<Sent, NoMemory> {
+        let shared = self.shared;
+        match shared.bundle {
+            Some(most) => send_bundled(shared.alloc, &mut self.wire, shared.own, outs, most),
+            None => send_all(shared.alloc, &mut self.wire, shared.own, outs),
+        }
+    }
+
+    // Sends frames, if there is room to count one more failure of each.
     fn send_passed<R: Wait>(&mut self, rt: &R, outs: &Outs) {
         let count = outs.frames.len() as u64;
         if count == 0 || count >= u64::MAX - self.wire.failures() {
             return;
         }
-        match send_all(self.shared.alloc, &mut self.wire, self.shared.own, outs) {
+        match self.give(outs) {
             Ok(sent) => {
                 self.shared
                     .traffic
@@ -166,7 +216,7 @@ impl<'a, T: SharedTable> Server<'a, T> {
     }
 
     /// Sends the frames of an event, and has the outboxes taken that it pushed to.
-    pub fn finish<R: Wait>(&mut self, rt: &R, outs: &Outs) {
+    pub fn finish<R: Wait>(&mut self, rt: &R, outs: &mut Outs) {
         self.send(rt, outs);
         let pushed = outs.pushed.as_slice();
         if pushed.is_empty() {
@@ -252,8 +302,8 @@ impl<'a, T: SharedTable> Server<'a, T> {
             serial,
             most: BATCH,
         };
-        let (answer, outs) = self.serve(rt, event);
-        self.send(rt, &outs);
+        let (answer, mut outs) = self.serve(rt, event);
+        self.send(rt, &mut outs);
         match answer {
             Ok(Taken::Entries(entries)) => self.put_entries(rt, client, entries, may_wait),
             Ok(Taken::Refused(Refusal::Halted)) => {

@@ -1,0 +1,179 @@
+"""Frames that share datagrams."""
+
+import collections
+import json
+import random
+import struct
+import threading
+import time
+import unittest
+
+from harness import PATIENCE, PROGRAM, Case, castd, wait_until, wait_for_view
+from daemons import Castd, free_addresses
+from links import linked
+from test_daemon import ACK, CAST, DATA, ID, DaemonCase, Site, bundle, cast, frames_of
+
+BUNDLE = "[network]\nbundle = true\n"
+CASTS = 80
+# Of a hundred datagrams so many are lost, come twice, or come late.
+LOST, TWICE, LATE = 5, 5, 20
+
+
+def fate() -> list[float]:
+    """After how many seconds a datagram is delivered, if it is."""
+    if random.random() < LOST / 100:
+        return []
+    late = 0.003 if random.random() < LATE / 100 else 0.0
+    return [late] * (2 if random.random() < TWICE / 100 else 1)
+
+
+class Bundling(Castd):
+    CONFIG = Castd.CONFIG + BUNDLE
+
+
+class Member(threading.Thread):
+    """A program that casts, and keeps what it is pushed. Each payload says how many messages of each process its sender had delivered."""
+
+    def __init__(self, session: castd.Session):
+        super().__init__(daemon=True)
+        self.session, self.process = session, session.process
+        self.delivered: collections.Counter[str] = collections.Counter()
+        # Of each view in which there are casts, what it delivered.
+        self.views: dict[int, list[tuple[str, int, bool]]] = collections.defaultdict(list)
+        self.faults: list[str] = []
+        self.lock = threading.Lock()
+
+    def say(self, place: int) -> None:
+        kind = castd.ATOMIC if place % 3 == 0 else castd.CAUSAL
+        with self.lock:
+            payload = json.dumps([place, self.delivered]).encode()
+        self.session.send(castd.codec.Cast(1, kind, payload))
+
+    def run(self) -> None:
+        for push in self.session:
+            if isinstance(push, castd.Deliver):
+                self.take(push)
+
+    def take(self, push: castd.Deliver) -> None:
+        sender, (place, before) = str(push.process), json.loads(push.payload)
+        if place != self.delivered[sender]:
+            self.faults.append(f"{sender} {place} after {self.delivered[sender]} of it")
+        for other, count in before.items():
+            if self.delivered[other] < count:
+                self.faults.append(f"{sender} {place} before {other} {self.delivered[other]}")
+        with self.lock:
+            self.delivered[sender] += 1
+        self.views[push.view].append((sender, place, push.kind == castd.ATOMIC))
+
+
+class Clusters(Case):
+    def cluster(self, *kinds: type[Castd]) -> tuple[list[Castd], list[Member]]:
+        """Daemons of these kinds at sites whose links are bad, with a program at each that joined."""
+        told, links = linked(free_addresses(len(kinds)), fate)
+        for link in links:
+            self.addCleanup(link.end)
+        daemons = []
+        for kind, (site, addresses) in zip(kinds, told.items()):
+            daemons.append(kind(PROGRAM, self.folder, site, addresses))
+            self.addCleanup(daemons[-1].kill)
+        sessions = [castd.Session(it.path, PATIENCE) for it in daemons]
+        for session in sessions:
+            self.addCleanup(session.close)
+            session.join(1, PATIENCE)
+        for session in sessions[:-1]:
+            wait_for_view(session, len(sessions))
+        members = [Member(it) for it in sessions]
+        for member in members:
+            member.start()
+        return daemons, members
+
+    def assert_agree(self, one: Member, other: Member) -> None:
+        """Two members of the same views delivered the same messages in each, and ABCASTs in one order."""
+        for view in one.views.keys() | other.views.keys():
+            mine, others = one.views[view], other.views[view]
+            self.assertEqual(sorted(mine), sorted(others), view)
+            self.assertEqual(*([it for it in all if it[2]] for all in (mine, others)), view)
+
+    def assert_delivered(self, members: list[Member], senders: list[Member]) -> None:
+        """Each of these delivered all casts of those, and none before one that happened before it."""
+        names = [str(it.process) for it in senders]
+        for member in members:
+            wait_until(lambda: all(member.delivered[it] == CASTS for it in names), f"{member.delivered} of {CASTS} each")
+            self.assertEqual(member.faults, [])
+
+    def all_casts(self, members: list[Member], then=lambda place: None) -> None:
+        for place in range(CASTS):
+            for member in members:
+                member.say(place)
+            then(place)
+            time.sleep(0.002)
+
+    def test_sites_with_and_without_bundles_deliver_alike(self):
+        _, members = self.cluster(Bundling, Castd, Bundling)
+        self.all_casts(members)
+        self.assert_delivered(members, members)
+        for member in members[1:]:
+            self.assert_agree(members[0], member)
+
+    def test_a_site_that_is_wrongly_suspected_is_put_out(self):
+        daemons, members = self.cluster(Bundling, Bundling, Bundling)
+
+        def suspect(place: int) -> None:
+            if place == CASTS // 2:
+                daemons[0].say("suspect 1 3\n")
+                self.assertEqual(daemons[0].line(PATIENCE), "ok")
+
+        self.all_casts(members, suspect)
+        self.assert_delivered(members[:2], members[:2])
+        self.assert_agree(*members[:2])
+        self.assertEqual(members[2].faults, [])
+
+
+class Datagrams(DaemonCase):
+    def played(self, **domain) -> tuple:
+        """A daemon that sends bundles, a program of it, and the other site, which the test plays."""
+        daemon = self.serving(self.setup_of(2, {"number": 1, "resend": 60_000, **domain}, network={"bundle": True, "datagram": 512}))
+        program, site = self.member(), Site(self, 2)
+        self.addCleanup(site.socket.close)
+        site.enter(2)
+        self.assertEqual(program.kinds(1), [castd.View])
+        return daemon, program, site
+
+    def test_frames_of_one_read_share_datagrams(self):
+        daemon, program, site = self.played()
+        program.write(*[cast(bytes([place]) * 100) for place in range(6)], cast(bytes(600)), cast())
+        frames, sizes = [], []
+        while len(frames) < 8:
+            datagram = site.socket.recv(65_536)
+            sizes.append(len(datagram))
+            frames += [it for it in frames_of(datagram) if it[3] == DATA]
+        self.assertEqual(program.kinds(16), CAST * 8)
+        # In the order of the casts, in bundles of at most 512 bytes; the long one goes alone.
+        self.assertEqual([struct.unpack_from(">I", it, 19)[0] for it in frames], list(range(1, 9)))
+        self.assertEqual([it for it in sizes if it > 512], [len(frames[6])])
+        self.assertLess(len(sizes), 6)
+        site.socket.sendto(bundle(*(site.frame(ACK, it[ID]) for it in frames)), self.address(1))
+        wait_until(lambda: " held 0 " in daemon.ask("show 1"), "all are acknowledged")
+        self.assert_stops(daemon)
+
+    def test_random_bundles_are_counted(self):
+        daemon, program, site = self.played()
+        expected = 0
+        for place in range(1, 1_001):
+            datagram = bytearray(bundle(*(b"?" + random.randbytes(random.randint(0, 20)) for _ in range(random.randint(1, 4)))))
+            for _ in range(random.randint(0, 2)):
+                datagram[random.randrange(2, len(datagram))] = random.randrange(256)
+            if random.random() < 0.2:
+                del datagram[random.randrange(2, len(datagram)) :]
+            site.socket.sendto(datagram, self.address(1))
+            # What is in it is no frame.
+            expected += len(frames_of(bytes(datagram)) or [b""])
+            if place % 50 == 0:
+                wait_until(lambda: int(daemon.ask("datagrams").split()[-1]) == expected, f"{expected} are counted")
+        self.assert_is_served(program)
+        self.assertEqual(daemon.ask("stop"), "ok")
+        self.assert_ends(daemon, 0)
+
+
+if __name__ == "__main__":
+    unittest.main()
