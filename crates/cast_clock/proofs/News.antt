@@ -20,7 +20,7 @@ use Rattle.cast_clock.specs.News.{covers, outranks, is_known, news, put_all}
 use Rattle.cast_clock.proofs.Entries.{as_T, from_T, both_parts, and_both, and_true, less_is, find_below, found_holds, found_or, each_found, option_cases}
 use Rattle.cast_clock.proofs.Joins.{join_clocks-first}
 use Rattle.cast_clock.proofs.Rooms.{fits_from_room, room_from_fits}
-use Rattle.cast_clock.proofs.Valid.{le_from, lt_from, valid_counts, is_counts-clock_of, sorted_time, has_room-time, is_time-put}
+use Rattle.cast_clock.proofs.Valid.{le_from, le_as, lt_from, valid_counts, is_counts-clock_of, sorted_time, has_room-time, is_time-put}
 
 -- ---- tests of all items, one after the other
 next_item : {X : Type 0} (f : X → Bool) (xs : List X) (i : ℕ) (e : X) → i < length xs → e ≡ get_or xs i e → list_all f (drop i xs) ≡ (f e && list_all f (drop (i + 1) xs))
@@ -34,9 +34,6 @@ all_stops f xs i e at read so_far failed = sym (sym so_far ∙ next_item f xs i 
 
 pub all_goes : {X : Type 0} (f : X → Bool) (xs : List X) (i : ℕ) (e : X) → i < length xs → e ≡ get_or xs i e → list_all f (drop i xs) ≡ list_all f xs → f e ≡ true → list_all f (drop (i + 1) xs) ≡ list_all f xs
 all_goes f xs i e at read so_far held = sym (ap (λ b. b && list_all f (drop (i + 1) xs)) held) ∙ sym (next_item f xs i e at read) ∙ so_far
-
-pub all_rest : {X : Type 0} (f : X → Bool) (xs : List X) (i : ℕ) (e : X) → i < length xs → e ≡ get_or xs i e → list_all f (drop i xs) ≡ true → list_all f (drop (i + 1) xs) ≡ true
-all_rest f xs i e at read all = (and_both (f e) (list_all f (drop (i + 1) xs)) (sym (next_item f xs i e at read) ∙ all)).1
 
 -- ---- a join of counts, one after the other
 pub counts_next : (c d made : CountList) (i : ℕ) (none : Entry) → i < length d → made ≡ put proc_cmp (get_or d i none).0 (max (count_of c (get_or d i none).0) (get_or d i none).1) c → join_counts made (drop (i + 1) d) ≡ join_counts c (drop i d)
@@ -113,6 +110,17 @@ known_put s m g b valid up same known = elim (option_cases (find group_cmp g s))
       ap (λ (o : Option Clock). put group_cmp g (join_clocks (unwrap_or o (first_clock 0)) b) m) found
       ∙ ap (λ c. put group_cmp g c m) (outranked a b in_order held)
       ∙ put_same group_cmp group_total g a m up found
+]
+
+-- what is known has room, joined
+pub known_fits : (s : ClockList) (g : GroupNo) (b : Clock) → IsTrue (is_time s) → is_known (find group_cmp g s) b ≡ true → clock_has_room (join_clocks (clock_of s g) b) ≡ true
+known_fits s g b valid known = elim (option_cases (find group_cmp g s)) [
+  | inl none ↦ let none_known : false ≡ true = ap (λ (o : Option Clock). is_known o b) (sym none) ∙ known in cc
+  | inr some ↦
+      let kept : clock_of s g ≡ some.0 = ap (λ (o : Option Clock). unwrap_or o (first_clock 0)) some.1 in
+      let held : outranks (clock_of s g) b ≡ true = ap (λ (c : Clock). outranks c b) kept ∙ ap (λ (o : Option Clock). is_known o b) (sym some.1) ∙ known in
+      let mine = valid_counts (clock_of s g).counts (is_counts-clock_of s g valid) in
+      ap clock_has_room (outranked (clock_of s g) b (as_T _ mine.in_order) held) ∙ le_as (length (clock_of s g).counts) 64 mine.few
 ]
 
 -- ---- what is new is all that a join changes

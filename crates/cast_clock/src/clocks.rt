@@ -1,13 +1,14 @@
-ghost use Rattle.std.specs.Prelude.{◌≡◌, ◌<◌, ◌≤◌, ◌+◌, IfOk, IsOk, OnOk, OnErr, IsTrue, true, nat_lt, unwrap_or, vec_len, vec_capacity};
+ghost use Rattle.std.specs.Prelude.{◌≡◌, ◌<◌, ◌≤◌, ◌+◌, IfOk, IsOk, OnOk, OnErr, IsTrue, true, false, nat_lt, unwrap_or, vec_len, vec_capacity};
 ghost use Rattle.std.specs.Option.{option_copied};
 ghost use Rattle.std.specs.List.{list_all};
 ghost use Rattle.std.specs.FinMap.Entries.{put, is_sorted};
 ghost use Rattle.cast_types.specs.Names.{group_cmp};
 ghost use Rattle.cast_types.specs.Counts.{is_counts};
-ghost use Rattle.cast_clock.specs.Times.{first_clock, clock_of, view_of, clock_at_most, at_most, join_clocks, clock_has_room};
+ghost use Rattle.cast_clock.specs.Times.{first_clock, clock_of, view_of, clock_at_most, at_most, join_clocks, clock_has_room, is_time};
 ghost use Rattle.cast_clock.specs.News.{is_known, news, put_all};
 
-use crate::counts::{counts_at_most, covers, join_counts, joined_len};
+use crate::counts::{counts_at_most, covers, join_counts, joins_within};
+use crate::fault::ClockFault;
 use crate::places::{find_near, place_near};
 use cast_types::limits::MAX_MEMBERS;
 use cast_types::{Clock, Counts, GroupNo, NoMemory, Proc, sorted};
@@ -89,7 +90,7 @@ pub fn fits_joined(mine: Option<&Clock>, theirs: &Clock) -> bool
     let there = theirs.counts.entries();
     match view.cmp(&theirs.view) {
         Ordering::Less => there.len() <= MAX_MEMBERS,
-        Ordering::Equal => joined_len(here, there) <= MAX_MEMBERS,
+        Ordering::Equal => joins_within(here, there),
         Ordering::Greater => here.len() <= MAX_MEMBERS,
     }
 }
@@ -153,22 +154,26 @@ pub fn join_clock(alloc: Global, mine: Option<&Clock>, theirs: &Clock) -> Result
     }
 }
 
-/// The joined clocks of the groups whose clock the join changes.
+/// The joined clocks of the groups whose clock the join changes. `TooMany`: one of them has more than 64 counts.
 pub fn news(
     alloc: Global,
     mine: &[(GroupNo, Clock)],
     theirs: &[(GroupNo, Clock)],
-) -> Result<Vec<(GroupNo, Clock)>, NoMemory>
-    requires mine { is_sorted group_cmp mine.now ≡ true }
-    requires room { list_all (λ e. clock_has_room (join_clocks (clock_of mine.now e.0) e.1)) theirs.now ≡ true }
+) -> Result<Vec<(GroupNo, Clock)>, ClockFault>
+    requires { IsTrue (is_time mine.now) }
     ensures value { IfOk result (λ v. v.items ≡ news mine.now theirs.now) }
     ensures valid { IfOk result (λ v. list_all (λ e. is_counts e.1.counts) v.items ≡ true) }
+    ensures fits { OnOk result (list_all (λ e. clock_has_room (join_clocks (clock_of mine.now e.0) e.1)) theirs.now ≡ true) }
+    ensures too_many { result ≡ Err ClockFault.TooMany → list_all (λ e. clock_has_room (join_clocks (clock_of mine.now e.0) e.1)) theirs.now ≡ false }
 {
     let mut news = Vec::new(alloc);
     let mut place = 0;
     for (group, clock) in theirs {
         let (found, next) = find_near(mine, place, group);
         if !is_known(found, clock) {
+            if !fits_joined(found, clock) {
+                return Err(ClockFault::TooMany);
+            }
             news.push((*group, join_clock(alloc, found, clock)?))?;
         }
         place = next;

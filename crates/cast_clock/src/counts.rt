@@ -43,8 +43,17 @@ pub fn covers(mine: &[(Proc, u32)], theirs: &[(Proc, u32)]) -> bool
     true
 }
 
-/// How many counts the join of two has. Takes no memory.
-pub fn joined_len(mine: &[(Proc, u32)], theirs: &[(Proc, u32)]) -> usize
+/// Whether the join of two has at most 64 counts, as it always has where both together have no more. Takes no memory.
+pub fn joins_within(mine: &[(Proc, u32)], theirs: &[(Proc, u32)]) -> bool
+    requires mine { IsTrue (is_counts mine.now) }
+    requires theirs { IsTrue (is_counts theirs.now) }
+    ensures { result ≡ nat_le (length (join_counts mine.now theirs.now)) 64 }
+{
+    mine.len() + theirs.len() <= MAX_MEMBERS || joined_len(mine, theirs) <= MAX_MEMBERS
+}
+
+// How many counts the join of two has.
+fn joined_len(mine: &[(Proc, u32)], theirs: &[(Proc, u32)]) -> usize
     requires mine { IsTrue (is_counts mine.now) }
     requires theirs { IsTrue (is_counts theirs.now) }
     ensures { result ≡ length (join_counts mine.now theirs.now) }

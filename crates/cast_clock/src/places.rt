@@ -16,6 +16,15 @@ pub fn place_near<K: Ord + Copy, V>(
     if place < entries.len() && entries[place].0.cmp(key).is_eq() {
         return Ok(place);
     }
+    place_by_halving(entries, key)
+}
+
+// The same, found by halving. It stays out of line, so that loops in which the given place is mostly right are small.
+#[inline(never)]
+fn place_by_halving<K: Ord + Copy, V>(entries: &[(K, V)], key: &K) -> Result<usize, usize>
+    ensures bound { IsSearchInRange result (length entries.now) }
+    ensures position { IsBinarySearchResult (λ e. K.cmp e.0 key.now) entries.now result }
+{
     entries.binary_search_by_key(key, |entry| entry.0)
 }
 

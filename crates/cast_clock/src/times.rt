@@ -123,9 +123,6 @@ impl Times {
         ensures too_many { result ≡ Err ClockFault.TooMany → has_room (join self.old stamp.now) ≡ false }
         ensures err { OnErr result (self.new ≡ self.old) }
     {
-        if !self.has_room_for(stamp) {
-            return Err(ClockFault::TooMany);
-        }
         let news = news(*self.clocks.allocator(), &self.clocks, stamp.clocks())?;
         put_all(&mut self.clocks, news)?;
         Ok(())

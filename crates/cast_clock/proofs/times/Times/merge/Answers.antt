@@ -5,21 +5,23 @@ use Rattle.cast_clock.proofs.News.{all_fit, has_room-join, news_join, is_time-pu
 use Rattle.cast_clock.proofs.Valid.{sorted_stamp}
 use Rattle.cast_clock.proofs.times.Times.merge.Goals as goal
 
-pub returns-then-not-has_room_for-clause-err : goal.returns-then-not-has_room_for-clause-err
-returns-then-not-has_room_for-clause-err c = search rules
-
-pub returns-clause-fits : goal.returns-clause-fits
-returns-clause-fits c = search rules
-
-pub news-requires-clause-room : goal.news-requires-clause-room
-news-requires-clause-room c =
+pub returns-in_err-news-clause-too_many : goal.returns-in_err-news-clause-too_many
+returns-in_err-news-clause-too_many c = λ failed.
     let mine = c.args.self.now in
     let theirs = c.args.stamp.now in
     let valid : IsTrue (is_time mine) = subst (λ t. IsTrue (is_time t)) c.self.view_is c.self.invariant in
-    (λ i. all_fit ((c.deref.ensures.value ∙ c.self.view_is) i) (c.clocks.ensures.value i))
-    ∙ has_room-join mine theirs valid (sorted_stamp theirs c.clocks.ensures.valid)
-    ∙ sym c.has_room_for.ensures
-    ∙ c.if-not-has_room_for.false
+    sym (has_room-join mine theirs valid (sorted_stamp theirs c.clocks.ensures.valid))
+    ∙ (λ i. all_fit (sym (c.deref.ensures.value ∙ c.self.view_is) i) (sym c.clocks.ensures.value i))
+    ∙ c.in_err-news.ensures.too_many (search rules)
+
+pub returns-clause-fits : goal.returns-clause-fits
+returns-clause-fits c =
+    let mine = c.args.self.now in
+    let theirs = c.args.stamp.now in
+    let valid : IsTrue (is_time mine) = subst (λ t. IsTrue (is_time t)) c.self.view_is c.self.invariant in
+    sym (has_room-join mine theirs valid (sorted_stamp theirs c.clocks.ensures.valid))
+    ∙ (λ i. all_fit (sym (c.deref.ensures.value ∙ c.self.view_is) i) (sym c.clocks.ensures.value i))
+    ∙ c.in_ok-news.ensures.fits
 
 pub invariant_of-self-2 : goal.invariant_of-self-2
 invariant_of-self-2 c =
