@@ -158,7 +158,7 @@ impl Row {
                 process: entry.0,
             };
             let (done, next) = self.done.near(*place, source);
-            if done < needed_count(id, group, view, *entry) {
+            if !is_enough(done, id, group, view, *entry) {
                 return false;
             }
             *place = next;
@@ -385,6 +385,13 @@ fn needed_count(id: Uid, group: GroupNo, view: u32, entry: (Proc, u32)) -> u32
     } else {
         count
     }
+}
+
+// Whether so many messages of an entry suffice before a message. Mostly they are as many as the entry counts.
+fn is_enough(done: u32, id: Uid, group: GroupNo, view: u32, entry: (Proc, u32)) -> bool
+    ensures { result ≡ nat_le (needed id group view entry) done }
+{
+    done >= entry.1 || done >= needed_count(id, group, view, entry)
 }
 
 /// Rows, copied.
