@@ -10,6 +10,7 @@ use Rattle.cast_script.specs.WordReadings.{◌>>=◌, each}
 use Rattle.cast_config.specs.declared.domains.DomainEntry.{DomainEntry}
 use Rattle.cast_config.specs.declared.setup.DomainSocket.{DomainSocket}
 use Rattle.cast_config.specs.declared.setup.Setup.{Setup}
+use Rattle.cast_config.specs.declared.network.Network.{Network}
 use Rattle.cast_config.specs.declared.sites.SiteAddress.{SiteAddress}
 use Rattle.cast_config.specs.declared.fault.Field.{Field}
 use Rattle.cast_config.specs.declared.fault.Field.TheVariants as field
@@ -17,7 +18,7 @@ use Rattle.cast_config.specs.declared.fault.Cause.TheVariants.{NotToml, Range, R
 use Rattle.cast_config.specs.declared.fault.ConfigFault.{ConfigFault}
 use Rattle.cast_config.specs.Faults.{fault}
 use Rattle.cast_config.specs.Fields.{all_pass, at_field, counted, items_of_array, needed, table_of}
-use Rattle.cast_config.specs.Entries.{bundle_of, domain_of, site_of}
+use Rattle.cast_config.specs.Entries.{domain_of, network_of, site_of}
 
 -- the tables at a field of the document, which has to be an array of tables
 unfoldable pub tables_at : Field → Members → Result (List Members) ConfigFault
@@ -99,27 +100,28 @@ configs_of domains = map (λ d. d.config) domains
 abbrev pub sockets_of : List DomainEntry → List DomainSocket
 sockets_of domains = map (λ d. record { domain = d.config.domain; path = d.socket }) domains
 
--- what is found of the network gives no bundles where it is absent
-abbrev pub bundle_found : Option Data → Result (Option ℕ) ConfigFault
-bundle_found None = Ok None
-bundle_found (Some d) = do
+-- what is found of the network gives no bundles and no delay where it is absent
+abbrev pub network_found : Option Data → Result Network ConfigFault
+network_found None = Ok (record { bundle = None; delay = 0 })
+network_found (Some d) = do
   members ← table_of field.Network d
-  bundle_of members
+  network_of members
 
--- the most bytes of a bundle by the network of the document, which may be absent, and is else a table
-unfoldable pub bundle_at : Members → Result (Option ℕ) ConfigFault
-bundle_at members = bundle_found (at_field field.Network members)
+-- the network of the document, which may be absent, and is else a table
+unfoldable pub network_at : Members → Result Network ConfigFault
+network_at members = network_found (at_field field.Network members)
 
 -- the set-up of a site with these domains, of which there have to be some, and then with the network of the document
 unfoldable pub given : SiteNo → Members → List SiteAddress → List DomainEntry → Result Setup ConfigFault
-given own members sites [] = Err (fault field.Domain Range)
+given own _ sites [] = Err (fault field.Domain Range)
 given own members sites (d ∷ ds) = do
-  bundle ← bundle_at members
+  network ← network_at members
   Ok (record {
     config = record { site = own; domains = configs_of (d ∷ ds) };
     addresses = sites;
     sockets = sockets_of (d ∷ ds);
-    bundle = bundle;
+    bundle = network.bundle;
+    delay = network.delay;
   })
 
 -- from the tables of sites and domains: first the sites, then how many domains there are, then the domains, then the network

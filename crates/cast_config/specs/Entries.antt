@@ -1,13 +1,14 @@
 -- What a site's table, a domain's table and the table of the network say, field by field.
-use Rattle.std.specs.Prelude.{ℕ, if◌then◌else◌, List, map, Option, Some, None, Result, Ok}
+use Rattle.std.specs.Prelude.{ℕ, if◌then◌else◌, List, map, Some, None, Result, Ok}
 use Rattle.toml.specs.Data.{Members}
 use Rattle.cast_types.specs.declared.names.SiteNo.{SiteNo}
 use Rattle.cast_types.specs.declared.names.GroupNo.{GroupNo}
 use Rattle.cast_quota.specs.declared.quotas.Quotas.{Quotas}
 use Rattle.cast_script.specs.WordReadings.{◌>>=◌}
 use Rattle.cast_config.specs.declared.domains.DomainEntry.{DomainEntry}
+use Rattle.cast_config.specs.declared.network.Network.{Network}
 use Rattle.cast_config.specs.declared.sites.SiteAddress.{SiteAddress}
-use Rattle.cast_config.specs.declared.fault.Field.TheVariants.{Number, Address, Home, Sites, Groups, Socket, Sessions, Held, Outbox, Resend, Bundle, Datagram}
+use Rattle.cast_config.specs.declared.fault.Field.TheVariants.{Number, Address, Home, Sites, Groups, Socket, Sessions, Held, Outbox, Resend, Bundle, Datagram, Delay}
 use Rattle.cast_config.specs.declared.fault.ConfigFault.{ConfigFault}
 use Rattle.cast_config.specs.Fields.{boolean_at, number_at, number_at_or, numbers_at, text_at}
 
@@ -47,9 +48,10 @@ domain_of members = do
     socket = path;
   })
 
--- the most bytes of a bundle, if frames are to share datagrams; the number is tested in any case
-unfoldable pub bundle_of : Members → Result (Option ℕ) ConfigFault
-bundle_of members = do
+-- the most bytes of a bundle, if frames are to share datagrams, and the delay; each number is tested in any case
+unfoldable pub network_of : Members → Result Network ConfigFault
+network_of members = do
   bundle ← boolean_at Bundle members
   most ← number_at_or Datagram 8972 512 60000 members
-  Ok (if bundle then Some most else None)
+  delay ← number_at_or Delay 0 0 1000000 members
+  Ok (record { bundle = if bundle then Some most else None; delay = delay })

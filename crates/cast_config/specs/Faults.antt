@@ -23,6 +23,7 @@ field_text field.Resend = codes "resend"
 field_text field.Network = codes "network"
 field_text field.Bundle = codes "bundle"
 field_text field.Datagram = codes "datagram"
+field_text field.Delay = codes "delay"
 
 abbrev pub cause_text : Cause → List ℕ
 cause_text cause.NotToml = codes "not toml"

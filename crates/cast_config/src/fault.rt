@@ -32,6 +32,7 @@ pub enum Field {
     Network,
     Bundle,
     Datagram,
+    Delay,
 }
 
 impl Field {
@@ -56,6 +57,7 @@ impl Field {
             Field::Network => "network",
             Field::Bundle => "bundle",
             Field::Datagram => "datagram",
+            Field::Delay => "delay",
         }
     }
 }

@@ -9,7 +9,7 @@ ghost use Rattle.cast_config.specs.Documents.{configs_of, document_gives, given,
 use crate::domains::{DomainEntry, domains_of, own_domains};
 use crate::fault::{Cause, ConfigFault, Field};
 use crate::fields::{check_count, fault, items_of, require, table_of};
-use crate::network::bundle_at;
+use crate::network::network_at;
 use crate::sites::{SiteAddress, sites_of};
 use crate::text::Text;
 use cast_events::{Config, DomainConfig};
@@ -37,6 +37,9 @@ pub struct Setup {
     pub sockets: List<DomainSocket>,
     /// The most bytes of a bundle, if frames are to share datagrams.
     pub bundle: Option<u32>,
+    /// For how many microseconds messages may queue on their way to other sites before the programs of a domain wait. 0 if that
+    /// is not looked at.
+    pub delay: u32,
 }
 
 // Values that are tables.
@@ -116,6 +119,7 @@ fn build_setup(
     if domains.is_empty() {
         return Err(fault(Field::Domain, Cause::Range));
     }
+    let network = network_at(document)?;
     Ok(Setup {
         config: Config {
             site: own,
@@ -123,7 +127,8 @@ fn build_setup(
         },
         addresses,
         sockets: sockets_of(alloc, domains)?,
-        bundle: bundle_at(document)?,
+        bundle: network.bundle,
+        delay: network.delay,
     })
 }
 
@@ -162,8 +167,8 @@ fn document_gives(alloc: Global, own: SiteNo, document: &Table) -> Result<Setup,
 /// 1 to 16 domains; of each `domain` its `number`, `home`, `sites`, `groups` and `socket`, and `sessions`, `held`, `outbox` and
 /// `resend` where it has them; that their numbers are all different; of each domain that its sites are in the document and its
 /// home is one of them; that the given site has a domain; that `network`, where the document has it, is a table, and of it
-/// `bundle` and `datagram` where it has them. A domain that the site has not is left out. `NoMemory` comes where an allocation
-/// was refused, and says nothing of the text.
+/// `bundle`, `datagram` and `delay` where it has them. A domain that the site has not is left out. `NoMemory` comes where an
+/// allocation was refused, and says nothing of the text.
 #[tactic(auto, unfolding(crate::specs::Documents::setup_of))]
 pub fn read(alloc: Global, text: &str, site: SiteNo) -> Result<Setup, ConfigFault>
     // Which set-up, or the first fault.
