@@ -87,6 +87,10 @@ FAULTS = {
     "a short datagram": (GOOD + "[network]\ndatagram = 511", "network: datagram: 511 is not 512 to 60000"),
     "a long datagram": (GOOD + "[network]\nbundle = true\ndatagram = 60001", "network: datagram: 60001 is not"),
     "no bundles, and a short datagram": (GOOD + "[network]\nbundle = false\ndatagram = 0", "network: datagram: 0 is"),
+    "a delay of another kind": (GOOD + '[network]\ndelay = "300"', "network: delay: not a whole number"),
+    "a delay with a truth": (GOOD + "[network]\ndelay = false", "network: delay: not a whole number"),
+    "a delay below none": (GOOD + "[network]\ndelay = -1", "network: delay: -1 is not 0 to 1000000"),
+    "a long delay": (GOOD + "[network]\nbundle = true\ndelay = 1000001", "network: delay: 1000001 is not 0 to"),
 }
 
 # What castd does not refuse with status 6: the text, the finding, and the status of castd, None where it serves.
@@ -199,7 +203,14 @@ class ConfigurationCase(Case):
 
 class Lint(ConfigurationCase):
     def test_finds_nothing_in_what_is_good(self):
-        for network in ("", "[network]\n", "[network]\nbundle = true\n", "[network]\nbundle = true\ndatagram = 60000\n"):
+        for network in (
+            "",
+            "[network]\n",
+            "[network]\nbundle = true\n",
+            "[network]\nbundle = true\ndatagram = 60000\n",
+            "[network]\ndelay = 0\n",
+            "[network]\nbundle = true\ndelay = 1000000\n",
+        ):
             with self.subTest(network):
                 path = self.written(GOOD + network)
                 self.assert_found(path, [])
@@ -296,13 +307,24 @@ class Check(ConfigurationCase):
             (site + domain + rest + "[network]\nbundle = true\ndatagram = 60001\n", 1, "datagram: out of range"),
             (site + domain + rest + "[network]\nbundle = false\ndatagram = 511\n", 1, "datagram: out of range"),
             (site + domain + rest + "[network]\ndatagram = -512\n", 1, "datagram: out of range"),
+            (site + domain + rest + "[network]\ndelay = 300.0\n", 1, "delay: wrong kind"),
+            (site + domain + rest + "[network]\nbundle = true\ndelay = true\n", 1, "delay: wrong kind"),
+            (site + domain + rest + "[network]\ndelay = -1\n", 1, "delay: out of range"),
+            (site + domain + rest + "[network]\nbundle = true\ndelay = 1000001\n", 1, "delay: out of range"),
+            # The delay is looked at behind the datagram.
+            (site + domain + rest + '[network]\ndelay = "1"\ndatagram = 511\n', 1, "datagram: out of range"),
             # The network is looked at last.
             ("network = 1\n" + site + site.replace("= 1", "= 2", 1) + domain + rest, 2, "domain: out of range"),
         ):
             with self.subTest(fault):
                 ran = self.check(text, site=number)
                 self.assertEqual((ran.returncode, ran.stdout, ran.stderr), (REFUSED, "", f"castd: config: {fault}\n"))
-        for network in ("", "[network]\nbundle = true\ndatagram = 512\n", "[network]\nbundle = false\n"):
+        for network in (
+            "",
+            "[network]\nbundle = true\ndatagram = 512\n",
+            "[network]\nbundle = false\n",
+            "[network]\ndelay = 1000000\n",
+        ):
             with self.subTest(network):
                 ran = self.check(site + domain + rest + network, site=1)
                 self.assertIn("domain 1 home 1 sites 1 groups 1,2 quotas 16 256 256 200\n", ran.stdout)
@@ -345,7 +367,7 @@ class Make(ConfigurationCase):
         self.assertIsNone(Daemon(self, path, 703, self.folder).status())
 
     def test_carries_the_network_of_a_plan_over(self):
-        for network in ({"bundle": True, "datagram": 1472}, {"bundle": False}):
+        for network in ({"bundle": True, "datagram": 1472}, {"bundle": False}, {"bundle": True, "delay": 300}):
             with self.subTest(network):
                 path = self.made({**PLAN, "network": network})
                 self.assertEqual(tomllib.loads(pathlib.Path(path).read_text())["network"], network)
@@ -381,6 +403,7 @@ class Make(ConfigurationCase):
             "an unknown key of the network": ({**PLAN, "network": {"size": 1}}, "network: size: unknown"),
             "a bundle of another kind": ({**PLAN, "network": {"bundle": 1}}, "network: bundle: not a boolean"),
             "a datagram out of range": ({**PLAN, "network": {"datagram": 511}}, "network: datagram: 511 is not 512 to"),
+            "a delay out of range": ({**PLAN, "network": {"delay": 1000001}}, "network: delay: 1000001 is not 0 to"),
         }
         for name, (plan, text) in faults.items():
             with self.subTest(name):

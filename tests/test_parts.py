@@ -23,6 +23,7 @@ class Reading(unittest.TestCase):
         self.assertEqual((domain.home, domain.sites, domain.groups, domain.socket), (1, (1,), (1, 2), "/tmp/one.sock"))
         self.assertEqual(domain.quotas, {"sessions": 16, "held": 256, "outbox": 256, "resend": 200})
         self.assertIsNone(read.bundle)
+        self.assertEqual(read.delay, 0)
 
     def test_quotas_that_are_absent_are_the_usual_ones(self):
         domain = configuration.parse(SITE + DOMAIN + "held = 9\n").domains[1]
@@ -42,6 +43,17 @@ class Reading(unittest.TestCase):
         ):
             with self.subTest(network):
                 self.assertEqual(configuration.parse(SITE + DOMAIN + network).bundle, most)
+
+    def test_a_delay_has_as_many_microseconds_as_the_network_says(self):
+        for network, delay in (
+            ("[network]\n", 0),
+            ("[network]\nbundle = true\n", 0),
+            ("[network]\ndelay = 0\n", 0),
+            ("[network]\ndelay = 300\n", 300),
+            ("[network]\nbundle = true\ndelay = 1000000\n", 1000000),
+        ):
+            with self.subTest(network):
+                self.assertEqual(configuration.parse(SITE + DOMAIN + network).delay, delay)
 
     def test_what_castd_ignores_is_ignored(self):
         read = configuration.parse('title = "x"\n' + SITE + 'color = "red"\n' + DOMAIN + "more = [1]\n[network]\nx = 1\n")
@@ -79,6 +91,10 @@ class Reading(unittest.TestCase):
             (SITE + DOMAIN + "[network]\ndatagram = true\n", "network: datagram: not a whole number"),
             (SITE + DOMAIN + "[network]\ndatagram = 511\n", "network: datagram: 511 is not 512 to 60000"),
             (SITE + DOMAIN + "[network]\nbundle = true\ndatagram = 60001\n", "network: datagram: 60001 is not"),
+            (SITE + DOMAIN + "[network]\ndelay = 1.0\ndatagram = 0\n", "network: datagram: 0 is not 512 to 60000"),
+            (SITE + DOMAIN + "[network]\ndelay = true\n", "network: delay: not a whole number"),
+            (SITE + DOMAIN + "[network]\ndelay = -1\n", "network: delay: -1 is not 0 to 1000000"),
+            (SITE + DOMAIN + "[network]\nbundle = true\ndelay = 1000001\n", "network: delay: 1000001 is not 0"),
         ):
             with self.subTest(text[:60]):
                 with self.assertRaises(configuration.ConfigurationError) as raised:

@@ -32,6 +32,8 @@ QUOTAS = {
 }
 # Bytes of a bundle at most.
 DATAGRAM = NumberRange(512, 60_000, 8_972)
+# Microseconds.
+DELAY = NumberRange(0, 1_000_000, 0)
 
 
 class ConfigurationError(Exception):
@@ -75,6 +77,11 @@ class Configuration:
     domains: dict[int, Domain]
     bundle: int | None = None
     """The most bytes of a bundle. None where frames share no datagrams."""
+    delay: int = DELAY.usual
+    """For how many microseconds messages may queue on their way to other sites before the programs of a domain wait.
+
+    0 if that is not looked at.
+    """
 
     def domains_of(self, site: int) -> list[Domain]:
         """The domains that a site serves. A `ConfigurationError` where the file lacks the site or it serves none."""
@@ -113,8 +120,8 @@ def parse(text: str) -> Configuration:
     for domain in domains.values():
         _check_sites(domain, sites)
     network = _network(document)
-    is_bundling, most = _is_bundling(network), _datagram(network)
-    return Configuration(sites, domains, most if is_bundling else None)
+    is_bundling, most, delay = _is_bundling(network), _datagram(network), _delay(network)
+    return Configuration(sites, domains, most if is_bundling else None, delay)
 
 
 def _tables(document: dict, name: str) -> list[dict]:
@@ -198,6 +205,11 @@ def _is_bundling(network: dict) -> bool:
 def _datagram(network: dict) -> int:
     """The most bytes of a bundle, if there are to be bundles."""
     return _within(network.get("datagram", DATAGRAM.usual), "datagram", "network", DATAGRAM.least, DATAGRAM.most)
+
+
+def _delay(network: dict) -> int:
+    """For how many microseconds messages may queue before programs wait. 0 if that is not looked at."""
+    return _within(network.get("delay", DELAY.usual), "delay", "network", DELAY.least, DELAY.most)
 
 
 def _field(table: dict, name: str, where: str) -> object:

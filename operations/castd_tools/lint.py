@@ -29,6 +29,7 @@ from castd_tools.configuration import (
     _address,
     _check_sites,
     _datagram,
+    _delay,
     _is_bundling,
     _network,
     _number,
@@ -41,7 +42,7 @@ from castd_tools.numbers import numbers_alike
 DOCUMENT_FIELDS = ("site", "domain", "network")
 SITE_FIELDS = ("number", "address")
 DOMAIN_FIELDS = ("number", "home", "sites", "groups", "socket", *QUOTAS)
-NETWORK_FIELDS = ("bundle", "datagram")
+NETWORK_FIELDS = ("bundle", "datagram", "delay")
 
 # The longest path that a Unix socket can have on Linux, in bytes.
 LONGEST_PATH = 107
@@ -179,6 +180,7 @@ def _find_in_network(found: Findings, document: dict) -> None:
         return
     found.read(_is_bundling, network)
     found.read(_datagram, network)
+    found.read(_delay, network)
     _find_unknown(found, "network", network, NETWORK_FIELDS)
 
 
