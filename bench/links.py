@@ -1,5 +1,6 @@
 """Links between daemons that take their time."""
 
+import functools
 import heapq
 import itertools
 import select
@@ -50,12 +51,12 @@ class Link(threading.Thread):
 
 
 def linked(addresses, fate):
-    """Starts a link between each two sites. Gives by which addresses each site reaches all, and the links. A `fate` that is a number is that
-    of each datagram."""
-    fates = fate if callable(fate) else lambda: (fate,)
+    """Starts a link between each two sites. Gives by which addresses each site reaches all, and the links. The fate of a datagram is what
+    `fate` says of the two sites, or this number of seconds."""
     links, told = [], {site: {site: address} for site, address in addresses.items()}
     for near in addresses:
         for far in (it for it in addresses if it > near):
+            fates = functools.partial(fate, near, far) if callable(fate) else lambda: (fate,)
             link = Link({site: addresses[site] for site in (near, far)}, fates)
             link.start()
             links.append(link)

@@ -113,9 +113,9 @@ network_at members = network_found (at_field field.Network members)
 
 -- the set-up of a site with these domains, of which there have to be some, and then with the network of the document
 unfoldable pub given : SiteNo → Members → List SiteAddress → List DomainEntry → Result Setup ConfigFault
-given own _ sites [] = Err (fault field.Domain Range)
-given own members sites (d ∷ ds) = do
-  network ← network_at members
+given own document sites [] = Err (fault field.Domain Range)
+given own document sites (d ∷ ds) = do
+  network ← network_at document
   Ok (record {
     config = record { site = own; domains = configs_of (d ∷ ds) };
     addresses = sites;

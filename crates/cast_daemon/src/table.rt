@@ -6,7 +6,7 @@ use cast_console::{Answer, Line, LineFault, answer, parse};
 use cast_edge::acknowledged_in;
 use cast_events::{Asked, Event, Fault, Outs, Raw, Told};
 use cast_pool::{Channels, Done, Gate, Job, Kept, Outcome, Task, decode, work};
-use cast_shared::{Came, Instruction, Pace, Reply, SharedTable, Turn};
+use cast_shared::{Came, Instruction, Pace, Reply, SharedTable, Turn, Wanted};
 use cast_types::{DomainNo, SiteNo, Uid};
 use crossbeam_channel::{Receiver, Sender};
 use std::alloc::Global;
@@ -85,11 +85,11 @@ fn cast_and_look<L: Ledger, C: Clock, R: Wait>(
     share: &mut CountShare<L>,
     job: Job,
     pace: &Pace,
-    asks: Option<usize>,
+    asks: Option<Wanted>,
 ) -> Result<Done, (Job, Turn)> {
     let before = kept.table().backlog(pace.domain);
-    if let (Some(backlog), Some(len)) = (before, asks)
-        && let Some(turn) = pace.turn(rt, backlog, len)
+    if let (Some(backlog), Some(wanted)) = (before, asks)
+        && let Some(turn) = pace.turn(rt, backlog, wanted)
     {
         return Err((job, turn));
     }
@@ -258,7 +258,7 @@ impl<L: Ledger + Send + Sync, C: Clock + Sync> SharedTable for LockedTable<'_, L
         share: &mut CountShare<L>,
         job: Job,
         pace: &Pace,
-        asks: Option<usize>,
+        asks: Option<Wanted>,
     ) -> Result<Came, (Job, Turn)> {
         let served = {
             let _lane = self.lanes.enter(rt, domain_of(&job));

@@ -13,7 +13,9 @@ use cast_types::{DomainNo, List, NoMemory, SiteNo, Uid};
 use std::alloc::Global;
 use std::collections::{BTreeMap, VecDeque};
 use std::mem;
+use std::rt::Clock;
 use std::sync::{Mutex, Wait};
+use std::time::Instant;
 
 // A message is sent again once so many later ones were acknowledged.
 const LATER: u32 = 3;
@@ -39,6 +41,9 @@ const DOUBLINGS: u32 = 3;
 // Of so many messages it is known when they are due. With one more, all are due when the rules say so.
 const MOST_DUE: usize = 4_096;
 
+// The least time of an acknowledgement is that of the last so many, and of as many before them at most: a way may become longer.
+const SPAN: u32 = 4_096;
+
 // When a message is due that was sent and is not acknowledged.
 #[derive(Clone, Copy, Debug, PartialEq, Eq)]
 struct Due {
@@ -57,6 +62,8 @@ struct Sent {
     // When it was sent first, and last.
     first: u64,
     tick: u64,
+    // When it was sent first, on the clock. None if that is not wanted.
+    time: Option<Instant>,
     // How many of those that were sent later were acknowledged.
     later: u32,
     // How often it was sent again.
@@ -91,6 +98,42 @@ impl RoundTrip {
     }
 }
 
+/// How many microseconds it took a site to acknowledge a message, and how many it takes the site at least.
+#[derive(Clone, Copy, Debug, PartialEq, Eq)]
+pub struct Took {
+    /// This time.
+    pub micros: u64,
+    /// At least, by what it took lately.
+    pub least: u64,
+}
+
+// The least time that acknowledgements took.
+#[derive(Drop)]
+struct Least {
+    // In this span, and in the one before.
+    now: u64,
+    before: u64,
+    // How many acknowledgements there were in this span.
+    count: u32,
+}
+
+impl Least {
+    // One took so many microseconds.
+    fn note(&mut self, micros: u64) -> Took {
+        if self.count >= SPAN {
+            self.before = self.now;
+            self.now = micros;
+            self.count = 0;
+        }
+        self.count = self.count.saturating_add(1);
+        self.now = self.now.min(micros);
+        Took {
+            micros,
+            least: self.now.min(self.before),
+        }
+    }
+}
+
 // What a site was sent, in the order in which it was sent last.
 #[derive(Drop)]
 struct Flight {
@@ -98,6 +141,7 @@ struct Flight {
     dues: BTreeMap<Uid, Due>,
     tick: u64,
     round_trip: RoundTrip,
+    least: Least,
 }
 
 impl Flight {
@@ -114,8 +158,8 @@ impl Flight {
         let _ = self.dues.insert(id, due);
     }
 
-    // Remembers a message that is sent.
-    fn note(&mut self, message: Message) {
+    // Remembers a message that is sent at this time.
+    fn note(&mut self, message: Message, time: Option<Instant>) {
         if self.sent.len() >= MOST {
             drop(self.sent.pop_front());
         }
@@ -124,6 +168,7 @@ impl Flight {
             message,
             first: self.tick,
             tick: self.tick,
+            time,
             later: 0,
             repeats: 0,
         });
@@ -174,19 +219,23 @@ impl Flight {
         false
     }
 
-    // A message was acknowledged. Answers how many were sent before it and were not.
-    fn acknowledge(&mut self, id: Uid) -> usize {
+    // A message was acknowledged. Answers how many were sent before it and were not, and when it was sent, if it was sent once.
+    fn acknowledge(&mut self, id: Uid) -> (usize, Option<Instant>) {
         let _ = self.dues.remove(&id);
         let Some(place) = self.sent.iter().position(|sent| sent.message.id == id) else {
-            return 0;
+            return (0, None);
         };
+        let mut time = None;
         if let Some(sent) = self.sent.remove(place) {
             self.round_trip.note(self.tick.saturating_sub(sent.first));
+            if sent.repeats == 0 {
+                time = sent.time;
+            }
         }
         for sent in self.sent.iter_mut().take(place) {
             sent.later = sent.later.saturating_add(1);
         }
-        place
+        (place, time)
     }
 
     // Forgets what is left to the rules. Its acknowledgement takes at least as long as it was remembered.
@@ -220,6 +269,8 @@ pub struct Unacknowledged {
     pub domain: DomainNo,
     /// The site.
     pub site: SiteNo,
+    // Whether it is wanted how long acknowledgements take.
+    is_timed: bool,
     flight: Mutex<Flight>,
 }
 
@@ -231,7 +282,7 @@ impl Unacknowledged {
     }
 
     /// Remembers the messages that are to be sent, each with what its site was sent of its domain.
-    pub fn note_all<R: Wait>(rt: &R, all: &[Unacknowledged], outs: &Outs) {
+    pub fn note_all<R: Wait + Clock>(rt: &R, all: &[Unacknowledged], outs: &Outs) {
         for (domain, site, frame) in outs.frames.as_slice() {
             if let SiteFrame::Data(message) = frame
                 && let Some(one) = Self::find(all, *domain, *site)
@@ -241,8 +292,8 @@ impl Unacknowledged {
         }
     }
 
-    /// No message was sent.
-    pub fn new(alloc: Global, domain: DomainNo, site: SiteNo) -> Self {
+    /// No message was sent. How long acknowledgements take is looked at only if it `is_timed`.
+    pub fn new(alloc: Global, domain: DomainNo, site: SiteNo, is_timed: bool) -> Self {
         let flight = Flight {
             sent: VecDeque::new(alloc),
             dues: BTreeMap::new(alloc),
@@ -251,19 +302,30 @@ impl Unacknowledged {
                 mean: 0,
                 deviation: 0,
             },
+            least: Least {
+                now: u64::MAX,
+                before: u64::MAX,
+                count: 0,
+            },
         };
         Unacknowledged {
             alloc,
             domain,
             site,
+            is_timed,
             flight: Mutex::new(flight),
         }
     }
 
     /// Remembers a message that is about to be sent. If there is no memory for it, it is left to the rules.
-    pub fn note<R: Wait>(&self, rt: &R, message: &Message) {
+    pub fn note<R: Wait + Clock>(&self, rt: &R, message: &Message) {
         if let Ok(message) = message.copy() {
-            self.flight.lock(rt).note(message);
+            let time = if self.is_timed {
+                Instant::now(rt).ok()
+            } else {
+                None
+            };
+            self.flight.lock(rt).note(message, time);
         }
     }
 
@@ -274,11 +336,11 @@ impl Unacknowledged {
             .push((self.domain, self.site, SiteFrame::Data(message)));
     }
 
-    /// Notes that the site acknowledged a message. Answers the frames that are to be sent again.
-    pub fn acknowledge<R: Wait>(&self, rt: &R, id: Uid) -> Outs {
+    /// Notes that the site acknowledged a message. Answers the frames that are to be sent again, and how long it took, if that is known.
+    pub fn acknowledge<R: Wait + Clock>(&self, rt: &R, id: Uid) -> (Outs, Option<Took>) {
         let mut outs = Outs::new(self.alloc);
         let mut flight = self.flight.lock(rt);
-        let earlier = flight.acknowledge(id);
+        let (earlier, time) = flight.acknowledge(id);
         for _ in 0..earlier {
             let Some(place) = flight.first_lost(earlier) else {
                 break;
@@ -287,7 +349,11 @@ impl Unacknowledged {
                 self.add(&mut outs, message);
             }
         }
-        outs
+        let took = match micros_since(rt, time) {
+            Some(micros) => Some(flight.least.note(micros)),
+            None => None,
+        };
+        (outs, took)
     }
 
     /// All messages are due when the rules say so: the site was silent, and answers.
@@ -334,6 +400,12 @@ impl Unacknowledged {
         }
         outs
     }
+}
+
+// How many microseconds went by since a time, if it is known.
+fn micros_since<R: Clock>(rt: &R, time: Option<Instant>) -> Option<u64> {
+    let elapsed = time?.elapsed(rt).ok()?;
+    u64::try_from(elapsed.as_micros()).ok()
 }
 
 /// What an event acknowledges, in which domain and from which site, if it is such a frame.

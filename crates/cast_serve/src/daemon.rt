@@ -4,7 +4,7 @@ ghost use Rattle.std.specs.Prelude.{◌<◌};
 use crate::console::run_console;
 use cast_config::{DomainSocket, Setup};
 use cast_device::{Watched, tell};
-use cast_edge::{Count, Report, Silence, Unacknowledged, run_reporter};
+use cast_edge::{Count, Report, Silence, Stables, Unacknowledged, run_reporter};
 use cast_events::{Config, DomainConfig, Raw};
 use cast_shared::{
     Desk, Pace, Record, Shared, SharedTable, Tape, Traffic, Turnstile, run_recorder,
@@ -108,6 +108,7 @@ fn send_again<T: SharedTable, R: Wait>(rt: &R, server: &mut Server<'_, T>) {
         server.gather(rt, &mut again);
     }
     server.send_gathered(rt);
+    server.send_stables(rt);
 }
 
 // Tells the operator how many datagrams for each site were not sent.
@@ -334,11 +335,16 @@ where
 }
 
 // The paces of the domains that have other sites.
-fn paces_of(alloc: Global, domains: &[DomainConfig], room: u64) -> Result<Vec<Pace>, NoMemory> {
+fn paces_of(
+    alloc: Global,
+    domains: &[DomainConfig],
+    room: u64,
+    delay: u32,
+) -> Result<Vec<Pace>, NoMemory> {
     let mut paces = Vec::new(alloc);
     for domain in domains {
         if domain.sites.len() > 1 {
-            paces.push(Pace::new(alloc, domain, room))?;
+            paces.push(Pace::new(alloc, domain, room, delay))?;
         }
     }
     Ok(paces)
@@ -349,12 +355,13 @@ fn unacknowledged_of(
     alloc: Global,
     own: SiteNo,
     domains: &[DomainConfig],
+    is_timed: bool,
 ) -> Result<Vec<Unacknowledged>, NoMemory> {
     let mut all = Vec::new(alloc);
     for domain in domains {
         for site in domain.sites.as_slice() {
             if *site != own {
-                all.push(Unacknowledged::new(alloc, domain.domain, *site))?;
+                all.push(Unacknowledged::new(alloc, domain.domain, *site, is_timed))?;
             }
         }
     }
@@ -405,13 +412,15 @@ where
     let desk = Mutex::new(Desk::new(alloc, jobs, reporting));
     let halts = AtomicU64::new(0);
     let room = widen(sockets.links.as_slice());
-    let paces = paces_of(alloc, setup.config.domains.as_slice(), room)?;
+    let paces = paces_of(alloc, setup.config.domains.as_slice(), room, setup.delay)?;
     let unacknowledged = unacknowledged_of(
         alloc,
         setup.config.site,
         setup.config.domains.as_slice(),
+        setup.delay > 0,
     )?;
     let silences = silences_of(alloc, setup.config.site, sockets.links.as_slice())?;
+    let stables = Mutex::new(Stables::new(alloc));
     let turnstile = Turnstile::new();
     let traffic = Traffic::new();
     let ground = Ground {
@@ -423,6 +432,7 @@ where
             paces: paces.as_slice(),
             unacknowledged: unacknowledged.as_slice(),
             silences: silences.as_slice(),
+            stables: &stables,
             turnstile: &turnstile,
             traffic: &traffic,
             halts: &halts,

@@ -10,11 +10,12 @@ mod desk;
 mod pace;
 mod record;
 mod shared;
+mod speed;
 mod table;
 mod udp;
 
 pub use desk::{Desk, Opened, Opening, Purpose};
-pub use pace::{Pace, Patience, Turn};
+pub use pace::{Pace, Patience, Turn, Wanted};
 pub use record::{CUT, Record, Tape, run_recorder};
 pub use shared::{Shared, Traffic, Turnstile};
 pub use table::{Came, Instruction, Reply, SharedTable};

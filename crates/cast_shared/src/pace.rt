@@ -5,6 +5,10 @@
 //! has received it until all have. So a site that lets few casts follow the oldest message that it keeps leaves the others room for
 //! the one that they lack. A cast that would be one too many waits until messages are released, but not for long: a site that is
 //! lost, and that nobody suspects, must not stop a program.
+//!
+//! Where the configuration says for how long casts may queue on their way, fewer may follow: so many as `Speed` says.
+use crate::speed::Speed;
+use cast_edge::Took;
 use cast_events::{Backlog, DomainConfig};
 use cast_types::DomainNo;
 use std::alloc::Global;
@@ -26,6 +30,15 @@ const NONE: u64 = u64::MAX;
 /// Which time the readers were woken, as a reader saw it that waits.
 #[derive(Clone, Copy, Debug, PartialEq, Eq)]
 pub struct Turn(u64);
+
+/// What a cast asks for.
+#[derive(Clone, Copy, Debug, PartialEq, Eq)]
+pub struct Wanted {
+    /// How many bytes its payload has.
+    pub len: usize,
+    /// How many commands its program wrote at once. One that writes many wants many to be on their way.
+    pub at_once: usize,
+}
 
 /// When a cast began to wait.
 #[derive(Clone, Copy)]
@@ -70,6 +83,8 @@ pub struct Pace {
     awaited: AtomicU64,
     casts: Mutex<Casts>,
     has_turned: Condvar,
+    // None if casts may queue for as long as they like.
+    speed: Option<Mutex<Speed>>,
 }
 
 // How many casts of each of so many sites may follow the oldest message that it keeps. All sites together then take half of the room
@@ -80,8 +95,9 @@ fn window_of(limit: u32, sites: usize) -> usize {
 }
 
 impl Pace {
-    /// The pace of a domain, over sockets that have room for so many bytes of datagrams.
-    pub fn new(alloc: Global, config: &DomainConfig, room: u64) -> Self {
+    /// The pace of a domain, over sockets that have room for so many bytes of datagrams. Casts may queue on their way for so many
+    /// microseconds; at 0 for as long as they like.
+    pub fn new(alloc: Global, config: &DomainConfig, room: u64, delay: u32) -> Self {
         let casts = Casts {
             latest: VecDeque::new(alloc),
             turn: 0,
@@ -94,6 +110,38 @@ impl Pace {
             awaited: AtomicU64::new(NONE),
             casts: Mutex::new(casts),
             has_turned: Condvar::new(),
+            speed: if delay > 0 {
+                Some(Mutex::new(Speed::new(delay)))
+            } else {
+                None
+            },
+        }
+    }
+
+    /// The pace of a domain, of all these.
+    pub fn find(all: &[Pace], domain: DomainNo) -> Option<&Pace> {
+        all.iter().find(|pace| pace.domain == domain)
+    }
+
+    /// Notes how long an acknowledgement took.
+    pub fn hear<R: Wait>(&self, rt: &R, took: Took) {
+        if let Some(speed) = &self.speed {
+            speed.lock(rt).hear(took);
+        }
+    }
+
+    // How many casts may be on their way, where a program wrote so many commands at once.
+    fn allowed<R: Wait>(&self, rt: &R, at_once: usize) -> usize {
+        match &self.speed {
+            Some(speed) => speed.lock(rt).window().max(at_once.saturating_mul(2)),
+            None => usize::MAX,
+        }
+    }
+
+    // Notes that a cast has to wait.
+    fn use_up<R: Wait>(&self, rt: &R) {
+        if let Some(speed) = &self.speed {
+            speed.lock(rt).use_up();
         }
     }
 
@@ -109,10 +157,11 @@ impl Pace {
         (fitting.max(2) as usize).min(window_of(limit, self.sites))
     }
 
-    /// Whether a cast of so many bytes has to wait, and for which turn, where the domain is so far behind.
-    pub fn turn<R: Wait>(&self, rt: &R, backlog: Backlog, len: usize) -> Option<Turn> {
+    /// Whether a cast has to wait, and for which turn, where the domain is so far behind.
+    pub fn turn<R: Wait>(&self, rt: &R, backlog: Backlog, wanted: Wanted) -> Option<Turn> {
         let oldest = backlog.oldest?.0 as u64;
-        let window = self.window(backlog.limit, len);
+        let allowed = self.allowed(rt, wanted.at_once);
+        let window = self.window(backlog.limit, wanted.len).min(allowed);
         let casts = self.casts.lock(rt);
         let first = casts.latest.len().checked_sub(window)?;
         if casts.is_over || *casts.latest.get(first)? <= oldest {
@@ -120,6 +169,7 @@ impl Pace {
         }
         let awaited = *casts.latest.get(first + window / 4)?;
         self.awaited.fetch_min(awaited, Ordering::SeqCst);
+        self.use_up(rt);
         Some(Turn(casts.turn))
     }
 

@@ -3,7 +3,7 @@ use crate::desk::Desk;
 use crate::pace::Pace;
 use crate::record::Tape;
 use crate::table::SharedTable;
-use cast_edge::{Report, Silence, Unacknowledged};
+use cast_edge::{Report, Silence, Stables, Unacknowledged};
 use cast_events::{Asked, Datagrams, Recording, Told};
 use cast_sockets::Link;
 use cast_types::SiteNo;
@@ -78,6 +78,7 @@ pub struct Shared<'a, T: SharedTable> {
     pub unacknowledged: &'a [Unacknowledged],
     /// Of each other site.
     pub silences: &'a [Silence],
+    pub stables: &'a Mutex<Stables>,
     pub turnstile: &'a Turnstile,
     pub traffic: &'a Traffic,
     /// Not 0 if a domain was halted since the ticker trimmed the trace last.

@@ -1,5 +1,5 @@
 //! The table of a daemon behind its lock, as the threads use it.
-use crate::pace::{Pace, Turn};
+use crate::pace::{Pace, Turn, Wanted};
 use cast_events::{Asked, Fault, Outs, Raw, Taken, Told};
 use cast_types::{DomainNo, NoMemory, SiteNo, Uid};
 use crossbeam_channel::{Receiver, Sender};
@@ -64,15 +64,15 @@ pub trait SharedTable {
         paces: &[Pace],
     ) -> (Came, usize);
 
-    /// Does the job of a cast of so many bytes, unless its program has to wait: then the job comes back, with the turn to wait for. A
-    /// cast without a number of bytes does not wait.
+    /// Does the job of a cast, unless its program has to wait: then the job comes back, with the turn to wait for. A cast of which it is
+    /// not said what it asks for does not wait.
     fn cast<R: Wait>(
         &self,
         rt: &R,
         share: &mut Self::Share,
         job: Self::Job,
         pace: &Pace,
-        asks: Option<usize>,
+        asks: Option<Wanted>,
     ) -> Result<Came, (Self::Job, Turn)>;
 
     /// Serves as a worker until nothing can be asked any more.

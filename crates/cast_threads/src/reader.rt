@@ -5,7 +5,7 @@ use cast_edge::{Client, Session};
 use cast_events::{Asked, Event, Fault, Outs, Taken};
 use cast_message::{Command, Request};
 use cast_session::{InEnd, Sink, pump_on};
-use cast_shared::{Came, Pace, Patience, SharedTable};
+use cast_shared::{Came, Pace, Patience, SharedTable, Wanted};
 use cast_types::{NoMemory, Refusal};
 use std::alloc::{AllocError, Global};
 use std::io;
@@ -35,17 +35,16 @@ pub struct Reader<'a, T: SharedTable> {
     unsent: Option<Outs>,
     // The other sessions that its commands pushed to, and that were not called.
     pushed: Vec<Session>,
+    // How many commands were served since it was read last, and between the two reads before.
+    count: usize,
+    last_count: usize,
 }
 
 impl<'a, T: SharedTable> Reader<'a, T> {
     /// The reader of a program that wrote nothing.
     pub fn new(server: Server<'a, T>, client: &'a Client) -> Self {
         let domain = client.session.domain;
-        let pace = server
-            .shared
-            .paces
-            .iter()
-            .find(|pace| pace.domain == domain);
+        let pace = Pace::find(server.shared.paces, domain);
         let pushed = Vec::new(server.shared.alloc);
         Reader {
             server,
@@ -55,12 +54,18 @@ impl<'a, T: SharedTable> Reader<'a, T> {
             is_pushed: true,
             unsent: None,
             pushed,
+            count: 0,
+            last_count: 0,
         }
     }
 
     // Serves a cast of so many bytes once its program may make it.
     fn cast<R: Wait + Clock>(&mut self, rt: &R, job: T::Job, pace: &Pace, len: usize) -> Came {
-        let (mut job, mut turn) = match self.server.cast(rt, job, pace, Some(len)) {
+        let wanted = Wanted {
+            len,
+            at_once: self.count.max(self.last_count),
+        };
+        let (mut job, mut turn) = match self.server.cast(rt, job, pace, Some(wanted)) {
             Ok(came) => return came,
             Err(back) => back,
         };
@@ -69,7 +74,7 @@ impl<'a, T: SharedTable> Reader<'a, T> {
         for _ in rt.forever() {
             let left = patience.left(rt);
             pace.wait(rt, turn, left);
-            let asks = if left.is_zero() { None } else { Some(len) };
+            let asks = if left.is_zero() { None } else { Some(wanted) };
             match self.server.cast(rt, job, pace, asks) {
                 Ok(came) => return came,
                 Err(back) => (job, turn) = back,
@@ -95,6 +100,7 @@ impl<'a, T: SharedTable> Reader<'a, T> {
             Command::Request(Request::Cast { payload, .. }) => Some(payload.len()),
             _ => None,
         };
+        self.count = self.count.saturating_add(1);
         self.gather_frames(rt);
         if self.client.is_over(rt) {
             return false;
@@ -117,7 +123,7 @@ impl<'a, T: SharedTable> Reader<'a, T> {
     }
 
     // A command was answered. Waits if too many answers were not taken. False if the stream is of no more use.
-    fn go_on<R: Wait>(&mut self, rt: &R) -> bool {
+    fn go_on<R: Wait + Clock>(&mut self, rt: &R) -> bool {
         self.untaken = self.untaken.saturating_add(1);
         if self.untaken < UNTAKEN {
             return true;
@@ -157,7 +163,7 @@ impl<'a, T: SharedTable> Reader<'a, T> {
     }
 
     // Gathers the frames of the last command with those of the commands before it.
-    fn gather_frames<R: Wait>(&mut self, rt: &R) {
+    fn gather_frames<R: Wait + Clock>(&mut self, rt: &R) {
         if let Some(mut outs) = self.unsent.take() {
             self.server.note_messages(rt, &outs);
             self.server.gather(rt, &mut outs);
@@ -165,14 +171,14 @@ impl<'a, T: SharedTable> Reader<'a, T> {
     }
 
     // Sends the frames of the commands.
-    fn send_frames<R: Wait>(&mut self, rt: &R) {
+    fn send_frames<R: Wait + Clock>(&mut self, rt: &R) {
         self.gather_frames(rt);
         self.server.send_gathered(rt);
     }
 
     // Writes what the commands pushed to the program, unless another thread does so, and sends their frames. These go first if the last
     // command delivered nothing.
-    fn flush<R: Wait>(&mut self, rt: &R) {
+    fn flush<R: Wait + Clock>(&mut self, rt: &R) {
         let is_frame_first = match &self.unsent {
             Some(outs) => outs.delivered.is_empty(),
             None => false,
@@ -189,6 +195,13 @@ impl<'a, T: SharedTable> Reader<'a, T> {
         }
         self.call_others(rt);
         self.send_frames(rt);
+    }
+
+    // Does what is to be done before the program is read again.
+    fn read_on<R: Wait + Clock>(&mut self, rt: &R) {
+        self.flush(rt);
+        self.last_count = self.count;
+        self.count = 0;
     }
 }
 
@@ -211,21 +224,21 @@ impl<T: SharedTable, R: Wait + Clock> Sink for Serving<'_, '_, T, R> {
 
 // The stream of a program. Before it is read, what the commands before pushed is written.
 #[derive(Drop)]
-struct Flushing<'a, 'b, T: SharedTable, R: Wait> {
+struct Flushing<'a, 'b, T: SharedTable, R: Wait + Clock> {
     rt: &'b R,
     reader: &'b Mutex<Reader<'a, T>>,
     stream: &'b UnixStream,
 }
 
-impl<T: SharedTable, R: Wait> Read for Flushing<'_, '_, T, R> {
+impl<T: SharedTable, R: Wait + Clock> Read for Flushing<'_, '_, T, R> {
     fn read(&mut self, room: &mut [u8]) -> io::Result<usize> {
-        self.reader.lock(self.rt).flush(self.rt);
+        self.reader.lock(self.rt).read_on(self.rt);
         let mut stream = self.stream;
         stream.read(room)
     }
 
     fn read_exact(&mut self, room: &mut [u8]) -> io::Result<()> {
-        self.reader.lock(self.rt).flush(self.rt);
+        self.reader.lock(self.rt).read_on(self.rt);
         let mut stream = self.stream;
         stream.read_exact(room)
     }

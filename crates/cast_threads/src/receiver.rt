@@ -31,7 +31,6 @@ struct Receiver<'a, T: SharedTable> {
     server: Server<'a, T>,
     // The sessions that they pushed to, and for which it writes.
     pushed: Vec<Session>,
-    stables: Stables,
     // How many frames were served since it wrote.
     served: u32,
     // Another site waits for a frame that is gathered.
@@ -44,13 +43,20 @@ fn is_urgent(frame: &(DomainNo, SiteNo, SiteFrame)) -> bool {
 }
 
 impl<T: SharedTable> Receiver<'_, T> {
-    // Gathers the frames of an event. Its Stables wait.
-    fn gather<R: Wait>(&mut self, rt: &R, outs: Outs) {
-        self.server.note_messages(rt, &outs);
-        let (mut others, lost) = self.stables.hold(outs);
-        if lost > 0 {
-            self.server.shared.desk.lock(rt).count_unspelled(rt, lost);
+    // Has the Stables of an event wait. Answers what else came of it.
+    fn hold_stables<R: Wait>(&mut self, rt: &R, outs: Outs) -> Outs {
+        if !Stables::are_in(&outs) {
+            return outs;
         }
+        let (others, lost) = self.server.shared.stables.lock(rt).hold(outs);
+        self.server.count_unspelled(rt, lost);
+        others
+    }
+
+    // Gathers the frames of an event. Its Stables wait.
+    fn gather<R: Wait + Clock>(&mut self, rt: &R, outs: Outs) {
+        self.server.note_messages(rt, &outs);
+        let mut others = self.hold_stables(rt, outs);
         if others.frames.as_slice().iter().any(is_urgent) {
             self.is_urgent = true;
         }
@@ -69,7 +75,7 @@ impl<T: SharedTable> Receiver<'_, T> {
     }
 
     // Serves a frame.
-    fn serve_frame<R: Wait>(&mut self, rt: &R, frame: Asked) {
+    fn serve_frame<R: Wait + Clock>(&mut self, rt: &R, frame: Asked) {
         if let Some(outs) = self.server.serve_frame(rt, frame) {
             self.note(rt, &outs);
             self.gather(rt, outs);
@@ -78,7 +84,7 @@ impl<T: SharedTable> Receiver<'_, T> {
     }
 
     // Serves a datagram: one frame, or each frame of a bundle as if it had come alone.
-    fn serve<R: Wait>(&mut self, rt: &R, datagram: Bytes) {
+    fn serve<R: Wait + Clock>(&mut self, rt: &R, datagram: Bytes) {
         let shared = self.server.shared;
         shared.traffic.received.fetch_add(1, Ordering::SeqCst);
         match unpack(shared.alloc, datagram) {
@@ -96,7 +102,7 @@ impl<T: SharedTable> Receiver<'_, T> {
     }
 
     // Serves the datagrams that wait, and answers whether there may be more.
-    fn serve_waiting<R: Wait>(&mut self, rt: &R) -> bool {
+    fn serve_waiting<R: Wait + Clock>(&mut self, rt: &R) -> bool {
         for _ in 1..GATHERED {
             if self.served >= GATHERED {
                 break;
@@ -119,7 +125,7 @@ impl<T: SharedTable> Receiver<'_, T> {
     }
 
     // Serves a datagram and those that wait behind it, and finishes them. Answers whether there may be more.
-    fn serve_all<R: Wait>(&mut self, rt: &R, first: Bytes) -> bool {
+    fn serve_all<R: Wait + Clock>(&mut self, rt: &R, first: Bytes) -> bool {
         self.serve(rt, first);
         let is_more = self.serve_waiting(rt);
         self.count_foreign(rt);
@@ -127,16 +133,19 @@ impl<T: SharedTable> Receiver<'_, T> {
         is_more
     }
 
-    // Writes what the frames that were served pushed, and sends what is gathered, with their Stables. If another site waits for it, it goes
-    // first.
+    // Writes what the frames that were served pushed, and sends what is gathered. If another site waits for it, it goes first. Stables that
+    // could go with other frames are sent only once they are many.
     fn finish<R: Wait>(&mut self, rt: &R) {
         if self.is_urgent {
             self.server.send_gathered(rt);
         }
         self.write_pushed(rt);
-        let mut stables = self.stables.take();
-        self.server.gather(rt, &mut stables);
         self.server.send_gathered(rt);
+        let shared = self.server.shared;
+        let are_many = shared.stables.lock(rt).are_many();
+        if are_many || shared.bundle.is_none() {
+            self.server.send_stables(rt);
+        }
         self.is_urgent = false;
         self.served = 0;
     }
@@ -166,7 +175,6 @@ pub fn run_receiver<T: SharedTable, R: Wait + Clock>(
     let mut receiver = Receiver {
         server,
         pushed: Vec::new(shared.alloc),
-        stables: Stables::new(shared.alloc),
         served: 0,
         is_urgent: false,
     };

@@ -7,9 +7,10 @@ use cast_events::{Asked, Event, Fault, Outs, Taken};
 use cast_link::{Sent, Wire, send_all, send_bundled};
 use cast_message::Push;
 use cast_session::spell_out;
-use cast_shared::{Came, Pace, Shared, SharedTable, Turn, Udp};
+use cast_shared::{Came, Pace, Shared, SharedTable, Turn, Udp, Wanted};
 use cast_types::{DomainNo, List, NoMemory, Refusal, SiteNo};
 use std::mem;
+use std::rt::Clock;
 use std::sync::Wait;
 use std::sync::atomic::Ordering;
 
@@ -69,13 +70,13 @@ impl<'a, T: SharedTable> Server<'a, T> {
         came
     }
 
-    /// Does the job of a cast at a pace. If a cast of so many bytes has to wait, the job comes back, with the turn to wait for.
+    /// Does the job of a cast at a pace. If it has to wait, the job comes back, with the turn to wait for.
     pub fn cast<R: Wait>(
         &mut self,
         rt: &R,
         job: T::Job,
         pace: &Pace,
-        asks: Option<usize>,
+        asks: Option<Wanted>,
     ) -> Result<Came, (T::Job, Turn)> {
         let shared = self.shared;
         shared.turnstile.pass(rt);
@@ -86,7 +87,7 @@ impl<'a, T: SharedTable> Server<'a, T> {
 
     /// Serves a frame of the datagram that was received last. `None` if its bytes are no frame of the site that it came from. After an
     /// acknowledgement, what seems to be lost is sent again.
-    pub fn serve_frame<R: Wait>(&mut self, rt: &R, frame: Asked) -> Option<Outs> {
+    pub fn serve_frame<R: Wait + Clock>(&mut self, rt: &R, frame: Asked) -> Option<Outs> {
         let job = self.shared.job(rt, frame)?;
         if self.shared.table.sender(&job) != self.wire.sender() {
             self.shared.desk.lock(rt).count_unread(rt, 1);
@@ -102,7 +103,10 @@ impl<'a, T: SharedTable> Server<'a, T> {
             )
         {
             self.end_silence(rt, site);
-            let mut again = unacknowledged.acknowledge(rt, id);
+            let (mut again, took) = unacknowledged.acknowledge(rt, id);
+            if let (Some(took), Some(pace)) = (took, Pace::find(self.shared.paces, domain)) {
+                pace.hear(rt, took);
+            }
             self.gather(rt, &mut again);
         }
         Some(outs)
@@ -130,7 +134,7 @@ impl<'a, T: SharedTable> Server<'a, T> {
     }
 
     /// Remembers the messages that are to be sent, until they are acknowledged.
-    pub fn note_messages<R: Wait>(&self, rt: &R, outs: &Outs) {
+    pub fn note_messages<R: Wait + Clock>(&self, rt: &R, outs: &Outs) {
         Unacknowledged::note_all(rt, self.shared.unacknowledged, outs);
     }
 
@@ -153,7 +157,7 @@ impl<'a, T: SharedTable> Server<'a, T> {
         let frames = mem::replace(&mut outs.frames, List::new(self.shared.alloc));
         for frame in frames.into_vec() {
             if self.gathered.frames.push(frame).is_err() {
-                self.shared.desk.lock(rt).count_unspelled(rt, 1);
+                self.count_unspelled(rt, 1);
             }
             if self.gathered.frames.len() >= MOST_GATHERED {
                 self.send_gathered(rt);
@@ -161,11 +165,27 @@ impl<'a, T: SharedTable> Server<'a, T> {
         }
     }
 
-    /// Sends the frames that are gathered.
+    /// Sends the frames that are gathered, and the Stables that wait for the same sites.
     pub fn send_gathered<R: Wait>(&mut self, rt: &R) {
-        if !self.gathered.frames.is_empty() {
-            let outs = mem::replace(&mut self.gathered, Outs::new(self.shared.alloc));
-            self.send_frames(rt, &outs);
+        if self.gathered.frames.is_empty() {
+            return;
+        }
+        let mut outs = mem::replace(&mut self.gathered, Outs::new(self.shared.alloc));
+        let lost = self.shared.stables.lock(rt).join(&mut outs);
+        self.count_unspelled(rt, lost);
+        self.send_frames(rt, &outs);
+    }
+
+    /// Sends the Stables that wait.
+    pub fn send_stables<R: Wait>(&mut self, rt: &R) {
+        let mut outs = self.shared.stables.lock(rt).take();
+        self.send(rt, &mut outs);
+    }
+
+    /// Counts frames that are lost for want of memory.
+    pub fn count_unspelled<R: Wait>(&self, rt: &R, count: u64) {
+        if count > 0 {
+            self.shared.desk.lock(rt).count_unspelled(rt, count);
         }
     }
 
@@ -211,7 +231,7 @@ impl<'a, T: SharedTable> Server<'a, T> {
                     self.shared.desk.lock(rt).count_unsent(sent.lost);
                 }
             }
-            Err(_) => self.shared.desk.lock(rt).count_unspelled(rt, count),
+            Err(_) => self.count_unspelled(rt, count),
         }
     }
 

@@ -1,4 +1,4 @@
-"""Frames that share datagrams."""
+"""Links between sites: frames that share datagrams, and how many casts are on their way."""
 
 import collections
 import json
@@ -7,19 +7,24 @@ import struct
 import threading
 import time
 import unittest
+from collections.abc import Callable
 
 from harness import PATIENCE, PROGRAM, Case, castd, wait_until, wait_for_view
 from daemons import Castd, free_addresses
 from links import linked
 from test_daemon import ACK, CAST, DATA, ID, DaemonCase, Site, bundle, cast, frames_of
 
-BUNDLE = "[network]\nbundle = true\n"
 CASTS = 80
 # Of a hundred datagrams so many are lost, come twice, or come late.
 LOST, TWICE, LATE = 5, 5, 20
 
 
-def fate() -> list[float]:
+# From the third site to the others a datagram takes so many seconds.
+FAR = 0.06
+PACED = 400
+
+
+def bad_fate(*_: int) -> list[float]:
     """After how many seconds a datagram is delivered, if it is."""
     if random.random() < LOST / 100:
         return []
@@ -27,8 +32,16 @@ def fate() -> list[float]:
     return [late] * (2 if random.random() < TWICE / 100 else 1)
 
 
+def far_fate(_: int, far: int) -> list[float]:
+    return [FAR if far == 3 else 0.0]
+
+
 class Bundling(Castd):
-    CONFIG = Castd.CONFIG + BUNDLE
+    CONFIG = Castd.CONFIG + "[network]\nbundle = true\n"
+
+
+class Paced(Castd):
+    CONFIG = Castd.CONFIG + "[network]\nbundle = true\ndelay = 300\n"
 
 
 class Member(threading.Thread):
@@ -67,8 +80,8 @@ class Member(threading.Thread):
 
 
 class Clusters(Case):
-    def cluster(self, *kinds: type[Castd]) -> tuple[list[Castd], list[Member]]:
-        """Daemons of these kinds at sites whose links are bad, with a program at each that joined."""
+    def cluster(self, *kinds: type[Castd], fate: Callable[[int, int], list[float]] = bad_fate) -> tuple[list[Castd], list[Member]]:
+        """Daemons of these kinds, with a program at each that joined. What becomes of their datagrams `fate` says."""
         told, links = linked(free_addresses(len(kinds)), fate)
         for link in links:
             self.addCleanup(link.end)
@@ -98,7 +111,7 @@ class Clusters(Case):
         """Each of these delivered all casts of those, and none before one that happened before it."""
         names = [str(it.process) for it in senders]
         for member in members:
-            wait_until(lambda: all(member.delivered[it] == CASTS for it in names), f"{member.delivered} of {CASTS} each")
+            wait_until(lambda: all(member.delivered[it] == CASTS for it in names), f"{CASTS} each, not {member.delivered}")
             self.assertEqual(member.faults, [])
 
     def all_casts(self, members: list[Member], then=lambda place: None) -> None:
@@ -127,6 +140,17 @@ class Clusters(Case):
         self.assert_delivered(members[:2], members[:2])
         self.assert_agree(*members[:2])
         self.assertEqual(members[2].faults, [])
+
+    def test_a_far_site_does_not_hold_back_casts_that_queue_little(self):
+        # An acknowledgement from the far site takes long, and is not late for that.
+        _, (member, *others) = self.cluster(Paced, Paced, Paced, fate=far_fate)
+        begun = time.monotonic()
+        for place in range(PACED):
+            member.say(place)
+        for other in others:
+            wait_until(lambda: other.delivered[str(member.process)] == PACED, "all are delivered")
+        # With the fewest casts on their way it would be 12 s.
+        self.assertLess(time.monotonic() - begun, 6)
 
 
 class Datagrams(DaemonCase):
