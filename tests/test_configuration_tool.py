@@ -319,15 +319,17 @@ class Check(ConfigurationCase):
             with self.subTest(fault):
                 ran = self.check(text, site=number)
                 self.assertEqual((ran.returncode, ran.stdout, ran.stderr), (REFUSED, "", f"castd: config: {fault}\n"))
-        for network in (
-            "",
-            "[network]\nbundle = true\ndatagram = 512\n",
-            "[network]\nbundle = false\n",
-            "[network]\ndelay = 1000000\n",
+        for network, told in (
+            ("", ""),
+            ("bundle = true\ndatagram = 512\n", "# bundles of at most 512 bytes\n"),
+            ("bundle = true\n", "# bundles of at most 8972 bytes\n"),
+            ("bundle = false\n", ""),
+            ("delay = 1000000\n", "# casts queue for 1000000 microseconds\n"),
         ):
             with self.subTest(network):
-                ran = self.check(site + domain + rest + network, site=1)
+                ran = self.check(site + domain + rest + "[network]\n" + network, site=1)
                 self.assertIn("domain 1 home 1 sites 1 groups 1,2 quotas 16 256 256 200\n", ran.stdout)
+                self.assertEqual(ran.stdout.partition("# domain 1 socket /tmp/one.sock\n")[2], told)
 
     def test_refuses_what_is_not_served_in_the_same_words(self):
         for text in (GOOD.replace("home = 1", "home = 3"), SITES, GOOD + "="):

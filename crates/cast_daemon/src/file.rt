@@ -71,7 +71,7 @@ where
     }
 }
 
-// The lines of a set-up: those of its configuration, and the addresses and sockets as comments.
+// The lines of a set-up: those of its configuration, and as comments the addresses, the sockets, and what it says of the network.
 fn text_of(alloc: Global, setup: &Setup) -> Result<String, NoMemory> {
     let mut text = String::new(alloc);
     add_head(alloc, &mut text, &setup.config)?;
@@ -84,6 +84,13 @@ fn text_of(alloc: Global, setup: &Setup) -> Result<String, NoMemory> {
         let domain = one.domain.0;
         let path = one.path.as_str();
         writeln!(text, "# domain {domain} socket {path}")?;
+    }
+    if let Some(most) = setup.bundle {
+        writeln!(text, "# bundles of at most {most} bytes")?;
+    }
+    let delay = setup.delay;
+    if delay > 0 {
+        writeln!(text, "# casts queue for {delay} microseconds")?;
     }
     Ok(text)
 }
