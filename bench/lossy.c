@@ -1,5 +1,5 @@
-/* Loses datagrams, for a program that is run with this library preloaded: of those that it sends over the internet's protocols, by sendto or
- * sendmsg, LOSSY_PERCENT in a hundred. The file LOSSY_COUNT has how many it lost, in 8 bytes. */
+/* Loses datagrams, for a program that is run with this library preloaded: of those that it sends over the internet's protocols, by send, sendto
+ * or sendmsg, LOSSY_PERCENT in a hundred. The file LOSSY_COUNT has how many it lost, in 8 bytes. */
 #define _GNU_SOURCE
 #include <dlfcn.h>
 #include <fcntl.h>
@@ -10,6 +10,7 @@
 #include <sys/socket.h>
 #include <unistd.h>
 
+static ssize_t (*next_send)(int, const void *, size_t, int);
 static ssize_t (*next_sendto)(int, const void *, size_t, int, const struct sockaddr *, socklen_t);
 static ssize_t (*next_sendmsg)(int, const struct msghdr *, int);
 static double share;
@@ -18,6 +19,7 @@ static _Atomic uint64_t *lost = &unseen;
 
 __attribute__((constructor)) static void begin(void) {
     const char *percent = getenv("LOSSY_PERCENT"), *path = getenv("LOSSY_COUNT");
+    next_send = dlsym(RTLD_NEXT, "send");
     next_sendto = dlsym(RTLD_NEXT, "sendto");
     next_sendmsg = dlsym(RTLD_NEXT, "sendmsg");
     share = percent ? strtod(percent, NULL) / 100 : 0;
@@ -47,6 +49,10 @@ static int is_lost(int fd) {
     if (getsockopt(fd, SOL_SOCKET, SO_DOMAIN, &family, &length) != 0 || (family != AF_INET && family != AF_INET6)) return 0;
     atomic_fetch_add(lost, 1);
     return 1;
+}
+
+ssize_t send(int fd, const void *bytes, size_t length, int flags) {
+    return is_lost(fd) ? (ssize_t)length : next_send(fd, bytes, length, flags);
 }
 
 ssize_t sendto(int fd, const void *bytes, size_t length, int flags, const struct sockaddr *to, socklen_t to_length) {
