@@ -161,10 +161,13 @@ class Tool(Process):
 
     def wait_for_lines(self, *texts: str, within: float = PATIENCE) -> None:
         """Reads lines until each of these texts was in one."""
-        end, wanted = time.monotonic() + within, set(texts)
+        end, wanted, lines = time.monotonic() + within, set(texts), []
         while wanted:
-            line = self.line(max(0.0, end - time.monotonic()))
-            wanted = {text for text in wanted if text not in line}
+            try:
+                lines.append(self.line(max(0.0, end - time.monotonic())))
+            except Failed as failed:
+                raise Failed(f"{failed} It wrote {lines}, and not {sorted(wanted)}.") from failed
+            wanted = {text for text in wanted if text not in lines[-1]}
 
     def lines_for(self, seconds: float) -> list[str]:
         """The lines that it writes within so many seconds."""
