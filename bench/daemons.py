@@ -151,6 +151,14 @@ class Castd(Process):
         return self.time_to_end()
 
 
+def networked(kind, lines):
+    """Daemons of this kind whose configuration says these lines of the network, which commas part. None: they are as they were."""
+    if not lines:
+        return kind
+    network = "[network]\n" + lines.replace(",", "\n") + "\n"
+    return type(kind.__name__, (kind,), {"CONFIG": kind.CONFIG + network})
+
+
 class Member(Process):
     """A program of bench/load.c."""
 

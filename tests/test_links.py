@@ -10,7 +10,7 @@ import unittest
 from collections.abc import Callable
 
 from harness import PATIENCE, PROGRAM, Case, castd, wait_until, wait_for_view
-from daemons import Castd, free_addresses
+from daemons import Castd, free_addresses, networked
 from links import linked
 from test_daemon import ACK, CAST, DATA, ID, DaemonCase, Site, bundle, cast, frames_of
 
@@ -36,12 +36,8 @@ def far_fate(_: int, far: int) -> list[float]:
     return [FAR if far == 3 else 0.0]
 
 
-class Bundling(Castd):
-    CONFIG = Castd.CONFIG + "[network]\nbundle = true\n"
-
-
-class Paced(Castd):
-    CONFIG = Castd.CONFIG + "[network]\nbundle = true\ndelay = 300\n"
+Bundling = networked(Castd, "bundle = true")
+Paced = networked(Castd, "bundle = true,delay = 300")
 
 
 class Member(threading.Thread):
