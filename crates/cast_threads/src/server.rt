@@ -4,11 +4,11 @@ use cast_edge::{
     write_now, write_whole,
 };
 use cast_events::{Asked, Event, Fault, Outs, Taken};
-use cast_link::{Sent, Wire, send_all, send_bundled};
+use cast_link::{Wire, send_all, send_bundled};
 use cast_message::Push;
 use cast_session::spell_out;
 use cast_shared::{Came, Pace, Shared, SharedTable, Turn, Udp, Wanted};
-use cast_types::{DomainNo, List, NoMemory, Refusal, SiteNo};
+use cast_types::{DomainNo, List, Refusal, SiteNo};
 use std::mem;
 use std::rt::Clock;
 use std::sync::Wait;
@@ -206,29 +206,22 @@ impl<'a, T: SharedTable> Server<'a, T> {
         }
     }
 
-    // Gives the links frames. They share datagrams if they may.
-    fn give(&mut self, outs: &Outs) -> Result<Sent, NoMemory> {
-        let shared = self.shared;
-        match shared.bundle {
-            Some(most) => send_bundled(shared.alloc, &mut self.wire, shared.own, outs, most),
-            None => send_all(shared.alloc, &mut self.wire, shared.own, outs),
-        }
-    }
-
-    // Sends frames, if there is room to count one more failure of each.
+    // Sends frames, if there is room to count one more failure of each. They share datagrams if they may.
     fn send_passed<R: Wait>(&mut self, rt: &R, outs: &Outs) {
         let count = outs.frames.len() as u64;
         if count == 0 || count >= u64::MAX - self.wire.failures() {
             return;
         }
-        match self.give(outs) {
+        let shared = self.shared;
+        let given = match shared.bundle {
+            Some(most) => send_bundled(shared.alloc, &mut self.wire, shared.own, outs, most),
+            None => send_all(shared.alloc, &mut self.wire, shared.own, outs),
+        };
+        match given {
             Ok(sent) => {
-                self.shared
-                    .traffic
-                    .sent
-                    .fetch_add(sent.sent, Ordering::SeqCst);
+                shared.traffic.sent.fetch_add(sent.sent, Ordering::SeqCst);
                 if sent.lost > 0 {
-                    self.shared.desk.lock(rt).count_unsent(sent.lost);
+                    shared.desk.lock(rt).count_unsent(sent.lost);
                 }
             }
             Err(_) => self.count_unspelled(rt, count),
