@@ -322,10 +322,25 @@ class Attacker:
             self.send(chance, chance.choice((chance.randbytes(size), no_frame(chance))))
 
     def forge(self, chance):
-        """Frames in the name of a site."""
+        """Frames in the name of a site, each in a datagram or in bundles."""
         for _turn in range(chance.randint(1, 300)):
             domain, site = chance.choice(ATTACKED), chance.choice((1, 2, 2, 3, 3, some(chance, 65535)))
-            self.send_frame(chance, site_frame(chance, domain, site, self.views[domain]))
+            frames = [site_frame(chance, domain, site, self.views[domain]) for _ in range(chance.choice((1, 1, 1, chance.randint(2, 20))))]
+            if len(frames) == 1:
+                self.send_frame(chance, *frames)
+            else:
+                self.send_bundle(chance, site, frames)
+
+    def send_bundle(self, chance, site, frames):
+        """Sends a bundle, one in four of them with another head or length, or cut."""
+        data = bytearray(raw.bundle(*frames))
+        if not chance.randrange(8):
+            data[chance.randrange(2, 6)] = chance.randrange(256)
+        if not chance.randrange(8):
+            del data[chance.randrange(2, len(data)) :]
+        link = self.sites.get(site, self.unknown)
+        with contextlib.suppress(OSError):
+            link.sendto(data, self.daemon.address)
 
     def answer(self, chance):
         """Answers what the daemon sent to sites 2 and 3, as these would."""
@@ -335,11 +350,16 @@ class Attacker:
                     came = link.recv(65_536)
                 except OSError:
                     break
-                kind, domain, fields = came[3], came[4], came[7:]
-                named = int.from_bytes(fields[2:6], "big")
-                self.views[domain] = named if kind not in (4, 5) else min(self.views[domain] + 1, MOST)
-                for reply in replies(chance, site, kind, fields, self.views[domain]):
-                    self.send_frame(chance, whole_frame(domain, site, *reply))
+                for frame in raw.frames_of(came):
+                    self.answer_frame(chance, site, frame)
+
+    def answer_frame(self, chance, site, frame):
+        """Answers a frame that a site was sent."""
+        kind, domain, fields = frame[3], frame[4], frame[7:]
+        named = int.from_bytes(fields[2:6], "big")
+        self.views[domain] = named if kind not in (4, 5) else min(self.views[domain] + 1, MOST)
+        for reply in replies(chance, site, kind, fields, self.views[domain]):
+            self.send_frame(chance, whole_frame(domain, site, *reply))
 
     def type(self, chance):
         """Lines of the console, each of which is answered. The last may have no end."""

@@ -61,3 +61,19 @@ class Session:
 
     def close(self):
         self.socket.close()
+
+
+def bundle(*frames, head=b"CB\1\0"):
+    """A datagram of these frames, each behind its length."""
+    return head + b"".join(struct.pack(">H", len(it)) + it for it in frames)
+
+
+def frames_of(datagram):
+    """The frames of a bundle, or the one that another datagram is. None for what begins as a bundle, and is none."""
+    if datagram[:2] != b"CB":
+        return [datagram]
+    frames, rest = [], datagram[4:]
+    while len(rest) >= 2 and len(rest) >= (end := 2 + int.from_bytes(rest[:2], "big")):
+        frames.append(rest[2:end])
+        rest = rest[end:]
+    return frames if datagram[2:4] == b"\1\0" and frames and not rest else None

@@ -77,22 +77,6 @@ class Program(raw.Session):
         self.socket.sendall(b"".join(castd.codec.frame_of(it, tag) for tag, it in enumerate(commands)))
 
 
-def bundle(*frames: bytes, head: bytes = b"CB\1\0") -> bytes:
-    """A datagram of these frames, each behind its length."""
-    return head + b"".join(struct.pack(">H", len(it)) + it for it in frames)
-
-
-def frames_of(datagram: bytes) -> list[bytes] | None:
-    """The frames of a bundle, or the one that another datagram is. None for what begins as a bundle, and is none."""
-    if datagram[:2] != b"CB":
-        return [datagram]
-    frames, rest = [], datagram[4:]
-    while len(rest) >= 2 and len(rest) >= (end := 2 + int.from_bytes(rest[:2])):
-        frames.append(rest[2:end])
-        rest = rest[end:]
-    return frames if datagram[2:4] == b"\1\0" and frames and not rest else None
-
-
 def cast(payload: bytes = b"hi") -> castd.codec.Cast:
     return castd.codec.Cast(1, castd.CAUSAL, payload)
 
@@ -366,17 +350,17 @@ class Datagrams(DaemonCase):
         self.assertEqual(program.kinds(1), [View])
         program.write(*[cast()] * 4)
         acks = [site.frame(ACK, site.hear(DATA)[ID]) for _ in range(4)]
-        whole = bundle(*acks)
+        whole = raw.bundle(*acks)
         bad = (
-            *(bundle(*acks, head=head) for head in (b"CB\0\0", b"CB\2\0", b"CB\1\1")),
-            *(bundle(), b"CB", b"CB\1", whole[:-1], whole + b"\0", whole[:4] + b"\0" + whole[4:]),
+            *(raw.bundle(*acks, head=head) for head in (b"CB\0\0", b"CB\2\0", b"CB\1\1")),
+            *(raw.bundle(), b"CB", b"CB\1", whole[:-1], whole + b"\0", whole[:4] + b"\0" + whole[4:]),
         )
         for datagram in bad:
             site.socket.sendto(datagram, self.address(1))
         wait_until(lambda: self.counts(daemon)["undecoded"] == len(bad), "they are refused")
         self.assertRegex(daemon.ask("show 1"), " held 4 ")
         # One of them is no frame, and one is of another site.
-        site.socket.sendto(bundle(acks[0], b"garbage", *acks[1:], site.frame(ACK, acks[0][7:], 3), b""), self.address(1))
+        site.socket.sendto(raw.bundle(acks[0], b"garbage", *acks[1:], site.frame(ACK, acks[0][7:], 3), b""), self.address(1))
         wait_until(lambda: " held 0 " in daemon.ask("show 1"), "the others are served")
         wait_until(lambda: self.counts(daemon)["undecoded"] == len(bad) + 3, "they are counted")
         self.assertEqual(daemon.ask("stop"), "ok")
@@ -483,7 +467,7 @@ class Site:
         """The next frame of this type."""
         while True:
             while not self.frames:
-                self.frames = frames_of(self.socket.recv(65_536))
+                self.frames = raw.frames_of(self.socket.recv(65_536))
             frame = self.frames.pop(0)
             if frame[3] == kind:
                 return frame

@@ -9,10 +9,11 @@ import time
 import unittest
 from collections.abc import Callable
 
+import raw
 from harness import PATIENCE, PROGRAM, Case, castd, wait_until, wait_for_view
 from daemons import Castd, free_addresses, networked
 from links import linked
-from test_daemon import ACK, CAST, DATA, ID, DaemonCase, Site, bundle, cast, frames_of
+from test_daemon import ACK, CAST, DATA, ID, DaemonCase, Site, cast
 
 CASTS = 80
 # Of a hundred datagrams so many are lost, come twice, or come late.
@@ -166,13 +167,13 @@ class Datagrams(DaemonCase):
         while len(frames) < 8:
             datagram = site.socket.recv(65_536)
             sizes.append(len(datagram))
-            frames += [it for it in frames_of(datagram) if it[3] == DATA]
+            frames += [it for it in raw.frames_of(datagram) if it[3] == DATA]
         self.assertEqual(program.kinds(16), CAST * 8)
         # In the order of the casts, in bundles of at most 512 bytes; the long one goes alone.
         self.assertEqual([struct.unpack_from(">I", it, 19)[0] for it in frames], list(range(1, 9)))
         self.assertEqual([it for it in sizes if it > 512], [len(frames[6])])
         self.assertLess(len(sizes), 6)
-        site.socket.sendto(bundle(*(site.frame(ACK, it[ID]) for it in frames)), self.address(1))
+        site.socket.sendto(raw.bundle(*(site.frame(ACK, it[ID]) for it in frames)), self.address(1))
         wait_until(lambda: " held 0 " in daemon.ask("show 1"), "all are acknowledged")
         self.assert_stops(daemon)
 
@@ -180,14 +181,14 @@ class Datagrams(DaemonCase):
         daemon, program, site = self.played()
         expected = 0
         for place in range(1, 1_001):
-            datagram = bytearray(bundle(*(b"?" + random.randbytes(random.randint(0, 20)) for _ in range(random.randint(1, 4)))))
+            datagram = bytearray(raw.bundle(*(b"?" + random.randbytes(random.randint(0, 20)) for _ in range(random.randint(1, 4)))))
             for _ in range(random.randint(0, 2)):
                 datagram[random.randrange(2, len(datagram))] = random.randrange(256)
             if random.random() < 0.2:
                 del datagram[random.randrange(2, len(datagram)) :]
             site.socket.sendto(datagram, self.address(1))
             # What is in it is no frame.
-            expected += len(frames_of(bytes(datagram)) or [b""])
+            expected += len(raw.frames_of(bytes(datagram)) or [b""])
             if place % 50 == 0:
                 wait_until(lambda: int(daemon.ask("datagrams").split()[-1]) == expected, f"{expected} are counted")
         self.assert_is_served(program)
