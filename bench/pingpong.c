@@ -73,9 +73,10 @@ static void cast(int is_last) {
     struct head head = {(uint16_t)is_last, (uint16_t)place};
     memcpy(message, &head, sizeof head);
     sent = now();
+    wants = 0;
     enum group_result result = group_cast(message, is_last ? sizeof head : size);
     if (result == GROUP_FAILED) fail("a message could not be cast");
-    if (result == GROUP_DONE) wants = 0;
+    if (result == GROUP_LATER) wants = 1;
 }
 
 static void join(const char *path, int is_total) {
@@ -93,7 +94,8 @@ static void join(const char *path, int is_total) {
 
 static void run(double seconds) {
     double end = now() + seconds * 1e6, patience = end + PATIENCE * 1e6;
-    wants = place == 1;
+    /* The member of place 2 may have been delivered the first cast before it was told to go on. */
+    if (place == 1) wants = 1;
     while (!is_over) {
         if (now() > patience) fail("messages are wanting");
         if (wants) cast(place == 1 && now() >= end);
