@@ -1,14 +1,12 @@
-"""Links between sites: frames that share datagrams, and how many casts are on their way."""
+"""Links between sites: frames that share datagrams."""
 
 import collections
 import json
 import random
 import struct
-import tempfile
 import threading
 import time
 import unittest
-from collections.abc import Callable
 
 import raw
 from harness import PATIENCE, PROGRAM, Case, castd, wait_until, wait_for_view
@@ -23,11 +21,6 @@ LONG = 4 * PATIENCE
 LOST, TWICE, LATE = 5, 5, 20
 
 
-# From the third site to the others a datagram takes so many seconds.
-FAR = 0.06
-PACED = 400
-
-
 def bad_fate(*_: int) -> list[float]:
     """After how many seconds a datagram is delivered, if it is."""
     if random.random() < LOST / 100:
@@ -36,12 +29,8 @@ def bad_fate(*_: int) -> list[float]:
     return [late] * (2 if random.random() < TWICE / 100 else 1)
 
 
-def far_fate(_: int, far: int) -> list[float]:
-    return [FAR if far == 3 else 0.0]
-
-
-Bundling = networked(Castd, "bundle = true")
-Paced = networked(Castd, "bundle = true,delay = 300")
+# In both tests casts queue little, too.
+Bundling = networked(Castd, "bundle = true,delay = 300")
 
 
 class Member(threading.Thread):
@@ -80,15 +69,14 @@ class Member(threading.Thread):
 
 
 class Clusters(Case):
-    def cluster(self, *kinds: type[Castd], fate: Callable[[int, int], list[float]] = bad_fate) -> tuple[list[Castd], list[Member]]:
-        """Daemons of these kinds, with a program at each that joined. What becomes of their datagrams `fate` says."""
-        folder = tempfile.mkdtemp(dir=self.folder)
-        told, links = linked(free_addresses(len(kinds)), fate)
+    def cluster(self, *kinds: type[Castd]) -> tuple[list[Castd], list[Member]]:
+        """Daemons of these kinds at sites whose links are bad, with a program at each that joined."""
+        told, links = linked(free_addresses(len(kinds)), bad_fate)
         for link in links:
             self.addCleanup(link.end)
         daemons = []
         for kind, (site, addresses) in zip(kinds, told.items()):
-            daemons.append(kind(PROGRAM, folder, site, addresses))
+            daemons.append(kind(PROGRAM, self.folder, site, addresses))
             self.addCleanup(daemons[-1].kill)
         sessions = [castd.Session(it.path, PATIENCE) for it in daemons]
         for session in sessions:
@@ -142,21 +130,6 @@ class Clusters(Case):
         self.assert_agree(*members[:2])
         self.assertEqual(members[2].faults, [])
 
-    def time_beside_a_far_site(self, kind: type[Castd]) -> float:
-        """How many seconds pass until all have the casts of the first of three sites, of which the third is far."""
-        _, (member, *others) = self.cluster(kind, kind, kind, fate=far_fate)
-        begun = time.monotonic()
-        for place in range(PACED):
-            member.say(place)
-        for other in others:
-            wait_until(lambda: other.delivered[str(member.process)] == PACED, "all are delivered", LONG)
-        return time.monotonic() - begun
-
-    def test_a_far_site_does_not_hold_back_casts_that_queue_little(self):
-        # An acknowledgement from the far site takes long, and is not late for that. With the fewest casts on their way it would be 12 s, and
-        # 0.7 s if as many are as may be.
-        self.assertLess(self.time_beside_a_far_site(Paced), 5 * self.time_beside_a_far_site(Bundling))
-
 
 class Datagrams(DaemonCase):
     def played(self, **domain) -> tuple:
@@ -174,8 +147,10 @@ class Datagrams(DaemonCase):
         frames, sizes = [], []
         while len(frames) < 8:
             datagram = site.socket.recv(65_536)
-            sizes.append(len(datagram))
-            frames += [it for it in raw.frames_of(datagram) if it[3] == DATA]
+            # What is not acknowledged in time comes again.
+            new = [it for it in raw.frames_of(datagram) if it[3] == DATA and it not in frames]
+            sizes += [len(datagram)] if new else []
+            frames += new
         self.assertEqual(program.kinds(16), CAST * 8)
         # In the order of the casts, in bundles of at most 512 bytes; the long one goes alone.
         self.assertEqual([struct.unpack_from(">I", it, 19)[0] for it in frames], list(range(1, 9)))
