@@ -12,7 +12,8 @@
  * with the messages a second, until the last or for SECONDS if that is longer, and the times in microseconds from the cast to the delivery here,
  * the median and that within which 99 of 100 are. All members run on one machine, so one clock serves all. Then it stays until standard input
  * ends. It ends with 1 where the daemon is gone, or something is still wanting 20 seconds after the last cast. */
-#include "group.h"
+#define PROGRAM "load"
+#include "measure.h"
 
 #include <poll.h>
 #include <stdint.h>
@@ -24,8 +25,6 @@
 
 #define MOST_PLACES 65
 #define MOST_TIMES (1 << 22)
-#define MOST_SIZE 16384
-#define PATIENCE 20.0
 /* At most so many casts are made before what has come is taken. */
 #define BURST 32
 
@@ -37,28 +36,13 @@ struct head {
     double sent;
 };
 
-static size_t members, senders, place, size, in_flight;
+static size_t senders, in_flight, ended;
 static double seconds;
 static int is_each;
 
-static size_t viewed, delivered, ended;
 static uint32_t sent, come[MOST_PLACES];
 static double begun, last;
 static float times[MOST_TIMES];
-
-static void fail(const char *what) {
-    fprintf(stderr, "load: %s\n", what);
-    exit(1);
-}
-
-/* In microseconds. */
-static double now(void) {
-    struct timespec time;
-    clock_gettime(CLOCK_MONOTONIC, &time);
-    return time.tv_sec * 1e6 + time.tv_nsec / 1e3;
-}
-
-void on_view(size_t count) { viewed = count; }
 
 void on_delivery(const void *message, size_t length) {
     struct head head;
@@ -74,10 +58,6 @@ void on_delivery(const void *message, size_t length) {
     if (delivered < MOST_TIMES) times[delivered] = (float)(last - head.sent);
     delivered++;
     come[head.place]++;
-}
-
-static void dispatch(int milliseconds) {
-    if (group_dispatch(milliseconds) == GROUP_FAILED) fail("the daemon is gone");
 }
 
 /* Casts a message, unless there is no room for it. */
@@ -99,11 +79,7 @@ static int is_told(void) {
 static void join(const char *path, int is_total) {
     if (group_connect(path) == GROUP_FAILED) fail("there is no daemon");
     if (members > 0 && group_join(is_total) == GROUP_FAILED) fail("the group cannot be joined");
-    double end = now() + PATIENCE * 1e6;
-    while (viewed < members) {
-        dispatch(100);
-        if (now() > end) fail("the members did not come");
-    }
+    wait_for_members();
     puts("ready");
     while (!is_told()) dispatch(members > 0 ? 1 : 1000);
     if (getchar() == EOF) exit(0);
@@ -142,11 +118,6 @@ static void run(void) {
         dispatch(is_late ? 1 : may_cast ? 0 : 50);
         if (is_each && time < end) say_each();
     }
-}
-
-static int by_size(const void *a, const void *b) {
-    float x = *(const float *)a, y = *(const float *)b;
-    return (x > y) - (x < y);
 }
 
 static void report(void) {

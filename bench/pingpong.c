@@ -12,7 +12,8 @@
  * at place 1 with the answers and half of the times in microseconds from a cast to its answer, the median and that within which 99 of 100 are.
  * Then it stays until standard input ends. It ends with 1 where the daemon is gone, or something is still wanting 20 seconds after the last
  * cast. */
-#include "group.h"
+#define PROGRAM "pingpong"
+#include "measure.h"
 
 #include <poll.h>
 #include <stdint.h>
@@ -23,8 +24,6 @@
 #include <unistd.h>
 
 #define MOST_TIMES (1 << 21)
-#define MOST_SIZE 16384
-#define PATIENCE 20.0
 
 /* What each message begins with. */
 struct head {
@@ -32,25 +31,10 @@ struct head {
     uint16_t place;
 };
 
-static size_t members, place, size, viewed, delivered;
 /* What is to be done: make the next cast, or answer one. And whether the last one came. */
 static int wants, is_over;
 static double sent;
 static float times[MOST_TIMES];
-
-static void fail(const char *what) {
-    fprintf(stderr, "pingpong: %s\n", what);
-    exit(1);
-}
-
-/* In microseconds. */
-static double now(void) {
-    struct timespec time;
-    clock_gettime(CLOCK_MONOTONIC, &time);
-    return time.tv_sec * 1e6 + time.tv_nsec / 1e3;
-}
-
-void on_view(size_t count) { viewed = count; }
 
 void on_delivery(const void *message, size_t length) {
     struct head head;
@@ -61,10 +45,6 @@ void on_delivery(const void *message, size_t length) {
     if (place == 1 && delivered < MOST_TIMES) times[delivered] = (float)((now() - sent) / 2);
     delivered++;
     wants = 1;
-}
-
-static void dispatch(int milliseconds) {
-    if (group_dispatch(milliseconds) == GROUP_FAILED) fail("the daemon is gone");
 }
 
 /* Casts a message, unless there is no room for it. */
@@ -82,11 +62,7 @@ static void cast(int is_last) {
 static void join(const char *path, int is_total) {
     if (group_connect(path) == GROUP_FAILED) fail("there is no daemon");
     if (group_join(is_total) == GROUP_FAILED) fail("the group cannot be joined");
-    double end = now() + PATIENCE * 1e6;
-    while (viewed < members) {
-        dispatch(100);
-        if (now() > end) fail("the members did not come");
-    }
+    wait_for_members();
     puts("ready");
     while (poll(&(struct pollfd){STDIN_FILENO, POLLIN, 0}, 1, 0) == 0) dispatch(1);
     if (getchar() == EOF) exit(0);
@@ -101,11 +77,6 @@ static void run(double seconds) {
         if (wants) cast(place == 1 && now() >= end);
         dispatch(wants ? 0 : 50);
     }
-}
-
-static int by_size(const void *a, const void *b) {
-    float x = *(const float *)a, y = *(const float *)b;
-    return (x > y) - (x < y);
 }
 
 int main(int count, char **words) {
