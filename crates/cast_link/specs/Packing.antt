@@ -35,6 +35,7 @@ to_site site sent = map (λ d. d.1) (filter (λ d. site_eq d.0 site) sent)
 abbrev pub IsPacked : ℕ → List (SiteNo × List ℕ) → List (SiteNo × List ℕ) → Type 0
 IsPacked most frames datagrams = (site : SiteNo) → Carry most (to_site site datagrams) (to_site site frames)
 
--- a wire is given datagrams that carry these frames
-abbrev pub AddsPacked : ℕ → Option (List (SiteNo × List ℕ)) → Option (List (SiteNo × List ℕ)) → List (SiteNo × List ℕ) → Type 0
-AddsPacked most old new frames = (datagrams : List (SiteNo × List ℕ)) × IsPacked most frames datagrams × AddsAll old new datagrams
+-- a wire is given datagrams that carry these frames, and so many
+abbrev pub AddsPacked : ℕ → Option (List (SiteNo × List ℕ)) → Option (List (SiteNo × List ℕ)) → List (SiteNo × List ℕ) → ℕ → Type 0
+AddsPacked most old new frames count =
+    (datagrams : List (SiteNo × List ℕ)) × IsPacked most frames datagrams × AddsAll old new datagrams × (count ≡ length datagrams)

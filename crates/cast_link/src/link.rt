@@ -98,8 +98,10 @@ pub fn send_bundled<W: Wire>(
     most: usize,
 ) -> Result<Sent, NoMemory>
     requires { W.failed wire.old + length outs.now.frames < 2 ^ 64 }
-    ensures given { OnOk result (AddsPacked most (W.given wire.old) (W.given wire.new) (datagrams_of own outs.now.frames)) }
+    // What is counted is the datagrams.
+    ensures given { IfOk result (λ s. AddsPacked most (W.given wire.old) (W.given wire.new) (datagrams_of own outs.now.frames) (s.sent + s.lost)) }
     ensures waiting { Stays (W.waiting wire.old) (W.waiting wire.new) }
+    // They are no more than the frames.
     ensures counted { IfOk result (λ s. s.sent + s.lost ≤ length outs.now.frames) }
     ensures lost { IfOk result (λ s. W.failed wire.new ≡ W.failed wire.old + s.lost) }
     ensures err { OnErr result (wire.new ≡ wire.old) }
