@@ -12,7 +12,7 @@ type Outgoing = (DomainNo, SiteNo, SiteFrame);
 // After so many that said something new they wait no longer.
 const MANY: u32 = 8;
 
-// So many wait at most.
+// Once so many wait, all are sent when the receiver has finished the frames that it serves. Until then more may wait.
 const MOST: usize = 64;
 
 /// Stables that wait to be sent.
