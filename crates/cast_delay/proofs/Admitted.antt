@@ -1,10 +1,10 @@
 -- Rows that rise by their processes: one is found by halving, and they rise still once some are changed, added or taken out.
 use Rattle.std.proofs.Common.{◌≡◌, ℕ, zero, suc, ◌<◌, ◌≤◌, Bool, true, false, cond, List, [], ◌∷◌, ◌++◌, length, map, get_or, Option, Some, None, Ok, Err, Ordering, Less, Equal, Greater, refl, sym, ap, subst, ◌∙◌, inl, inr, arith}
-use Rattle.std.specs.Prelude.{◌&&◌, ◌||◌, ◌==◌, not, nat_lt, unwrap_or, if◌then◌else◌}
-use Rattle.std.specs.List.{list_all, list_any}
+use Rattle.std.specs.Prelude.{◌&&◌, ◌==◌, not, nat_lt, unwrap_or, if◌then◌else◌}
+use Rattle.std.specs.List.{list_all, find}
 use Rattle.std.specs.List.Sorted.{IsBinarySearchResult, IsNonDecreasingBy}
 use Rattle.std.specs.Ordering.{is_lt, ordering_index}
-use Rattle.std.specs.Option.{option_map_or}
+use Rattle.std.specs.Option.{option_map_or, option_and_then}
 use Rattle.std.proofs.lemmas.Bool.{cases_Bool, cases_eq, eqb-true, and_parts, not-true, and_from, false≢true, true≢false}
 use Rattle.std.proofs.lemmas.Cmp.{tied_itself}
 use Rattle.std.proofs.lemmas.List.{take_all}
@@ -27,7 +27,7 @@ use Rattle.cast_ready.specs.declared.row.ProcessUpdate.TheVariants as fact
 use Rattle.cast_ready.specs.declared.offered.Offered.{Offered}
 use Rattle.cast_ready.specs.Ready.{is_member, is_open_to}
 use Rattle.cast_ready.specs.Rows.{all_allow, delivered_row, done_in, gate_in, is_causally_ready_row, standing_in, told_row}
-use Rattle.cast_delay.specs.Queue.{Queue, after_delivery, change_row, has_candidate, may_deliver_in, offered_under, row_of}
+use Rattle.cast_delay.specs.Queue.{Queue, after_delivery, candidate_for, candidate_in, change_row, offered_under, row_of}
 use Rattle.cast_delay.specs.Settled.{AreSettled}
 use Rattle.cast_delay.specs.Admitted.{rise, all_below, is_idle}
 use Rattle.cast_delay.proofs.Settled.{none_settled_ready}
@@ -149,30 +149,30 @@ none_at row g none = ap (λ es. unwrap_or (entries.find group_cmp g es) Outside)
     no_entries (e ∷ es) is = absurd (omega (arith, eqb-true (length (e ∷ es)) 0 is))
 
 -- takes no message
-none_ready : (gates : List (GroupNo × Gate)) (row : Row) → (length row.standings == 0) ≡ true → (offered : List Offered) → has_candidate gates offered row ≡ false
+none_ready : (gates : List (GroupNo × Gate)) (row : Row) → (length row.standings == 0) ≡ true → (offered : List Offered) → candidate_for gates offered row ≡ None
 none_ready gates row none [] = refl
 none_ready gates row none (o ∷ offered) =
-    ap (λ b. (b && ((o.id.view == (gate_in gates o.id.group).number) && (is_open_to (gate_in gates o.id.group) (entry_of o.id) && (nat_lt (done_in row o.id.group o.id.view o.id.proc) o.id.count && (all_allow gates row o.id o.times && has_room (join row.time o.times)))))) || has_candidate gates offered row) (ap is_member (none_at row o.id.group none))
+    ap (λ b. cond (b && ((o.id.view == (gate_in gates o.id.group).number) && (is_open_to (gate_in gates o.id.group) (entry_of o.id) && (nat_lt (done_in row o.id.group o.id.view o.id.proc) o.id.count && (all_allow gates row o.id o.times && has_room (join row.time o.times)))))) (Some o) (candidate_for gates offered row)) (ap is_member (none_at row o.id.group none))
     ∙ none_ready gates row none offered
 
-pub idle_may_not : (q : Queue) (p : Proc) → is_idle q.rows p ≡ true → may_deliver_in q p ≡ false
+pub idle_may_not : (q : Queue) (p : Proc) → is_idle q.rows p ≡ true → candidate_in q p ≡ None
 idle_may_not q p idle = at (row_of q.rows p) idle
   where
-    at : (o : Option Row) → option_map_or (λ r. length r.standings == 0) o false ≡ true → option_map_or (has_candidate q.gates q.offered) o false ≡ false
+    at : (o : Option Row) → option_map_or (λ r. length r.standings == 0) o false ≡ true → option_and_then (candidate_for q.gates q.offered) o ≡ None
     at None is = refl
     at (Some row) is = none_ready q.gates row is q.offered
 
 -- Where each message is settled, none is ready for a process
-none_passes : (f : Offered → Bool) (offered : List Offered) → list_all (λ o. not (f o)) offered ≡ true → list_any f offered ≡ false
+none_passes : (f : Offered → Bool) (offered : List Offered) → list_all (λ o. not (f o)) offered ≡ true → find f offered ≡ None
 none_passes f [] all = refl
 none_passes f (o ∷ offered) all =
     let parts = and_parts (not (f o)) (list_all (λ x. not (f x)) offered) all in
-    ap (λ b. b || list_any f offered) (not-true (f o) parts.0) ∙ none_passes f offered parts.1
+    ap (λ b. cond b (Some o) (find f offered)) (not-true (f o) parts.0) ∙ none_passes f offered parts.1
 
-pub settled_may_not : (q : Queue) (n : ℕ) (p : Proc) → AreSettled q.gates q.rows q.offered n → length q.offered ≤ n → may_deliver_in q p ≡ false
+pub settled_may_not : (q : Queue) (n : ℕ) (p : Proc) → AreSettled q.gates q.rows q.offered n → length q.offered ≤ n → candidate_in q p ≡ None
 settled_may_not q n p settled all = at (row_of q.rows p) refl
   where
-    at : (o : Option Row) → row_of q.rows p ≡ o → option_map_or (has_candidate q.gates q.offered) o false ≡ false
+    at : (o : Option Row) → row_of q.rows p ≡ o → option_and_then (candidate_for q.gates q.offered) o ≡ None
     at None is = refl
     at (Some row) is =
         none_passes (λ o. is_causally_ready_row q.gates row o.id o.times) q.offered

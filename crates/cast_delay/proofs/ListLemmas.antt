@@ -80,12 +80,3 @@ find_past s t fails (x ∷ xs) (suc n) all =
     let parts = and_parts (s x) (list_all s (take n xs)) all in
     find_past s t fails xs n parts.1
     ∙ sym (ap (λ b. cond b (Some x) (find t xs)) (fails x parts.0))
-
-pub any_past : {A : Type 0} (s t : A → Bool) → ((x : A) → s x ≡ true → t x ≡ false) → (xs : List A) (n : ℕ) → list_all s (take n xs) ≡ true → list_any t (drop n xs) ≡ list_any t xs
-any_past s t fails [] zero all = refl
-any_past s t fails [] (suc n) all = refl
-any_past s t fails (x ∷ xs) zero all = refl
-any_past s t fails (x ∷ xs) (suc n) all =
-    let parts = and_parts (s x) (list_all s (take n xs)) all in
-    any_past s t fails xs n parts.1
-    ∙ sym (ap (λ b. b || list_any t xs) (fails x parts.0))

@@ -32,7 +32,7 @@ use Rattle.cast_delay.specs.Offers.{key_of, none_of}
 use Rattle.cast_delay.specs.Waits.{is_awake, IsKnown, IsWithin, IsWaking, IsUnseen, IsUnseenBy, AreKnown, Adds}
 use Rattle.cast_delay.proofs.Delivers.{ready_parts, only_member}
 use Rattle.cast_delay.proofs.ListLemmas.{all_each, contains_cases}
-use Rattle.cast_delay.proofs.MemberLemmas.{any_member, member_any, none_found, found_member, found_least, first_is, same_item}
+use Rattle.cast_delay.proofs.MemberLemmas.{any_member, none_found, found_member, found_least, first_is, same_item}
 use Rattle.cast_delay.proofs.LookedAt.{first_there}
 
 -- what stands among the first items but one more
@@ -201,8 +201,8 @@ module _ (gates : List (GroupNo × Gate)) (row : Row) (offered : List Offered) (
       ((btree_set_contains_iff nat_cmp_total exact_unsigned l.awake o.key.0).0 awake, ap (λ (m : Option Offered). option_map_or t m false) (under_is o there) ∙ is)
 
   -- the first that is awake and passes is the first that passes
-  pub awake_first : (k : ℕ) → IsStrictlySortedBy nat_cmp l.awake.keys → find passes l.awake.keys ≡ Some k → option_map (λ (o : Offered). o.key) (find t offered) ≡ Some (record { 0 = k })
-  awake_first k sorted is =
+  pub awake_is : (k : ℕ) → IsStrictlySortedBy nat_cmp l.awake.keys → find passes l.awake.keys ≡ Some k → (o : Offered) × (find t offered ≡ Some o) × (offered_under offered o.key ≡ Some o) × (o.key.0 ≡ k)
+  awake_is k sorted is =
       let at = found_member passes l.awake.keys k is in
       let o = passes_so k at.1 in
       let below = known.within.awake k ((btree_set_contains_iff nat_cmp_total exact_unsigned l.awake k).1 at.0) in
@@ -211,17 +211,18 @@ module _ (gates : List (GroupNo × Gate)) (row : Row) (offered : List Offered) (
         | inl lt ↦ let awake = awake_passes x there lt passing in omega (arith, o.2, found_least (λ (j : ℕ). j) passes l.awake.keys k (keys_rise l.awake.keys sorted) is x.key.0 awake.0 awake.1)
         | inr ge ↦ omega (arith, o.2, below, ge)
       ]) in
-      ap (option_map (λ (m : Offered). m.key)) first ∙ (λ i. Some (record { 0 = o.2 i }))
+      (o.0, first, under_is o.0 o.1, o.2)
 
-  pub awake_any : list_any passes l.awake.keys ≡ true → list_any t offered ≡ true
-  awake_any is =
-      let k = any_member passes l.awake.keys is in
-      let o = passes_so k.0 k.2 in
-      member_any t offered o.0 o.1 o.3
+  pub awake_first : (k : ℕ) → IsStrictlySortedBy nat_cmp l.awake.keys → find passes l.awake.keys ≡ Some k → option_map (λ (o : Offered). o.key) (find t offered) ≡ Some (record { 0 = k })
+  awake_first k sorted is = let o = awake_is k sorted is in ap (option_map (λ (m : Offered). m.key)) o.1 ∙ (λ i. Some (record { 0 = o.3 i }))
+
+  -- and so is what stands under its key
+  pub awake_under : (k : ℕ) → IsStrictlySortedBy nat_cmp l.awake.keys → find passes l.awake.keys ≡ Some k → offered_under offered (record { 0 = k }) ≡ find t offered
+  awake_under k sorted is = let o = awake_is k sorted is in (λ i. offered_under offered (record { 0 = sym o.3 i })) ∙ o.2 ∙ sym o.1
 
   -- where none that is awake passes, none does of those that need not be looked at
   module _ (n settled : ℕ) (unseen : IsUnseen offered settled l n) (none : none_of t settled offered ≡ true) where
-    pub unseen_none : ((k : ℕ) → Contains l.awake.keys k → passes k ≡ true → ⊥) → none_of t n offered ≡ true
+    unseen_none : ((k : ℕ) → Contains l.awake.keys k → passes k ≡ true → ⊥) → none_of t n offered ≡ true
     unseen_none not_so = all_of (λ o. not (t o)) (take n offered) (λ o there. not_from_false (t o) (elim (unseen.each o there) [
       | inl before ↦ not-true (t o) (all_each (λ m. not (t m)) (take settled offered) none o before)
       | inr lt ↦ false_from_ne_true (t o) (λ is. let awake = awake_passes o (first_there offered n o there) lt is in not_so o.key.0 awake.0 awake.1)
@@ -229,9 +230,6 @@ module _ (gates : List (GroupNo × Gate)) (row : Row) (offered : List Offered) (
 
     pub unseen_found : find passes l.awake.keys ≡ None → none_of t n offered ≡ true
     unseen_found is = unseen_none (λ k there. none_found passes l.awake.keys is k there)
-
-    pub unseen_any : list_any passes l.awake.keys ≡ false → none_of t n offered ≡ true
-    unseen_any is = unseen_none (λ k there passing. false≢true (sym is ∙ member_any passes l.awake.keys k there passing))
 
 -- so many are settled or have lower keys
 pub unseen_max : (offered : List Offered) (settled n : ℕ) (l : Looked) → settled ≤ length offered → n ≤ length offered → all_below key_of l.below (take n offered) ≡ true → IsUnseen offered settled l (max settled n)

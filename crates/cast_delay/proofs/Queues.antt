@@ -1,10 +1,10 @@
 -- The queue names the first message that is ready, and keeps its meaning.
-use Rattle.std.proofs.Common.{◌≡◌, ◌↔◌, ℕ, ◌<◌, ◌≤◌, Bool, true, false, cond, not, ◌&&◌, ◌||◌, ◌⊎◌, List, length, take, [], ◌∷◌, ◌++◌, filter, Contains, Option, Some, None, unwrap_or, refl, sym, ap, subst, ◌∙◌, inl, inr, arith}
+use Rattle.std.proofs.Common.{◌≡◌, ◌↔◌, ℕ, ◌<◌, ◌≤◌, Bool, true, false, cond, not, ◌&&◌, ◌||◌, ◌⊎◌, List, length, take, [], ◌∷◌, ◌++◌, filter, Contains, Option, Some, None, MatchOption, unwrap_or, refl, sym, ap, subst, ◌∙◌, inl, inr, arith}
 use Rattle.std.specs.Prelude.{if◌then◌else◌, slice_get}
 use Rattle.std.specs.List as list
 use Rattle.std.specs.Option.{IsSome, option_map, option_map_or, option_and_then}
 use Rattle.std.specs.FinMap.Entries.{put}
-use Rattle.std.proofs.lemmas.Bool.{cases_Bool, false≢true, false_from_ne_true, not-false, and_parts, and_from, or_cases, or_left, or_right, eqb-true, eq-eqb, ne_eqb, or_parts}
+use Rattle.std.proofs.lemmas.Bool.{cases_Bool, false≢true, false_from_ne_true, not-false, and_parts, and_from, or_cases, or_left, or_right, eqb-true, eq-eqb, ne_eqb}
 use Rattle.std.proofs.lemmas.List.{map-append}
 use Rattle.std.proofs.lemmas.List.Folds.{find_at}
 use Rattle.std.proofs.lemmas.List.Elements.{Contains-push_cases}
@@ -33,10 +33,10 @@ use Rattle.cast_ready.specs.declared.gate.Gate.{Gate}
 use Rattle.cast_ready.specs.Ready.{Process, open_gate, frozen_gate, pending_gate, is_member, is_outside, has_delivered, awaits, turn_in, is_causally_ready, is_ready, has_turn}
 use Rattle.cast_ready.specs.DeliveredCounts.{DeliveredCounts, raised_at, counts_in}
 use Rattle.cast_ready.specs.Rows.{gate_in, standing_in, is_causally_ready_row, is_ready_row, has_delivered_in, passed_by, awaits_row, delivered_row, told_row, new_row}
-use Rattle.cast_delay.specs.Queue.{Queue, row_of, but_row, change_row, first_for, offered_under, next_key, has_candidate, may_deliver_in, delivered_in, passed_in, but_offered, is_awaited, HasOneRowEach, after_delivery, reached_after, queue_viewing, queue_delivering}
+use Rattle.cast_delay.specs.Queue.{Queue, row_of, but_row, change_row, first_for, offered_under, next_key, candidate_for, candidate_in, delivered_in, passed_in, but_offered, is_awaited, HasOneRowEach, after_delivery, reached_after, queue_viewing, queue_delivering}
 use Rattle.cast_delay.specs.Fits.{IsSound, HasNotEnded, RowFits, StandsFor, HasNotBegun, Reaches, offer_of, Fits, FirstReady, HasTurns, IsAwaited, set_process, told, delivering, FactFits}
 use Rattle.cast_delay.specs.Laws.{NewFits}
-use Rattle.cast_delay.specs.Says.{SaysReached}
+use Rattle.cast_delay.specs.Says.{SaysReached, SaysCandidate}
 use Rattle.cast_delay.proofs.RowMeaning.{row_means, awaits_means, delivered_means}
 use Rattle.cast_delay.proofs.Turns.{in_turn, same_turns, causally_member}
 use Rattle.cast_delay.proofs.Finds.{found_in, find_agree, find_mapped, never_found, find-append_some, find-append_none, find_kept, none_before, kept_parts, filter_mapped, any_in, found_any, put_at_group}
@@ -485,17 +485,37 @@ reached_says q group view counts is = subst (λ c. SaysReached q group view c) (
   each = λ groups gate processes received fits. reached_each gate processes q.reached fits.reached group view;
 })
 
--- what is ready is ready but for the turns
-none_ready : (turns : List (GroupNo × Turn)) (gates : List (GroupNo × Gate)) (row : Row) (offered : List Offered) → has_candidate gates offered row ≡ false → first_for turns gates offered row ≡ None
+-- what is ready is ready but for the turns, so without a candidate none is ready
+none_ready : (turns : List (GroupNo × Turn)) (gates : List (GroupNo × Gate)) (row : Row) (offered : List Offered) → candidate_for gates offered row ≡ None → first_for turns gates offered row ≡ None
 none_ready turns gates row [] none = refl
 none_ready turns gates row (o ∷ offered) none =
-    let parts = or_parts (is_causally_ready_row gates row o.id o.times) (has_candidate gates offered row) none in
-    ap (λ b. cond (b && (not o.atomic || has_turn (turn_in turns o.id.group) (entry_of o.id))) (Some o) (first_for turns gates offered row)) parts.0
-    ∙ none_ready turns gates row offered parts.1
+    elim (is_causally_ready_row gates row o.id o.times) as (λ b. cond b (Some o) (candidate_for gates offered row) ≡ None → cond (b && (not o.atomic || has_turn (turn_in turns o.id.group) (entry_of o.id))) (Some o) (first_for turns gates offered row) ≡ None) [
+      | true ↦ λ some. cc some
+      | false ↦ λ later. none_ready turns gates row offered later
+    ] none
 
-pub may_deliver_means : (q : Queue) (p : Proc) (b : Bool) → b ≡ may_deliver_in q p → b ≡ false → (turns : List (GroupNo × Turn)) → next_key turns q p ≡ None
-may_deliver_means q p b is none turns = at (row_of q.rows p) (sym is ∙ none)
+-- and one that is no ABCAST is the first that is ready
+first_ready : (turns : List (GroupNo × Turn)) (gates : List (GroupNo × Gate)) (row : Row) (offered : List Offered) (m : Offered) → candidate_for gates offered row ≡ Some m → m.atomic ≡ false → first_for turns gates offered row ≡ Some m
+first_ready turns gates row [] m is causal = cc is
+first_ready turns gates row (o ∷ offered) m is causal =
+    elim (is_causally_ready_row gates row o.id o.times) as (λ b. cond b (Some o) (candidate_for gates offered row) ≡ Some m → cond (b && (not o.atomic || has_turn (turn_in turns o.id.group) (entry_of o.id))) (Some o) (first_for turns gates offered row) ≡ Some m) [
+      | true ↦ λ here.
+          let same : o ≡ m = ap (λ (x : Option Offered). unwrap_or x o) here in
+          ap (λ a. cond (not a || has_turn (turn_in turns o.id.group) (entry_of o.id)) (Some o) (first_for turns gates offered row)) (ap (λ (x : Offered). x.atomic) same ∙ causal) ∙ here
+      | false ↦ λ later. first_ready turns gates row offered m later causal
+    ] is
+
+pub candidate_means : (q : Queue) (p : Proc) (candidate : Option Offered) → candidate ≡ candidate_in q p → SaysCandidate q p candidate
+candidate_means q p candidate is turns = at candidate (row_of q.rows p) is
   where
-    at : (o : Option Row) → option_map_or (has_candidate q.gates q.offered) o false ≡ false → option_map (λ x. x.key) (option_and_then (first_for turns q.gates q.offered) o) ≡ None
-    at None _ = refl
-    at (Some row) is_none = ap (option_map (λ (x : Offered). x.key)) (none_ready turns q.gates row q.offered is_none)
+    key_for : Option Row → Option Key
+    key_for o = option_map (λ x. x.key) (option_and_then (first_for turns q.gates q.offered) o)
+
+    at : (c : Option Offered) (o : Option Row) → c ≡ option_and_then (candidate_for q.gates q.offered) o → MatchOption c (key_for o ≡ None) (λ m. m.atomic ≡ false → key_for o ≡ Some m.key)
+    at None None _ = refl
+    at None (Some row) none = ap (option_map (λ (x : Offered). x.key)) (none_ready turns q.gates row q.offered (sym none))
+    at (Some m) None some = cc some
+    at (Some m) (Some row) some = λ causal. ap (option_map (λ (x : Offered). x.key)) (first_ready turns q.gates row q.offered m (sym some) causal)
+
+pub none_means : (q : Queue) (p : Proc) → candidate_in q p ≡ None → (turns : List (GroupNo × Turn)) → next_key turns q p ≡ None
+none_means q p none = candidate_means q p None (sym none)

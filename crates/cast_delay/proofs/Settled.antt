@@ -2,7 +2,7 @@
 use Rattle.std.proofs.Common.{◌≡◌, ℕ, zero, suc, ◌+◌, ◌<◌, ◌≤◌, Bool, true, false, cond, not, ◌&&◌, ◌||◌, List, [], ◌∷◌, ◌++◌, length, length-append, take, get_or, filter, Option, Some, None, unwrap_or, refl, sym, ap, subst, ◌∙◌, inl, inr, arith}
 use Rattle.std.specs.Prelude.{◌==◌, nat_lt, nat_le, if◌then◌else◌}
 use Rattle.std.specs.List as list
-use Rattle.std.specs.Option.{option_map, option_map_or, option_and_then}
+use Rattle.std.specs.Option.{option_map, option_and_then}
 use Rattle.std.specs.Ordering.{eq_by_cmp}
 use Rattle.std.specs.FinMap.Entries.{find, put, find-put}
 use Rattle.std.proofs.lemmas.Bool.{cases_Bool, false≢true, false_from_ne_true, not-true, not_from_false, and_parts, and_from, or_cases, or_left, or_right, or_parts, eq-eqb, lt-ltb, leb-true, ltb-false, le-ltb}
@@ -27,7 +27,7 @@ use Rattle.cast_ready.specs.declared.offered.Offered.{Offered}
 use Rattle.cast_ready.specs.declared.turn.Turn.{Turn}
 use Rattle.cast_ready.specs.Ready.{is_member, open_gate}
 use Rattle.cast_ready.specs.Rows.{gate_in, standing_in, done_in, is_causally_ready_row, is_ready_row, awaits_row, delivered_row, told_row, new_row}
-use Rattle.cast_delay.specs.Queue.{Queue, next_key, may_deliver_in, row_of, but_row, change_row, first_for, has_candidate, is_awaited, offered_under, after_delivery, but_offered}
+use Rattle.cast_delay.specs.Queue.{Queue, next_key, candidate_for, candidate_in, row_of, but_row, change_row, first_for, is_awaited, offered_under, after_delivery, but_offered}
 use Rattle.cast_delay.specs.Offers.{none_of}
 use Rattle.cast_delay.specs.Settled.{is_settled, AreSettled, despite_fact, is_next_of, despite_delivery}
 use Rattle.cast_delay.proofs.ListLemmas.{list_any-append}
@@ -94,8 +94,8 @@ module _ (gates : List (GroupNo × Gate)) (rows : List Row) (p : Proc) (row : Ro
       false≢true (sym (not_ready o is) ∙ only_causally turns gates row o ready)))) (take n offered) settled.each
 
 -- what a process may deliver is what its row may take
-pub may_deliver_row : (q : Queue) (p : Proc) (row : Row) → row_of q.rows p ≡ Some row → has_candidate q.gates q.offered row ≡ may_deliver_in q p
-may_deliver_row q p row at = sym (ap (λ (o : Option Row). option_map_or (has_candidate q.gates q.offered) o false) at)
+pub candidate_row : (q : Queue) (p : Proc) (row : Row) → row_of q.rows p ≡ Some row → candidate_for q.gates q.offered row ≡ candidate_in q p
+candidate_row q p row at = sym (ap (λ (o : Option Row). option_and_then (candidate_for q.gates q.offered) o) at)
 
 pub next_row : (q : Queue) (p : Proc) (row : Row) → row_of q.rows p ≡ Some row → (turns : List (GroupNo × Turn)) → option_map (λ o. o.key) (first_for turns q.gates q.offered row) ≡ next_key turns q p
 next_row q p row at turns = ap (option_map (λ (o : Offered). o.key)) (sym (ap (λ (o : Option Row). option_and_then (first_for turns q.gates q.offered) o) at))

@@ -45,13 +45,13 @@ offered_under offered key = find (λ o. key_eq o.key key) offered
 abbrev pub next_key : List (GroupNo × Turn) → Queue → Proc → Option Key
 next_key turns q p = option_map (λ o. o.key) (option_and_then (first_for turns q.gates q.offered) (row_of q.rows p))
 
--- whether some message is ready for a row but for the turns of groups
-abbrev pub has_candidate : List (GroupNo × Gate) → List Offered → Row → Bool
-has_candidate gates offered row = list_any (λ o. is_causally_ready_row gates row o.id o.times) offered
+-- the first message offered that is ready for a row but for the turns of groups
+abbrev pub candidate_for : List (GroupNo × Gate) → List Offered → Row → Option Offered
+candidate_for gates offered row = find (λ o. is_causally_ready_row gates row o.id o.times) offered
 
--- and for a process, of which it is none where that was not admitted
-abbrev pub may_deliver_in : Queue → Proc → Bool
-may_deliver_in q p = option_map_or (has_candidate q.gates q.offered) (row_of q.rows p) false
+-- and for a process, of which there is none where that was not admitted
+abbrev pub candidate_in : Queue → Proc → Option Offered
+candidate_in q p = option_and_then (candidate_for q.gates q.offered) (row_of q.rows p)
 
 -- whether a process has delivered a message; one that was not admitted has delivered none
 abbrev pub delivered_in : Queue → Proc → Uid → Bool

@@ -1,5 +1,5 @@
 -- What the queue's answers say of groups, processes and messages, whichever it tells of.
-use Rattle.std.specs.Prelude.{◌≡◌, ◌<◌, ◌≤◌, ◌↔◌, ℕ, Bool, true, false, not, IsTrue, List, length, Contains, Option, None, MatchOption, unwrap_or}
+use Rattle.std.specs.Prelude.{◌≡◌, ◌<◌, ◌≤◌, ◌↔◌, ℕ, Bool, true, false, not, IsTrue, List, length, Contains, Option, None, Some, MatchOption, unwrap_or}
 use Rattle.std.specs.List.{position}
 use Rattle.std.specs.Option.{IsSome}
 use Rattle.cast_types.specs.declared.names.GroupNo.{GroupNo}
@@ -13,6 +13,7 @@ use Rattle.cast_types.specs.Stamps.{ClockList}
 use Rattle.cast_message.specs.declared.message.Received.{Received}
 use Rattle.cast_ready.specs.declared.turn.Turn.{Turn}
 use Rattle.cast_ready.specs.declared.gate.Gate.{Gate}
+use Rattle.cast_ready.specs.declared.offered.Offered.{Offered}
 use Rattle.cast_ready.specs.Ready.{Process, is_member, has_delivered, turn_in}
 use Rattle.cast_delay.specs.Queue.{Queue, row_of, next_key, HasOneRowEach}
 use Rattle.cast_delay.specs.Fits.{Fits, HasNotEnded, FirstReady, IsAwaited}
@@ -36,6 +37,13 @@ SaysFirstReady q p turns result =
 -- where it is said that no message may be ready for a process, none is, whatever the turns of groups
 abbrev pub SaysMayDeliver : Queue → Proc → Bool → Type 0
 SaysMayDeliver q p result = result ≡ false → (turns : List (GroupNo × Turn)) → next_key turns q p ≡ None
+
+-- where a process has no candidate, none is ready for it, and where it has one that is no ABCAST, that is the first, whatever
+-- the turns of groups
+abbrev pub SaysCandidate : Queue → Proc → Option Offered → Type 0
+SaysCandidate q p candidate =
+    (turns : List (GroupNo × Turn))
+    → MatchOption candidate (next_key turns q p ≡ None) (λ o. o.atomic ≡ false → next_key turns q p ≡ Some o.key)
 
 -- whether a process that has a row has delivered a message, whose view has not ended
 abbrev pub SaysDelivered : Queue → Proc → Uid → Bool → Type 0

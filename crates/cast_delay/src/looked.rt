@@ -1,5 +1,5 @@
 ghost use Rattle.std.specs.Prelude.{◌≡◌, ◌⊎◌, ◌<◌, ◌≤◌, true, false, take, length, Contains, OnOk};
-ghost use Rattle.std.specs.List.{list_any, find};
+ghost use Rattle.std.specs.List.{find};
 ghost use Rattle.std.specs.List.Sorted.{IsStrictlySortedBy};
 ghost use Rattle.std.specs.Option.{option_copied, option_map};
 ghost use Rattle.std.specs.Ordering.{nat_cmp};
@@ -63,18 +63,20 @@ impl Looked {
         }
     }
 
-    /// Whether some message is awake and ready for the row but for the turns of groups.
-    pub fn has_candidate(
+    /// The key of the first message that is awake and ready for the row but for the turns of groups.
+    pub fn first_candidate(
         &self,
         offered: &Offers,
         gates: &SortedMap<GroupNo, Gate>,
         row: &Row,
-    ) -> bool
-        ensures { result ≡ list_any (is_candidate_under gates.now row.now offered.now) self.now.awake.keys }
+    ) -> Option<Key>
+        ensures value { option_map (λ k. k.0) result ≡ find (is_candidate_under gates.now row.now offered.now) self.now.awake.keys }
+        ensures rising { IsStrictlySortedBy nat_cmp self.now.awake.keys }
     {
-        self.awake
-            .iter()
-            .any(|key| offered.is_candidate(Key(*key), gates, row))
+        match found_candidate(&self.awake, offered, gates, row) {
+            Some(key) => Some(Key(*key)),
+            None => None,
+        }
     }
 
     /// Looks at the messages from a place on. Their keys are below `above`, and those before them are known. After
@@ -194,4 +196,19 @@ fn found_ready<'a>(
     awake
         .iter()
         .find(|key| offered.is_ready(Key(**key), turns, gates, row))
+}
+
+// The first of these keys whose message is ready for the row but for the turns of groups.
+fn found_candidate<'a>(
+    awake: &'a BTreeSet<usize>,
+    offered: &Offers,
+    gates: &SortedMap<GroupNo, Gate>,
+    row: &Row,
+) -> Option<&'a usize>
+    ensures value { option_copied result ≡ find (is_candidate_under gates.now row.now offered.now) awake.now.keys }
+    ensures rising { IsStrictlySortedBy nat_cmp awake.now.keys }
+{
+    awake
+        .iter()
+        .find(|key| offered.is_candidate(Key(**key), gates, row))
 }

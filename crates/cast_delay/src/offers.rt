@@ -4,7 +4,7 @@ ghost use Rattle.std.specs.List.{position, remove};
 ghost use Rattle.std.specs.Option.{option_copied, option_map};
 ghost use Rattle.cast_message.specs.Receipts.{key_eq};
 ghost use Rattle.cast_index.specs.Rises.{rises, all_below};
-ghost use Rattle.cast_delay.specs.Queue.{first_for, has_candidate, offered_under, but_offered};
+ghost use Rattle.cast_delay.specs.Queue.{candidate_for, first_for, offered_under, but_offered};
 ghost use Rattle.cast_ready.specs.Rows.{is_causally_ready_row, is_ready_row};
 ghost use Rattle.cast_delay.specs.Offers.{key_of, none_of, is_ready_under, is_candidate_under, AreOrderly};
 
@@ -153,13 +153,18 @@ impl Offers {
         Some(offered.key)
     }
 
-    /// Whether some message is ready for a row but for the turns of groups, where none of the first ones is.
-    pub fn has_candidate(&self, first: usize, gates: &SortedMap<GroupNo, Gate>, row: &Row) -> bool
+    /// The first message that is ready for a row but for the turns of groups, where none of the first ones is.
+    pub fn first_candidate(
+        &self,
+        first: usize,
+        gates: &SortedMap<GroupNo, Gate>,
+        row: &Row,
+    ) -> Option<&Offered>
         requires within { first ≤ length self.now }
         requires none { none_of (λ o. is_causally_ready_row gates.now row.now o.id o.times) first self.now ≡ true }
-        ensures { result ≡ has_candidate gates.now self.now row.now }
+        ensures { option_copied result ≡ candidate_for gates.now self.now row.now }
     {
-        any_from(&self.messages, first, gates, row)
+        candidate_from(&self.messages, first, gates, row)
     }
 
     /// Keeps what is under other keys. The result says how many of those are among the first ones. Takes no memory.
@@ -202,17 +207,17 @@ fn first_from<'a>(
         .find(|offered| row.is_ready(turns, gates, offered))
 }
 
-// Whether some message from a place on is ready for a row but for the turns of groups.
-fn any_from(
-    messages: &VecDeque<Offered>,
+// The first message from a place on that is ready for a row but for the turns of groups.
+fn candidate_from<'a>(
+    messages: &'a VecDeque<Offered>,
     first: usize,
     gates: &SortedMap<GroupNo, Gate>,
     row: &Row,
-) -> bool
+) -> Option<&'a Offered>
     requires { first ≤ length messages.now.items }
-    ensures { result ≡ has_candidate gates.now (slice_range messages.now.items first (deque_len messages.now)) row.now }
+    ensures { option_copied result ≡ candidate_for gates.now (slice_range messages.now.items first (deque_len messages.now)) row.now }
 {
-    messages.range(first..).any(|offered| row.is_causally_ready(gates, offered.id, &offered.times))
+    messages.range(first..).find(|offered| row.is_causally_ready(gates, offered.id, &offered.times))
 }
 
 // The message at a place.

@@ -14,10 +14,10 @@ ghost use Rattle.cast_ready.specs.Rows.{ended_row, told_row, standing_in, is_rea
 ghost use Rattle.cast_delay.specs.Offers.{key_of, none_of};
 ghost use Rattle.cast_delay.specs.Waits.{next_under, looked_of, waits_despite, IsUnseen, IsUnseenBy, AreKnown, AreLookedAt, AreToWake};
 ghost use Rattle.cast_ready.specs.DeliveredCounts.{counts_in};
-ghost use Rattle.cast_delay.specs.Queue.{row_of, but_row, change_row, first_for, offered_under, next_key, has_candidate, may_deliver_in, delivered_in, passed_in, but_offered, is_awaited, least_in, after_delivery, reached_after, queue_viewing, queue_delivering, queue_gating};
+ghost use Rattle.cast_delay.specs.Queue.{row_of, but_row, change_row, first_for, offered_under, next_key, candidate_for, candidate_in, delivered_in, passed_in, but_offered, is_awaited, least_in, after_delivery, reached_after, queue_viewing, queue_delivering, queue_gating};
 ghost use Rattle.cast_delay.specs.Fits.{offer_of};
 ghost use Rattle.cast_delay.specs.Settled.{is_settled, AreSettled, despite_fact, is_next_of, despite_delivery};
-ghost use Rattle.cast_delay.specs.Says.{SaysAwaited, SaysFirstReady, SaysMayDeliver, SaysDelivered, SaysPassed, SaysReached, SaysTime, SaysStanding};
+ghost use Rattle.cast_delay.specs.Says.{SaysAwaited, SaysFirstReady, SaysMayDeliver, SaysCandidate, SaysDelivered, SaysPassed, SaysReached, SaysTime, SaysStanding};
 
 use crate::looked::Looked;
 use crate::offers::Offers;
@@ -258,18 +258,19 @@ impl Delay {
         }
     }
 
-    /// Whether some message is ready for the process but for the turns of groups: where none is, none is ready for it whatever
-    /// these are. Takes no memory.
-    pub fn may_deliver(&self, process: Proc) -> bool
-        ensures value { result ≡ may_deliver_in self.now process }
-        ensures meaning { SaysMayDeliver self.now process result }
+    /// The first message in order of receipt that is ready for the process but for the turns of groups. Where there is none, no
+    /// message is ready for it, and where it is no ABCAST, it is the first that is ready, whatever the turns are. Takes no
+    /// memory.
+    pub fn first_candidate(&self, process: Proc) -> Option<&Offered>
+        ensures value { option_copied result ≡ candidate_in self.now process }
+        ensures meaning { SaysCandidate self.now process (option_copied result) }
     {
-        let Some(row) = self.rows.find(process) else {
-            return false;
-        };
+        let row = self.rows.find(process)?;
         match self.waits.find(process) {
-            Some(looked) => may_take(looked, &self.offered, self.settled, &self.gates, row),
-            None => self.offered.has_candidate(self.settled, &self.gates, row),
+            Some(looked) => {
+                candidate_looked(looked, &self.offered, self.settled, &self.gates, row)
+            }
+            None => self.offered.first_candidate(self.settled, &self.gates, row),
         }
     }
 
@@ -453,25 +454,28 @@ fn next_looked(
     }
 }
 
-// Whether some message is ready for it but for the turns of groups.
-fn may_take(
+// The first message that is ready for a row but for the turns of groups, of which this is kept, where so many messages are
+// settled.
+fn candidate_looked<'a>(
     looked: &Looked,
-    offered: &Offers,
+    offered: &'a Offers,
     settled: usize,
     gates: &SortedMap<GroupNo, Gate>,
     row: &Row,
-) -> bool
+) -> Option<&'a Offered>
     requires rising { rises key_of offered.now ≡ true }
     requires settled { settled ≤ length offered.now }
     requires none { none_of (λ o. is_causally_ready_row gates.now row.now o.id o.times) settled offered.now ≡ true }
     requires known { AreKnown gates.now row.now offered.now looked.now }
-    ensures { result ≡ has_candidate gates.now offered.now row.now }
+    ensures { option_copied result ≡ candidate_for gates.now offered.now row.now }
 {
-    if looked.has_candidate(offered, gates, row) {
-        return true;
+    match looked.first_candidate(offered, gates, row) {
+        Some(key) => offered.under(key),
+        None => {
+            let first = first_unseen(offered, settled, looked);
+            offered.first_candidate(first, gates, row)
+        }
     }
-    let first = first_unseen(offered, settled, looked);
-    offered.has_candidate(first, gates, row)
 }
 
 // The id of the message under a key, where it is the next one of its source for a process.

@@ -120,6 +120,20 @@ if_greatest entries s upto (Some e) member greatest =
           not_less (entry_cmp x e.now) (sym (ap is_lt (entry_total.antisymm e.now x)) ∙ greatest x (contained entries u k ∙ is));
     }
 
+-- where the last of all stands not behind a source, none does
+pub none_behind : (entries : List Entry) (s : Source) (e : Entry) → is_behind (Some s) e.id ≡ false → ((q : Entry) → IsTrue (list_any (is_at (entry_cmp q)) entries) → is_lt (entry_cmp e q) ≡ false) → (u : Uid) (k : Key) → has entries u k ≡ true → is_behind (Some s) u ≡ false
+none_behind entries s e upto greatest u k there = false_from_ne_true (is_behind (Some s) u) (λ behind. false≢true (sym upto ∙ too behind (ordered x e.id (record { 0 = e.number }) below)))
+  where
+    x : Entry
+    x = record { id = u; number = k.0 }
+
+    below : is_le (entry_cmp x e) ≡ true
+    below = not_less (entry_cmp x e) (sym (ap is_lt (entry_total.antisymm e x)) ∙ greatest x (contained entries u k ∙ there))
+
+    too : is_behind (Some s) u ≡ true → (source_of e.id ≡ source_of u) × (u.count ≤ e.id.count) ⊎ (is_behind (Some (source_of u)) e.id ≡ true) → is_behind (Some s) e.id ≡ true
+    too behind (inl same) = ap (λ t. is_lt (source_cmp s t)) same.0 ∙ behind
+    too behind (inr later) = further (Some s) u e.id behind later
+
 -- The counts of a source
 
 -- whether two sources are equal

@@ -114,8 +114,19 @@ fn entry_behind(entries: &BTreeSet<Entry>, after: Option<Source>) -> Option<&Ent
     ensures none { IfNone result ((u : Uid) (k : Key) → has entries.now.keys u k ≡ true → is_behind after u ≡ false) }
 {
     match after {
+        Some(source) if !are_more_behind(entries, source) => None,
         Some(source) => first_past(entries, source),
         None => entries.first(),
+    }
+}
+
+// Whether some entry is of a source that stands behind another one. It looks at the last entry alone.
+fn are_more_behind(entries: &BTreeSet<Entry>, source: Source) -> bool
+    ensures { result ≡ false → (u : Uid) (k : Key) → has entries.now.keys u k ≡ true → is_behind (Some source) u ≡ false }
+{
+    match entries.last() {
+        Some(last) => source < source_of(last.id),
+        None => false,
     }
 }
 

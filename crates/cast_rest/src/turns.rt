@@ -12,7 +12,7 @@ use cast_ready::Turn;
 use cast_types::limits::{MAX_POSITION, MAX_UNSETTLED};
 use cast_types::{GroupNo, Key, NoMemory, Proc};
 
-// The key of the first message that is ready for a process. Its turns are asked for only where some message may be.
+// The key of the first message that is ready for a process. Its turns are asked for only where an ABCAST may be.
 pub(crate) fn next_ready(
     domain: &Domain,
     process: Proc,
@@ -20,8 +20,11 @@ pub(crate) fn next_ready(
 ) -> Result<Option<Key>, NoMemory>
     ensures { IfOk result (λ key. key ≡ ready_key_in (records_in domain.now lent.now) process) }
 {
-    if !domain.delay.may_deliver(process) {
+    let Some(candidate) = domain.delay.first_candidate(process) else {
         return Ok(None);
+    };
+    if !candidate.atomic {
+        return Ok(Some(candidate.key));
     }
     let turns = turns(domain, process, lent)?;
     Ok(domain.delay.next_ready(process, &turns))

@@ -1,12 +1,12 @@
 use Rattle.std.proofs.Common.{length, arith, rules}
 use Rattle.std.proofs.lemmas.Slice.{between_to_end}
 use Rattle.cast_ready.specs.Rows.{is_causally_ready_row}
-use Rattle.cast_delay.proofs.Behind.{any_behind}
-use Rattle.cast_delay.proofs.offers.Offers.has_candidate.Goals as goal
+use Rattle.cast_delay.proofs.Behind.{first_behind}
+use Rattle.cast_delay.proofs.offers.Offers.first_candidate.Goals as goal
 
 -- those behind the first ones tell as much as all
 pub returns : goal.returns
 returns c =
     let rest = between_to_end c.self.inside.messages.items c.args.first (length c.self.inside.messages.items) (omega arith) in
-    let behind = any_behind (λ o. is_causally_ready_row c.args.gates.now c.args.row.now o.id o.times) c.self.inside.messages.items c.args.first (search rules) in
+    let behind = first_behind (λ o. is_causally_ready_row c.args.gates.now c.args.row.now o.id o.times) c.self.inside.messages.items c.args.first (search rules) in
     search (rules, rest, behind)
