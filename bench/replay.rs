@@ -16,11 +16,14 @@
 //! - `members-N`: a view of N members, of which all but 1.1 are at sites 2 and 3; in each round each of these casts, after all that was
 //!   cast, and its message is said to be stable;
 //! - `groups-N`: so in N groups of four members, with stamps that name all groups;
+//! - `crowds-N`: so in N groups of 64 members;
 //! - `opened-N`: N programs connected and are gone again; in each round 1.1 and 2.1 cast, and both messages become stable;
 //! - `tokens`: 1.1 casts an ABCAST, gives it its place, hands the token over to 2.1 and gets it back, and all four messages become
 //!   stable, all in one view;
 //! - `tenants-N-P`: N domains, each with P programs; in each round the last program of each domain casts and a message of 2.1 comes,
 //!   and both become stable;
+//! - `sender-N`: three sites with a member each; in each round 1.1 casts N times, and each of the other sites acknowledges each cast;
+//! - `receiver-N`: so N messages of 2.1 come in each round, of which all but the last N are said to be stable;
 //! - `partition-N`: 1.1 casts N times in a view with a member at each of 14 other sites, none of which answers; in each round all that
 //!   is owed falls due.
 
@@ -391,6 +394,24 @@ fn with_takes(events: Vec<String>, domains: usize, programs: usize) -> Vec<Strin
     events.chunks(EVENTS_A_TAKE * domains).flat_map(|chunk| chunk.iter().chain(&takes).cloned()).collect()
 }
 
+/// Casts of 1.1, so many in a round, which each of two other sites acknowledges.
+fn sent(number: usize, many: usize) -> Vec<String> {
+    let counts = (number - 1) * many + 1..=number * many;
+    let casts = counts.clone().map(|count| format!("cast 1 1 {count} 1 {PAYLOAD}"));
+    let acks = [2, 3].into_iter().flat_map(|site| counts.clone().map(move |count| header(2, site, 1, 2) + &name(1, count)));
+    casts.chain(acks).collect()
+}
+
+/// Messages of 2.1, so many in a round, of which all but the last ones are said to be stable.
+fn received(number: usize, many: usize) -> Vec<String> {
+    let counts = (number - 1) * many + 1..=number * many;
+    let mut events: Vec<String> = counts.map(|count| message(1, 2, count, 0, CAUSAL, &payload())).collect();
+    if number > 1 {
+        events.push(stable(2, (number - 1) * many));
+    }
+    events
+}
+
 /// Casts that no site answers, and the moments at which they fall due.
 fn partition(casts: usize, rounds: usize) -> Vec<String> {
     let mut events = vec![
@@ -434,8 +455,16 @@ fn events(case: &str, rounds: usize) -> Option<Vec<String>> {
         Some(("lost", many)) => Some(lost(many.parse().ok()?, rounds)),
         Some(("members", many)) => Some(spread(1, &members(many.parse::<usize>().ok()? - 1, 2), rounds)),
         Some(("groups", many)) => Some(spread(many.parse().ok()?, &members(3, 1), rounds)),
+        Some(("crowds", many)) => Some(spread(many.parse().ok()?, &members(63, 2), rounds)),
         Some(("opened", many)) => Some(opened(many.parse().ok()?, rounds)),
         Some(("passes", groups)) => Some(passes(groups.parse().ok()?, rounds)),
+        Some((kind @ ("sender" | "receiver"), many)) => {
+            let many = many.parse().ok()?;
+            let round = if kind == "sender" { sent } else { received };
+            let mut events = joined_to(1, &[(1, 1), (2, 1), (3, 1)]);
+            events.extend((1..=rounds).flat_map(|number| round(number, many)));
+            Some(events)
+        }
         Some(("partition", casts)) => Some(partition(casts.parse().ok()?, rounds)),
         Some(("tenants", _)) => {
             let (domains, programs) = tenants_of(case)?;
@@ -453,13 +482,13 @@ fn tenants_of(case: &str) -> Option<(usize, usize)> {
 
 fn script(case: &str, rounds: usize) -> Option<String> {
     let (domains, programs) = tenants_of(case).unwrap_or((1, 1));
-    let has_groups = ["passes", "groups", "lost"].iter().any(|it| case.starts_with(it));
+    let has_groups = ["passes", "groups", "crowds", "lost"].iter().any(|it| case.starts_with(it));
     let last = if has_groups { PASSING } else { 1 };
     let groups: Vec<String> = (1..=last).map(|group| group.to_string()).collect();
     let sites: Vec<String> = (1..=PARTED).map(|site| site.to_string()).collect();
     let sites = match case.split_once('-') {
         Some(("partition", _)) => sites.join(","),
-        Some(("members", _)) => "1,2,3,9".to_string(),
+        Some(("members" | "crowds" | "sender" | "receiver", _)) => "1,2,3,9".to_string(),
         _ => "1,2,9".to_string(),
     };
     let mut text = "site 1\n".to_string();
