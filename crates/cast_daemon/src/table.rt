@@ -252,6 +252,24 @@ impl<L: Ledger + Send + Sync, C: Clock + Sync> SharedTable for LockedTable<'_, L
         (came_of(self.alloc, done), due)
     }
 
+    fn serve_both<R: Wait>(
+        &self,
+        rt: &R,
+        share: &mut CountShare<L>,
+        job: Job,
+        then: Job,
+        paces: &[Pace],
+    ) -> (Came, Came, usize) {
+        let (first, second, due) = {
+            let _lane = self.lanes.enter(rt, domain_of(&job));
+            let mut kept = self.lock(rt);
+            let first = complete(rt, &self.trimmer, &mut kept, share, job);
+            let (second, due) = serve_and_look(rt, &self.trimmer, &mut kept, share, then, paces);
+            (first, second, due)
+        };
+        (came_of(self.alloc, first), came_of(self.alloc, second), due)
+    }
+
     fn cast<R: Wait>(
         &self,
         rt: &R,

@@ -64,6 +64,17 @@ pub trait SharedTable {
         paces: &[Pace],
     ) -> (Came, usize);
 
+    /// Does a job, and then another one of the same domain, without letting go of the table between them. Answers what came of each, and
+    /// what `serve` answers of the paces.
+    fn serve_both<R: Wait>(
+        &self,
+        rt: &R,
+        share: &mut Self::Share,
+        job: Self::Job,
+        then: Self::Job,
+        paces: &[Pace],
+    ) -> (Came, Came, usize);
+
     /// Does the job of a cast, unless its program has to wait: then the job comes back, with the turn to wait for. A cast of which it is
     /// not said what it asks for does not wait.
     fn cast<R: Wait>(

@@ -94,6 +94,16 @@ impl<'a, T: SharedTable> Reader<'a, T> {
         }
     }
 
+    // Whether a cast of so many bytes, if it is one, is served alone: in a domain without other sites, if it most likely comes alone. Takes
+    // the pen of the program then. What the cast pushes to it is taken at once, so that the thread waits for the table once.
+    fn is_alone<R: Wait>(&self, rt: &R, len: Option<usize>) -> bool {
+        self.pace.is_none()
+            && len.is_some()
+            && self.count == 1
+            && self.last_count <= 1
+            && self.client.claim(rt)
+    }
+
     // Serves a command. False if the stream is of no more use.
     fn serve<R: Wait + Clock>(&mut self, rt: &R, command: Command) -> bool {
         let len = match &command {
@@ -111,8 +121,17 @@ impl<'a, T: SharedTable> Reader<'a, T> {
             serial,
             command,
         };
-        let (answer, outs) = self.serve_event(rt, event, len);
+        let is_alone = self.is_alone(rt, len);
+        let (answer, outs) = if is_alone {
+            self.server.serve_and_write(rt, self.client, event)
+        } else {
+            self.serve_event(rt, event, len)
+        };
         self.note(rt, &outs);
+        if is_alone {
+            self.is_pushed = false;
+            self.untaken = 0;
+        }
         self.unsent = Some(outs);
         if let Ok(Taken::Refused(Refusal::Halted)) | Err(_) = answer {
             self.client.close(rt);

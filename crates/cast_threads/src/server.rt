@@ -38,6 +38,15 @@ pub struct Server<'a, T: SharedTable> {
     gathered: Outs,
 }
 
+// A Take of the outbox of a session.
+fn take_of(session: Session) -> Event {
+    Event::Take {
+        domain: session.domain,
+        serial: session.serial,
+        most: BATCH,
+    }
+}
+
 /// The session that an entry was pushed to.
 pub fn session_of(push: &(DomainNo, u32, Push)) -> Session {
     Session {
@@ -63,11 +72,16 @@ impl<'a, T: SharedTable> Server<'a, T> {
         let shared = self.shared;
         shared.turnstile.pass(rt);
         let (came, due) = shared.table.serve(rt, &mut self.share, job, shared.paces);
-        if let Some(pace) = shared.paces.get(due) {
+        self.wake_due(rt, due);
+        came
+    }
+
+    // After a job: lets the readers go on that wait for this pace, if there is one.
+    fn wake_due<R: Wait>(&self, rt: &R, due: usize) {
+        if let Some(pace) = self.shared.paces.get(due) {
             pace.wake(rt);
         }
-        shared.tape.let_go(rt);
-        came
+        self.shared.tape.let_go(rt);
     }
 
     /// Does the job of a cast at a pace. If it has to wait, the job comes back, with the turn to wait for.
@@ -307,15 +321,15 @@ impl<'a, T: SharedTable> Server<'a, T> {
         }
     }
 
-    // Takes the outbox of a session once, and writes what it had. `None` if the pen is gone, else whether there may be more.
-    fn take<R: Wait>(&mut self, rt: &R, client: &Client, may_wait: bool) -> Option<bool> {
-        let Session { domain, serial } = client.session;
-        let event = Event::Take {
-            domain,
-            serial,
-            most: BATCH,
-        };
-        let (answer, mut outs) = self.serve(rt, event);
+    // Writes what a Take of the outbox of a session had. `None` if the pen is gone, else whether there may be more.
+    fn write_taken<R: Wait>(
+        &mut self,
+        rt: &R,
+        client: &Client,
+        came: Came,
+        may_wait: bool,
+    ) -> Option<bool> {
+        let (answer, mut outs) = came;
         self.send(rt, &mut outs);
         match answer {
             Ok(Taken::Entries(entries)) => self.put_entries(rt, client, entries, may_wait),
@@ -359,13 +373,16 @@ impl<'a, T: SharedTable> Server<'a, T> {
     /// With the pen of a program, takes its outbox until that is empty, and writes what it had. If that would wait, or goes on for
     /// long, the pen is passed to the program's writer, unless this is the writer.
     pub fn write<R: Wait>(&mut self, rt: &R, client: &Client, is_writer: bool) {
+        let came = self.serve(rt, take_of(client.session));
+        self.write_from(rt, client, came, is_writer);
+    }
+
+    // So if this came of the first Take.
+    fn write_from<R: Wait>(&mut self, rt: &R, client: &Client, came: Came, is_writer: bool) {
+        let mut came = came;
         let mut rounds: u32 = 0;
         for _ in rt.forever() {
-            if rounds >= ROUNDS && !is_writer {
-                client.pass(rt, WriterTask::Take);
-                break;
-            }
-            match self.take(rt, client, is_writer) {
+            match self.write_taken(rt, client, came, is_writer) {
                 None => break,
                 Some(true) => {}
                 Some(false) => {
@@ -375,6 +392,36 @@ impl<'a, T: SharedTable> Server<'a, T> {
                 }
             }
             rounds = rounds.saturating_add(1);
+            if rounds >= ROUNDS && !is_writer {
+                client.pass(rt, WriterTask::Take);
+                break;
+            }
+            came = self.serve(rt, take_of(client.session));
         }
+    }
+
+    // There is no memory for a job. The pen of a program is given back.
+    fn give_up<R: Wait>(&self, rt: &R, client: &Client) -> Came {
+        client.gives_up(rt);
+        (Err(Fault::NoMemory), Outs::new(self.shared.alloc))
+    }
+
+    /// With the pen of a program, serves an event of its session, takes the outbox at once, and then writes as `write` does: the
+    /// thread waits for the table once for both.
+    pub fn serve_and_write<R: Wait>(&mut self, rt: &R, client: &Client, event: Event) -> Came {
+        let shared = self.shared;
+        let Some(job) = shared.job(rt, Asked::Event(event)) else {
+            return self.give_up(rt, client);
+        };
+        let Some(take) = shared.job(rt, Asked::Event(take_of(client.session))) else {
+            return self.give_up(rt, client);
+        };
+        shared.turnstile.pass(rt);
+        let (came, taken, due) = shared
+            .table
+            .serve_both(rt, &mut self.share, job, take, shared.paces);
+        self.wake_due(rt, due);
+        self.write_from(rt, client, taken, false);
+        came
     }
 }
