@@ -427,6 +427,8 @@ class Datagrams(DaemonCase):
         # Its home is asked.
         second.join(1)
         wait_until(lambda: self.counts(daemon)["lost"] > before["lost"], "one is lost")
+        # The reporter says so in its own time.
+        wait_until(lambda: daemon.complained() != "", "it is reported")
         self.assertEqual(daemon.complained().partition("\n")[0], "castd: site 2: datagrams that could not be sent: 1")
         self.assert_is_served(self.member())
         self.assertGreater(self.counts(daemon)["sent"], before["sent"])
