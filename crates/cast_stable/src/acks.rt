@@ -13,6 +13,7 @@ use crate::counted::Counted;
 use crate::witness::Witness;
 use cast_types::{GroupNo, List, NoMemory, Proc, SiteNo, SortedMap, Source, Uid, source_of};
 use std::alloc::Global;
+use std::collections::BTreeMap;
 use std::marker::Model;
 
 /// What a site keeps of who received which message: what it received itself, what other sites acknowledged, and what
@@ -23,9 +24,9 @@ pub struct Acks {
     alloc: Global,
     here: SiteNo,
     others: SortedMap<GroupNo, List<SiteNo>>,
-    received: SortedMap<Source, Counted>,
-    acked: SortedMap<Witness, Counted>,
-    told: SortedMap<Source, u32>,
+    received: BTreeMap<Source, Counted>,
+    acked: BTreeMap<Witness, Counted>,
+    told: BTreeMap<Source, u32>,
 }
 
 impl Model for Acks {
@@ -33,7 +34,7 @@ impl Model for Acks {
 
     ghost Value = { Acks };
 
-    ghost view = { λ a. record { here = a.here; others = a.others; received = a.received; acked = a.acked; told = a.told } };
+    ghost view = { λ a. record { here = a.here; others = a.others; received = a.received.entries; acked = a.acked.entries; told = a.told.entries } };
 }
 
 impl Acks {
@@ -45,9 +46,9 @@ impl Acks {
             alloc,
             here,
             others: SortedMap::new(alloc),
-            received: SortedMap::new(alloc),
-            acked: SortedMap::new(alloc),
-            told: SortedMap::new(alloc),
+            received: BTreeMap::new(alloc),
+            acked: BTreeMap::new(alloc),
+            told: BTreeMap::new(alloc),
         }
     }
 
@@ -59,9 +60,9 @@ impl Acks {
             alloc: self.alloc,
             here: self.here,
             others: copy_sites(&self.others)?,
-            received: copy_counts(&self.received)?,
-            acked: copy_counts(&self.acked)?,
-            told: self.told.copy()?,
+            received: self.received.clone()?,
+            acked: self.acked.clone()?,
+            told: self.told.clone()?,
         })
     }
 
@@ -90,7 +91,7 @@ impl Acks {
     {
         let source = source_of(id);
         let run = with_count(self.alloc, self.received.get(&source), id.count)?;
-        self.received.put(source, run)?;
+        self.received.insert(source, run)?;
         Ok(())
     }
 
@@ -128,7 +129,7 @@ impl Acks {
             site: from,
         };
         let run = with_count(self.alloc, self.acked.get(&witness), id.count)?;
-        self.acked.put(witness, run)?;
+        self.acked.insert(witness, run)?;
         Ok(())
     }
 
@@ -162,7 +163,7 @@ impl Acks {
     {
         let source = source_of(id);
         let told = self.told_count(source).max(id.count);
-        self.told.put(source, told)?;
+        self.told.insert(source, told)?;
         Ok(())
     }
 
@@ -232,17 +233,17 @@ impl Acks {
 }
 
 // Keeps what is of other groups, or of views from this number on.
-fn end_in<V: Drop>(entries: &mut SortedMap<Source, V>, group: GroupNo, number: u32)
-    ensures { entries.new ≡ but_ended group number entries.old }
+fn end_in<V: Drop>(entries: &mut BTreeMap<Source, V>, group: GroupNo, number: u32)
+    ensures { entries.new.entries ≡ but_ended group number entries.old.entries }
 {
-    entries.retain(|entry| !entry.0.is_ended(group, number));
+    entries.retain(|source, _| !source.is_ended(group, number));
 }
 
 // Keeps what sites acknowledged of other groups, or of views from this number on.
-fn end_acked_in(entries: &mut SortedMap<Witness, Counted>, group: GroupNo, number: u32)
-    ensures { entries.new ≡ acked_but_ended group number entries.old }
+fn end_acked_in(entries: &mut BTreeMap<Witness, Counted>, group: GroupNo, number: u32)
+    ensures { entries.new.entries ≡ acked_but_ended group number entries.old.entries }
 {
-    entries.retain(|entry| !entry.0.source.is_ended(group, number));
+    entries.retain(|witness, _| !witness.source.is_ended(group, number));
 }
 
 // Whether a count is in a set, an absent one being empty.
@@ -286,29 +287,6 @@ fn copy_site_entries(
     let mut copied = Vec::with_capacity(alloc, entries.len())?;
     for (group, sites) in entries {
         copied.push((*group, sites.copy()?))?;
-    }
-    Ok(copied)
-}
-
-// The sets of counts, copied.
-fn copy_counts<K: Copy + Drop>(
-    sets: &SortedMap<K, Counted>,
-) -> Result<SortedMap<K, Counted>, NoMemory>
-    ensures { IfOk result (λ copy. copy ≡ sets.now) }
-{
-    let copied = copy_count_entries(sets.alloc(), sets.entries())?;
-    Ok(SortedMap::from_entries(copied))
-}
-
-fn copy_count_entries<K: Copy + Drop>(
-    alloc: Global,
-    entries: &[(K, Counted)],
-) -> Result<Vec<(K, Counted)>, NoMemory>
-    ensures { IfOk result (λ copy. copy.items ≡ entries.now) }
-{
-    let mut copied = Vec::with_capacity(alloc, entries.len())?;
-    for (key, counts) in entries {
-        copied.push((*key, counts.copy()?))?;
     }
     Ok(copied)
 }

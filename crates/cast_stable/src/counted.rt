@@ -25,6 +25,16 @@ impl Model for Counted {
     ghost invariant = { λ c. IsTrue (is_run (record { upto = c.upto; above = c.above.items })) };
 }
 
+impl Clone for Counted {
+    ghost use Rattle.std.specs.Prelude.{◌≡◌};
+
+    ghost is_clone = { λ x y. y ≡ x };
+
+    fn clone(&self) -> Result<Self, NoMemory> {
+        self.copy()
+    }
+}
+
 impl Counted {
     /// No counts.
     pub fn new(alloc: Global) -> Self

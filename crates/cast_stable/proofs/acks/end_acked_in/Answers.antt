@@ -1,6 +1,6 @@
 use Rattle.std.proofs.Common.{rules}
-use Rattle.std.proofs.lemmas.Fn.{filter_same}
+use Rattle.std.proofs.lemmas.Map.Made.{filter_same_pairs}
 use Rattle.cast_stable.proofs.acks.end_acked_in.Goals as goal
 
 pub returns : goal.returns
-returns c = filter_same _ _ _ (λ x b f' k. search rules) _ _ c.retain.ensures
+returns c = filter_same_pairs _ _ _ (λ x v b w f' k. (search rules, search rules, search rules)) _ _ c.retain.ensures.filtered
