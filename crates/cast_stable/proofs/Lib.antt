@@ -1,5 +1,4 @@
 pub mod Runs
-pub mod Ledgers
 pub mod Witnesses
 pub mod Lists
 pub mod Greatest

@@ -1,5 +1,6 @@
 ghost use Rattle.std.specs.Prelude.{◌≡◌, ◌≢◌, ◌<◌, true, [], OnOk, OnErr, IfOk, not, ◌&&◌, unwrap_or, map, min};
 ghost use Rattle.std.specs.List.{reduce};
+ghost use Rattle.std.specs.FinMap.Entries.{find, put};
 ghost use Rattle.std.specs.Option.{option_copied};
 ghost use Rattle.cast_types.specs.Names.{uid_eq};
 ghost use Rattle.cast_types.specs.Sets.{is_among};
@@ -89,10 +90,7 @@ impl Acks {
         ensures ok { OnOk result (self.new ≡ received_ledger self.old id) }
         ensures err { OnErr result (self.new ≡ self.old) }
     {
-        let source = source_of(id);
-        let run = with_count(self.alloc, self.received.get(&source), id.count)?;
-        self.received.insert(source, run)?;
-        Ok(())
+        insert_count(&mut self.received, self.alloc, source_of(id), id.count)
     }
 
     /// Whether this site received a message. Takes no memory.
@@ -128,9 +126,7 @@ impl Acks {
             source: source_of(id),
             site: from,
         };
-        let run = with_count(self.alloc, self.acked.get(&witness), id.count)?;
-        self.acked.insert(witness, run)?;
-        Ok(())
+        insert_count(&mut self.acked, self.alloc, witness, id.count)
     }
 
     /// Whether a site acknowledged a message. Takes no memory.
@@ -256,16 +252,25 @@ fn contains(run: Option<&Counted>, count: u32) -> bool
     }
 }
 
-// The set with a count in it, an absent one being empty.
-fn with_count(alloc: Global, run: Option<&Counted>, count: u32) -> Result<Counted, NoMemory>
-    ensures { IfOk result (λ r. r ≡ inserted (unwrap_or (option_copied run.entry) no_counts) count) }
+// Puts a count into the set at a key, an absent one being empty. `NoMemory` changes nothing.
+fn insert_count<K: Ord + Drop>(
+    runs: &mut BTreeMap<K, Counted>,
+    alloc: Global,
+    key: K,
+    count: u32,
+) -> Result<(), NoMemory>
+    ensures ok { OnOk result (runs.new.entries ≡ put K.cmp key (inserted (unwrap_or (find K.cmp key runs.old.entries) no_counts) count) runs.old.entries) }
+    ensures err { OnErr result (runs.new.entries ≡ runs.old.entries) }
 {
-    let mut with = match run {
-        Some(run) => run.copy()?,
-        None => Counted::new(alloc),
-    };
-    with.insert(count)?;
-    Ok(with)
+    match runs.get_mut(&key) {
+        Some(run) => run.insert(count),
+        None => {
+            let mut run = Counted::new(alloc);
+            run.insert(count)?;
+            runs.insert(key, run)?;
+            Ok(())
+        }
+    }
 }
 
 // The sites of each group, copied.
