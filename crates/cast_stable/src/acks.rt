@@ -158,8 +158,12 @@ impl Acks {
         ensures err { OnErr result (self.new ≡ self.old) }
     {
         let source = source_of(id);
-        let told = self.told_count(source).max(id.count);
-        self.told.insert(source, told)?;
+        match self.told.get_mut(&source) {
+            Some(told) => *told = (*told).max(id.count),
+            None => {
+                self.told.insert(source, id.count)?;
+            }
+        }
         Ok(())
     }
 
