@@ -3,3 +3,5 @@ pub mod Gathered
 pub mod Cuts
 pub mod Lacking
 pub mod Ends
+pub mod Kept
+pub mod Added

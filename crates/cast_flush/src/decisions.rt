@@ -8,7 +8,7 @@ ghost use Rattle.cast_flush.specs.Decisions.{end_of, no_stretch, longest, unplac
 
 use crate::report::Report;
 use crate::reports::is_within;
-use crate::sets::insert_id;
+use crate::sets::{Ids, insert_id, list_of};
 use cast_message::Tail;
 use cast_types::limits::{MAX_ORDER, MAX_PLACED};
 use cast_types::{Counts, NoMemory, Proc, SiteNo};
@@ -38,8 +38,8 @@ fn longest_tail(reports: &[(SiteNo, Report)]) -> Option<&Tail>
 }
 
 // Adds the marked ones of what a site keeps to a set.
-fn add_unplaced(ids: &mut Vec<(Proc, u32)>, report: &Report) -> Result<(), NoMemory>
-    ensures { OnOk result (ids.new.items ≡ with_items entry_cmp ids.old.items (map (λ k. k.0) (filter (λ k. k.1) report.now.kept))) }
+fn add_unplaced(ids: &mut Ids, report: &Report) -> Result<(), NoMemory>
+    ensures { OnOk result (ids.new.keys ≡ with_items entry_cmp ids.old.keys (map (λ k. k.0) (filter (λ k. k.1) report.now.kept))) }
 {
     for (id, is_unplaced) in report.kept.entries() {
         if *is_unplaced {
@@ -53,11 +53,11 @@ fn add_unplaced(ids: &mut Vec<(Proc, u32)>, report: &Report) -> Result<(), NoMem
 fn unplaced_ids(alloc: Global, reports: &[(SiteNo, Report)]) -> Result<Vec<(Proc, u32)>, NoMemory>
     ensures { IfOk result (λ l. l.items ≡ unplaced reports.now) }
 {
-    let mut ids = Vec::new(alloc);
+    let mut ids = Ids::new(alloc);
     for (_, report) in reports {
         add_unplaced(&mut ids, report)?;
     }
-    Ok(ids)
+    list_of(alloc, &ids)
 }
 
 // Those of them within the cut that an order lacks, at most 64.

@@ -8,7 +8,7 @@ ghost use Rattle.cast_types.specs.Rising.{is_rising};
 ghost use Rattle.cast_flush.specs.Reports.{has_report, is_complete, greatest_count, cut_from, keeps, all_kept, is_needed, keeper_of, has_body, wanting, want_of};
 
 use crate::report::Report;
-use crate::sets::insert_id;
+use crate::sets::{Ids, insert_id, list_of};
 use cast_message::Message;
 use cast_types::limits::MAX_PLACED;
 use cast_types::{Counts, GroupNo, List, NoMemory, Proc, SiteNo, Uid};
@@ -60,11 +60,18 @@ pub fn cut_from(
     Ok(Counts::from_entries(entries))
 }
 
-// Whether a site keeps a message.
+// Whether a site keeps a message, found by halving.
 fn keeps(report: &Report, id: (Proc, u32)) -> bool
     ensures { result ≡ keeps report.now id }
 {
-    report.kept.entries().iter().any(|kept| kept.0 == id)
+    match report
+        .kept
+        .entries()
+        .binary_search_by_key(&id, |kept| kept.0)
+    {
+        Ok(_) => true,
+        Err(_) => false,
+    }
 }
 
 /// Whether a message is within a cut.
@@ -78,11 +85,11 @@ pub(crate) fn is_within(cut: &Counts, id: (Proc, u32)) -> bool
 fn all_kept(alloc: Global, reports: &[(SiteNo, Report)]) -> Result<Vec<(Proc, u32)>, NoMemory>
     ensures { IfOk result (λ l. l.items ≡ all_kept reports.now) }
 {
-    let mut ids = Vec::new(alloc);
+    let mut ids = Ids::new(alloc);
     for (_, report) in reports {
         add_kept(&mut ids, report)?;
     }
-    Ok(ids)
+    list_of(alloc, &ids)
 }
 
 // The first site that keeps a message.
@@ -94,8 +101,8 @@ fn keeper_of(reports: &[(SiteNo, Report)], id: (Proc, u32)) -> Option<SiteNo>
 }
 
 // Adds what a site keeps to a set.
-fn add_kept(ids: &mut Vec<(Proc, u32)>, report: &Report) -> Result<(), NoMemory>
-    ensures { OnOk result (ids.new.items ≡ with_items entry_cmp ids.old.items (map (λ k. k.0) report.now.kept)) }
+fn add_kept(ids: &mut Ids, report: &Report) -> Result<(), NoMemory>
+    ensures { OnOk result (ids.new.keys ≡ with_items entry_cmp ids.old.keys (map (λ k. k.0) report.now.kept)) }
 {
     for (id, _) in report.kept.entries() {
         insert_id(ids, *id)?;

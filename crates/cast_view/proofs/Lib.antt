@@ -6,3 +6,4 @@ pub mod Sides
 pub mod Again
 pub mod Counting
 pub mod Installing
+pub mod Reckoned

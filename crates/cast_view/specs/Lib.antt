@@ -1,4 +1,5 @@
 pub mod Sites
 pub mod Home
+pub mod Flush
 pub mod MemberSide
 pub mod Laws

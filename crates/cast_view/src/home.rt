@@ -1,4 +1,4 @@
-ghost use Rattle.std.specs.Prelude.{◌≡◌, ◌+◌, ◌<◌, ◌≤◌, false, IfOk, OnOk, IsTrue, length};
+ghost use Rattle.std.specs.Prelude.{◌≡◌, ◌+◌, ◌<◌, ◌≤◌, false, IfOk, IfSome, OnOk, IsTrue, length};
 ghost use Rattle.cast_types.specs.declared.limits.TheConstants.{MAX_NUMBER};
 ghost use Rattle.cast_types.specs.Names.{proc_cmp, proc_eq};
 ghost use Rattle.cast_types.specs.Sets.{with_item, without};
@@ -6,7 +6,10 @@ ghost use Rattle.cast_message.specs.Membership.{is_held};
 ghost use Rattle.cast_flush.specs.Reports.{cut_from, wanting};
 ghost use Rattle.cast_flush.specs.Decisions.{order_from};
 ghost use Rattle.cast_view.specs.Home.{least_of};
+ghost use Rattle.cast_view.specs.Flush.{lacking_in};
+ghost use Rattle.cast_view.specs.declared.phase.Phase.TheVariants.{Idle};
 
+use crate::flush::Flush;
 use crate::phase::{Answer, Decision, Phase, install_phase};
 use crate::procs::{Procs, is_listed};
 use crate::sites::{apart_from, insert_site, is_among, sites_and, sites_of};
@@ -28,7 +31,7 @@ pub struct HomeSide {
     leavings: Procs,
     suspected: Vec<SiteNo>,
     answers: SortedMap<SiteNo, Answer>,
-    phase: Phase,
+    flush: Flush,
 }
 
 impl Model for HomeSide {
@@ -37,9 +40,9 @@ impl Model for HomeSide {
 
     ghost Value = { Home };
 
-    ghost view = { λ h. record { number = h.number; members = h.members; joins = h.joins; leavings = h.leavings; suspected = h.suspected.items; answers = h.answers; phase = h.phase } };
+    ghost view = { λ h. record { number = h.number; members = h.members; joins = h.joins; leavings = h.leavings; suspected = h.suspected.items; answers = h.answers; phase = h.flush } };
 
-    ghost invariant = { λ h. IsTrue (is_sound (record { number = h.number; members = h.members; joins = h.joins; leavings = h.leavings; suspected = h.suspected.items; answers = h.answers; phase = h.phase })) };
+    ghost invariant = { λ h. IsTrue (is_sound (record { number = h.number; members = h.members; joins = h.joins; leavings = h.leavings; suspected = h.suspected.items; answers = h.answers; phase = h.flush })) };
 }
 
 impl HomeSide {
@@ -56,7 +59,7 @@ impl HomeSide {
             leavings: Procs::new(alloc),
             suspected: Vec::new(alloc),
             answers: SortedMap::new(alloc),
-            phase: Phase::Idle,
+            flush: Flush::new(Phase::Idle),
         }
     }
 
@@ -71,7 +74,7 @@ impl HomeSide {
             leavings: self.leavings.copy()?,
             suspected: Vec::from_slice(*self.suspected.allocator(), &self.suspected)?,
             answers: self.answers.copy()?,
-            phase: self.phase.copy()?,
+            flush: self.flush.copy()?,
         })
     }
 
@@ -93,14 +96,14 @@ impl HomeSide {
     pub fn phase(&self) -> &Phase
         ensures { result.now ≡ self.now.phase }
     {
-        &self.phase
+        self.flush.phase()
     }
 
     /// The messages that came for sites that lack them, in order of receipt.
     pub fn bodies(&self) -> &[Message]
         ensures { result.now ≡ bodies_of self.now.phase }
     {
-        match &self.phase {
+        match self.phase() {
             Phase::Idle => &[],
             Phase::Gathering { bodies, .. } => bodies.as_slice(),
             Phase::Installing { bodies, .. } => bodies.as_slice(),
@@ -246,12 +249,20 @@ impl HomeSide {
         self.joins.remove(process);
     }
 
-    // Sets the phase.
+    // Sets the phase. Nothing is reckoned of it.
     fn set_phase(&mut self, phase: Phase)
         requires { IsTrue (has_next_number self.old.number phase) }
         ensures { self.new ≡ record self.old { phase = phase } }
     {
-        self.phase = phase;
+        self.set_flush(Flush::new(phase));
+    }
+
+    // Sets the flush.
+    fn set_flush(&mut self, flush: Flush)
+        requires { IsTrue (has_next_number self.old.number flush) }
+        ensures { self.new ≡ record self.old { phase = flush } }
+    {
+        self.flush = flush;
     }
 
     /// Takes in that a site is suspected: its members, where the view has some, do not come into the next one, and the
@@ -260,8 +271,8 @@ impl HomeSide {
         ensures { OnOk result (self.new ≡ after_suspicion self.old site) }
     {
         self.mark_suspected(site)?;
-        let phase = mem::replace(&mut self.phase, Phase::Idle);
-        self.set_phase(phase.without_site(site));
+        let flush = mem::replace(&mut self.flush, Flush::new(Phase::Idle));
+        self.set_phase(flush.into_phase().without_site(site));
         Ok(())
     }
 
@@ -280,7 +291,7 @@ impl HomeSide {
     pub fn may_start(&self) -> bool
         ensures { result ≡ may_start self.now }
     {
-        self.phase.is_idle()
+        self.phase().is_idle()
             && self.number < MAX_NUMBER
             && !(self.joins.is_empty() && self.leavings.is_empty() && self.suspected.is_empty())
     }
@@ -295,11 +306,11 @@ impl HomeSide {
         }
         let alloc = self.joins.alloc();
         let sites = sites_of(alloc, self.members.list())?;
-        self.phase = Phase::Gathering {
+        self.flush = Flush::new(Phase::Gathering {
             awaited: apart_from(sites, &self.suspected),
             reports: List::new(alloc),
             bodies: List::new(alloc),
-        };
+        });
         Ok(true)
     }
 
@@ -307,7 +318,7 @@ impl HomeSide {
     pub fn takes_report(&self, site: SiteNo, view: u32) -> bool
         ensures { result ≡ takes_report self.now site view }
     {
-        view == self.number && self.phase.awaits_report(site)
+        view == self.number && self.phase().awaits_report(site)
     }
 
     /// Takes in what a site reports of a view, and answers whether it counts: it is the first report of this view from a
@@ -319,8 +330,8 @@ impl HomeSide {
         if !self.takes_report(site, view) {
             return Ok(false);
         }
-        let phase = mem::replace(&mut self.phase, Phase::Idle);
-        let phase = phase.with_report(site, report)?;
+        let flush = mem::replace(&mut self.flush, Flush::new(Phase::Idle));
+        let phase = flush.into_phase().with_report(site, report)?;
         self.set_phase(phase);
         Ok(true)
     }
@@ -331,17 +342,35 @@ impl HomeSide {
         ensures { IfOk result (λ wants. wants ≡ wants_in group self.now self.now.phase) }
     {
         let alloc = self.joins.alloc();
-        match &self.phase {
+        match self.phase() {
             Phase::Gathering {
                 awaited,
                 reports,
                 bodies,
             } if is_complete(awaited.as_slice(), reports.as_slice()) => {
+                if let Some(ids) = self.lacking(group) {
+                    return wants_of(alloc, reports.as_slice(), ids);
+                }
                 let ids = self.wanted_ids(group, reports.as_slice(), bodies.as_slice())?;
                 wants_of(alloc, reports.as_slice(), &ids)
             }
             _ => Ok(List::new(alloc)),
         }
+    }
+
+    /// Reckons what some of the sites lack, where all have reported and it was not reckoned yet. `wants` and `may_decide` need not
+    /// reckon it then, until a report comes or a site is suspected.
+    pub fn reckon(&mut self, group: GroupNo) -> Result<(), NoMemory>
+        ensures { self.new ≡ self.old }
+    {
+        self.flush.reckon(group, self.number, self.members.list())
+    }
+
+    // What was reckoned to be lacking. Takes no memory.
+    fn lacking(&self, group: GroupNo) -> Option<&[(Proc, u32)]>
+        ensures { IfSome result (λ ids. ids.now ≡ lacking_in group self.now.number self.now.members.list self.now.phase) }
+    {
+        self.flush.lacking(group, self.number, self.members.list())
     }
 
     // The messages that some of the reporting sites lack and that did not come.
@@ -362,9 +391,9 @@ impl HomeSide {
     pub fn body(&mut self, message: Message) -> Result<(), NoMemory>
         ensures { OnOk result (self.new ≡ after_body self.old message) }
     {
-        let phase = mem::replace(&mut self.phase, Phase::Idle);
-        let phase = phase.with_body(message)?;
-        self.set_phase(phase);
+        let flush = mem::replace(&mut self.flush, Flush::new(Phase::Idle));
+        let flush = flush.with_body(message)?;
+        self.set_flush(flush);
         Ok(())
     }
 
@@ -372,12 +401,15 @@ impl HomeSide {
     pub fn may_decide(&self, group: GroupNo) -> Result<bool, NoMemory>
         ensures { IfOk result (λ may. may ≡ may_decide group self.now) }
     {
-        match &self.phase {
+        match self.phase() {
             Phase::Gathering {
                 awaited,
                 reports,
                 bodies,
             } if is_complete(awaited.as_slice(), reports.as_slice()) => {
+                if let Some(ids) = self.lacking(group) {
+                    return Ok(ids.is_empty());
+                }
                 let ids = self.wanted_ids(group, reports.as_slice(), bodies.as_slice())?;
                 Ok(ids.is_empty())
             }
@@ -396,8 +428,8 @@ impl HomeSide {
             return Ok(false);
         }
         let list = self.decided_list()?;
-        let phase = mem::replace(&mut self.phase, Phase::Idle);
-        let phase = self.decided_phase(phase, list.as_slice())?;
+        let flush = mem::replace(&mut self.flush, Flush::new(Phase::Idle));
+        let phase = self.decided_phase(flush.into_phase(), list.as_slice())?;
         self.pass_to(list);
         self.set_phase(phase);
         Ok(true)
@@ -487,7 +519,7 @@ impl HomeSide {
     pub fn takes_installed(&self, site: SiteNo, number: u32) -> bool
         ensures { result ≡ takes_installed self.now site number }
     {
-        number == self.number && self.phase.awaits_installed(site)
+        number == self.number && self.phase().awaits_installed(site)
     }
 
     /// Takes in that a site has installed a view, and answers whether that was awaited. Takes no memory.
@@ -498,8 +530,8 @@ impl HomeSide {
         if !self.takes_installed(site, number) {
             return false;
         }
-        let phase = mem::replace(&mut self.phase, Phase::Idle);
-        self.set_phase(phase.without_site(site));
+        let flush = mem::replace(&mut self.flush, Flush::new(Phase::Idle));
+        self.set_phase(flush.into_phase().without_site(site));
         true
     }
 }

@@ -9,6 +9,7 @@
 //! unchanged, and a `HomeSide` is of no further use.
 #![tactic(auto)]
 
+mod flush;
 mod home;
 pub mod laws;
 mod member;

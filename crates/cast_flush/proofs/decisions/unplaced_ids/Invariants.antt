@@ -8,5 +8,5 @@ use Rattle.cast_flush.proofs.decisions.unplaced_ids.Given as goal
 -- the ids so far with those of the reports that are left are all
 abbrev pub invariant-loop-report : goal.invariant-loop-report
 invariant-loop-report l =
-    with_items entry_cmp l.ids.items (flat_map (λ r. map (λ k. k.0) (filter (λ k. k.1) r.1.kept)) (drop l.report-index l.reports))
+    with_items entry_cmp l.ids.keys (flat_map (λ r. map (λ k. k.0) (filter (λ k. k.1) r.1.kept)) (drop l.report-index l.reports))
     ≡ unplaced l.reports

@@ -10,11 +10,11 @@ use Rattle.cast_view.proofs.home.HomeSide.decide.Goals as goal
 pub returns-clause-new : goal.returns-clause-new
 returns-clause-new c =
     let old = the_view c.self.inside in
-    let phases : c.in_ok-phase.phase ≡ decided_phase old (decided_list old) c.self.inside.phase =
+    let phases : c.in_ok-phase.phase ≡ decided_phase old (decided_list old) c.self.inside.flush =
     c.in_ok-phase.ensures
-    ∙ ap (λ (l : List Proc). decided_phase old l c.replace-phase.result) c.as_slice.ensures.value
-    ∙ ap (decided_phase old c.in_ok-list.list) c.replace-phase.ensures.value
-    ∙ ap (λ (l : List Proc). decided_phase old l c.self.inside.phase) (c.in_ok-list.ensures.value ∙ ap decided_list (sym c.self.view_is)) in
+    ∙ ap (λ (l : List Proc). decided_phase old l c.into_phase.result) c.as_slice.ensures.value
+    ∙ ap (decided_phase old c.in_ok-list.list) (c.into_phase.ensures ∙ c.replace-flush.ensures.value)
+    ∙ ap (λ (l : List Proc). decided_phase old l c.self.inside.flush) (c.in_ok-list.ensures.value ∙ ap decided_list (sym c.self.view_is)) in
     c.set_phase.ensures
     ∙ ap (λ (h : Home). record h { phase = c.in_ok-phase.phase }) c.pass_to.ensures
     ∙ ap (λ (p : Phase). record (decided old) { phase = p }) phases
