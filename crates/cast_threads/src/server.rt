@@ -392,7 +392,7 @@ impl<'a, T: SharedTable> Server<'a, T> {
         self.write_from(rt, client, came, is_writer);
     }
 
-    // So if this came of the first Take.
+    // With the pen of a program, and with what came of a Take of its outbox: writes that, and goes on as `write` does.
     fn write_from<R: Wait>(&mut self, rt: &R, client: &Client, came: Came, is_writer: bool) {
         let mut came = came;
         let mut rounds: u32 = 0;
