@@ -12,7 +12,7 @@ import raw
 from harness import PATIENCE, PROGRAM, Case, castd, wait_until, wait_for_view
 from daemons import Castd, free_addresses, networked
 from links import linked
-from test_daemon import ACK, CAST, DATA, ID, DaemonCase, Site, cast
+from test_daemon import ACK, ASK, CAST, DATA, ID, INSTALL, INSTALLED, DaemonCase, Site, cast
 
 CASTS = 30
 # Seconds within which a slow build delivers them over bad links.
@@ -158,6 +158,23 @@ class Datagrams(DaemonCase):
         self.assertLess(len(sizes), 6)
         site.socket.sendto(raw.bundle(*(site.frame(ACK, it[ID]) for it in frames)), self.address(1))
         wait_until(lambda: " held 0 " in daemon.ask("show 1"), "all are acknowledged")
+        self.assert_stops(daemon)
+
+    def test_a_site_that_enters_a_view_late_gets_its_messages(self):
+        # The rules send nothing again meanwhile.
+        daemon = self.serving(self.setup_of(2, {"number": 1, "resend": 60_000}))
+        program, site = self.member(), Site(self, 2)
+        self.addCleanup(site.socket.close)
+        site.say(ASK, struct.pack(">HIBHI", 1, 1, 1, 2, 1))
+        site.hear(INSTALL)
+        self.assertEqual(program.kinds(1), [castd.View])
+        program.write(cast())
+        site.hear(DATA)
+        # It passes over what it is sent until it has entered the view.
+        self.assertLess(len(site.heard(DATA, 1)), 5)
+        site.say(INSTALLED, struct.pack(">HI", 1, 2))
+        site.say(ACK, site.hear(DATA)[ID])
+        wait_until(lambda: " held 0 " in daemon.ask("show 1"), "it is acknowledged")
         self.assert_stops(daemon)
 
     def test_random_bundles_are_counted(self):

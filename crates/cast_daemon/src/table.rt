@@ -3,11 +3,11 @@ use crate::lanes::Lanes;
 use crate::share::{CountShare, SpareCount};
 use crate::trimmer::{Trimmer, payload_len};
 use cast_console::{Answer, Line, LineFault, answer, parse};
-use cast_edge::acknowledged_in;
+use cast_edge::{Heard, heard_in};
 use cast_events::{Asked, Event, Fault, Outs, Raw, Told};
 use cast_pool::{Channels, Done, Gate, Job, Kept, Outcome, Task, decode, work};
 use cast_shared::{Came, Instruction, Pace, Reply, SharedTable, Turn, Wanted};
-use cast_types::{DomainNo, SiteNo, Uid};
+use cast_types::{DomainNo, SiteNo};
 use crossbeam_channel::{Receiver, Sender};
 use std::alloc::Global;
 use std::rt::Clock;
@@ -230,9 +230,9 @@ impl<L: Ledger + Send + Sync, C: Clock + Sync> SharedTable for LockedTable<'_, L
         }
     }
 
-    fn acknowledged(&self, job: &Job) -> Option<(DomainNo, SiteNo, Uid)> {
+    fn heard(&self, job: &Job) -> Option<Heard> {
         match job.task() {
-            Task::Serve(event) => acknowledged_in(event),
+            Task::Serve(event) => heard_in(event),
             Task::Show(_) => None,
         }
     }

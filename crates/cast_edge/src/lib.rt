@@ -23,4 +23,4 @@ pub use output::{Written, has_end, write_now, write_whole};
 pub use report::{Report, run_reporter};
 pub use silence::Silence;
 pub use stables::Stables;
-pub use unacknowledged::{Took, Unacknowledged, acknowledged_in};
+pub use unacknowledged::{Heard, Took, Unacknowledged, heard_in};

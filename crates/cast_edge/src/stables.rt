@@ -9,7 +9,7 @@ use std::mem;
 // A frame of a domain for a site.
 type Outgoing = (DomainNo, SiteNo, SiteFrame);
 
-// After so many that said something new they wait no longer.
+// After so many that came since none waited they wait no longer.
 const MANY: u32 = 8;
 
 // Once so many wait, all are sent when the receiver has finished the frames that it serves. Until then more may wait.
@@ -20,7 +20,7 @@ const MOST: usize = 64;
 pub struct Stables {
     alloc: Global,
     waiting: Vec<Outgoing>,
-    // How many said something new since none waited.
+    // How many came since none waited.
     news: u32,
 }
 

@@ -7,9 +7,13 @@
 //!
 //! What the rules send again goes to the wire ever more seldom, up to once in eight times `resend`, since a site that has much to do would get
 //! more of what it has already. The rules cannot tell that from a network that loses datagrams.
+//!
+//! A site passes over the messages of a view that it has not entered. That says nothing of the way to it. So what was sent too soon is
+//! kept until a frame of the site tells that it has entered the view. Then it counts as sent for the first time.
 use cast_events::{Event, Outs};
 use cast_message::{Message, SiteFrame};
-use cast_types::{DomainNo, List, NoMemory, SiteNo, Uid};
+use cast_types::limits::MAX_GROUPS;
+use cast_types::{DomainNo, GroupNo, List, NoMemory, SiteNo, Uid};
 use std::alloc::Global;
 use std::collections::{BTreeMap, VecDeque};
 use std::mem;
@@ -28,7 +32,10 @@ const REPEATS: u32 = 3;
 
 const FORGOTTEN: u64 = 10;
 
-// So many messages are remembered for each site, the latest.
+// What was sent too soon is kept for so many ticks at most: ten seconds.
+const TOO_SOON: u64 = 500;
+
+// So many messages are remembered for each site, the latest, and so many are kept that were sent too soon.
 const MOST: usize = 1_024;
 
 // At a tick so many are sent again for each site, the earliest. A site that lacks one may have all behind it, and a site that is slow is
@@ -59,8 +66,9 @@ struct Due {
 #[derive(Drop)]
 struct Sent {
     message: Message,
-    // When it was sent first, and last.
-    first: u64,
+    // When it was sent first. None if it may have come too soon: then its acknowledgement says nothing of the way.
+    first: Option<u64>,
+    // When it was sent last.
     tick: u64,
     // When it was sent first, on the clock. None if that is not wanted.
     time: Option<Instant>,
@@ -68,6 +76,16 @@ struct Sent {
     later: u32,
     // How often it was sent again.
     repeats: u32,
+}
+
+impl Sent {
+    // It may have come too soon. What became of it does not count.
+    fn begin_anew(&mut self) {
+        self.first = None;
+        self.time = None;
+        self.later = 0;
+        self.repeats = 0;
+    }
 }
 
 // The time from a message to its acknowledgement, in ticks: eight times the mean, and four times the mean deviation from it. The latest count
@@ -138,6 +156,10 @@ impl Least {
 #[derive(Drop)]
 struct Flight {
     sent: VecDeque<Sent>,
+    // What was sent too soon: what is left to the rules, of views that the site has not entered.
+    early: VecDeque<Sent>,
+    // The latest view of each group that the site has entered, as far as its frames tell. Of no more groups than a domain may have.
+    views: BTreeMap<GroupNo, u32>,
     dues: BTreeMap<Uid, Due>,
     tick: u64,
     round_trip: RoundTrip,
@@ -158,20 +180,93 @@ impl Flight {
         let _ = self.dues.insert(id, due);
     }
 
-    // Remembers a message that is sent at this time.
-    fn note(&mut self, message: Message, time: Option<Instant>) {
+    // Remembers a message as the latest.
+    fn remember(&mut self, sent: Sent) {
         if self.sent.len() >= MOST {
             drop(self.sent.pop_front());
         }
+        let _ = self.sent.push_back(sent);
+    }
+
+    // Remembers a message that is sent at this time.
+    fn note(&mut self, message: Message, time: Option<Instant>) {
         self.note_due(message.id, 0);
-        let _ = self.sent.push_back(Sent {
+        self.remember(Sent {
             message,
-            first: self.tick,
+            first: Some(self.tick),
             tick: self.tick,
             time,
             later: 0,
             repeats: 0,
         });
+    }
+
+    // The acknowledgement of a message took until now, or longer.
+    fn note_trip(&mut self, sent: &Sent) {
+        if let Some(first) = sent.first {
+            self.round_trip.note(self.tick.saturating_sub(first));
+        }
+    }
+
+    // Whether the site has entered the view of a message.
+    fn has_entered(&self, id: Uid) -> bool {
+        match self.views.get(&id.group) {
+            Some(view) => *view >= id.view,
+            None => false,
+        }
+    }
+
+    // Leaves a message to the rules. Its acknowledgement takes at least as long as it was remembered, if the site has entered its view. Else it
+    // is kept.
+    fn leave(&mut self, sent: Sent) {
+        if self.has_entered(sent.message.id) {
+            self.note_trip(&sent);
+            return;
+        }
+        if self.early.len() >= MOST {
+            drop(self.early.pop_front());
+        }
+        let _ = self.early.push_back(sent);
+    }
+
+    // A frame tells that the site has entered a view of a group. It acknowledges nothing more of the views before. What was late of this one may
+    // have come too soon, and what is kept of it counts as sent now.
+    fn enter(&mut self, group: GroupNo, view: u32) {
+        match self.views.get(&group) {
+            Some(known) if *known >= view => return,
+            None if self.views.len() >= MAX_GROUPS => return,
+            _ => {}
+        }
+        if self.views.insert(group, view).is_err() {
+            return;
+        }
+        self.dues.clear();
+        for _ in 0..self.sent.len() {
+            let Some(mut sent) = self.sent.pop_front() else {
+                break;
+            };
+            let id = sent.message.id;
+            if id.group == group && id.view < view {
+                continue;
+            }
+            if id.group == group && id.view == view && sent.repeats > 0 {
+                sent.begin_anew();
+            }
+            let _ = self.sent.push_back(sent);
+        }
+        for _ in 0..self.early.len() {
+            let Some(mut sent) = self.early.pop_front() else {
+                break;
+            };
+            let id = sent.message.id;
+            if id.group != group || id.view > view {
+                let _ = self.early.push_back(sent);
+            } else if id.view == view {
+                sent.begin_anew();
+                sent.tick = self.tick;
+                self.remember(sent);
+            }
+        }
     }
 
     // Takes the message at a place, to be sent again, and remembers it as the latest. `None` if there is no memory for that: then it is left
@@ -180,12 +275,12 @@ impl Flight {
         let mut sent = self.sent.remove(place)?;
         let copy = sent.message.copy().ok()?;
         sent.repeats = sent.repeats.saturating_add(1);
+        sent.later = 0;
+        sent.tick = self.tick;
         if sent.repeats < REPEATS {
-            sent.later = 0;
-            sent.tick = self.tick;
             let _ = self.sent.push_back(sent);
         } else {
-            self.round_trip.note(self.tick.saturating_sub(sent.first));
+            self.leave(sent);
         }
         Some(copy)
     }
@@ -227,7 +322,7 @@ impl Flight {
         };
         let mut time = None;
         if let Some(sent) = self.sent.remove(place) {
-            self.round_trip.note(self.tick.saturating_sub(sent.first));
+            self.note_trip(&sent);
             if sent.repeats == 0 {
                 time = sent.time;
             }
@@ -238,26 +333,35 @@ impl Flight {
         (place, time)
     }
 
-    // Forgets what is left to the rules. Its acknowledgement takes at least as long as it was remembered.
+    // How many ticks went by since a message was sent last.
+    fn ticks_since(&self, sent: Option<&Sent>) -> u64 {
+        match sent {
+            Some(sent) => self.tick.saturating_sub(sent.tick),
+            None => 0,
+        }
+    }
+
+    // Leaves to the rules what was remembered for long, and forgets what was kept for long.
     fn forget(&mut self) {
         for _ in 0..self.sent.len() {
-            match self.sent.front() {
-                Some(sent) if self.tick.saturating_sub(sent.tick) >= FORGOTTEN => {
-                    let ticks = self.tick.saturating_sub(sent.first);
-                    drop(self.sent.pop_front());
-                    self.round_trip.note(ticks);
-                }
-                _ => break,
+            if self.ticks_since(self.sent.front()) < FORGOTTEN {
+                break;
             }
+            if let Some(sent) = self.sent.pop_front() {
+                self.leave(sent);
+            }
+        }
+        for _ in 0..self.early.len() {
+            if self.ticks_since(self.early.front()) < TOO_SOON {
+                break;
+            }
+            drop(self.early.pop_front());
         }
     }
 
     // Whether the message that was sent first is late.
     fn is_late(&self) -> bool {
-        match self.sent.front() {
-            Some(sent) => self.tick.saturating_sub(sent.tick) >= self.round_trip.late(),
-            None => false,
-        }
+        self.ticks_since(self.sent.front()) >= self.round_trip.late()
     }
 }
 
@@ -296,6 +400,8 @@ impl Unacknowledged {
     pub fn new(alloc: Global, domain: DomainNo, site: SiteNo, is_timed: bool) -> Self {
         let flight = Flight {
             sent: VecDeque::new(alloc),
+            early: VecDeque::new(alloc),
+            views: BTreeMap::new(alloc),
             dues: BTreeMap::new(alloc),
             tick: 0,
             round_trip: RoundTrip {
@@ -340,6 +446,7 @@ impl Unacknowledged {
     pub fn acknowledge<R: Wait + Clock>(&self, rt: &R, id: Uid) -> (Outs, Option<Took>) {
         let mut outs = Outs::new(self.alloc);
         let mut flight = self.flight.lock(rt);
+        flight.enter(id.group, id.view);
         let (earlier, time) = flight.acknowledge(id);
         for _ in 0..earlier {
             let Some(place) = flight.first_lost(earlier) else {
@@ -354,6 +461,11 @@ impl Unacknowledged {
             None => None,
         };
         (outs, took)
+    }
+
+    /// Notes that the site has entered a view of a group.
+    pub fn enter<R: Wait>(&self, rt: &R, group: GroupNo, view: u32) {
+        self.flight.lock(rt).enter(group, view);
     }
 
     /// All messages are due when the rules say so: the site was silent, and answers.
@@ -408,10 +520,38 @@ fn micros_since<R: Clock>(rt: &R, time: Option<Instant>) -> Option<u64> {
     u64::try_from(elapsed.as_micros()).ok()
 }
 
-/// What an event acknowledges, in which domain and from which site, if it is such a frame.
-pub fn acknowledged_in(event: &Event) -> Option<(DomainNo, SiteNo, Uid)> {
-    match event {
-        Event::Frame(domain, site, SiteFrame::Ack(id)) => Some((*domain, *site, *id)),
-        _ => None,
-    }
+/// What a frame tells of the site that it is from.
+#[derive(Clone, Copy, Debug, PartialEq, Eq)]
+pub struct Heard {
+    /// The domain of the frame.
+    pub domain: DomainNo,
+    /// The site that sent it.
+    pub site: SiteNo,
+    /// The group that the frame is about.
+    pub group: GroupNo,
+    /// The site has entered this view of it.
+    pub view: u32,
+    /// The message that it acknowledges.
+    pub acknowledged: Option<Uid>,
+}
+
+/// What an event tells of a site, if it is a frame that a site sends only of a view that it has entered.
+pub fn heard_in(event: &Event) -> Option<Heard> {
+    let Event::Frame(domain, site, frame) = event else {
+        return None;
+    };
+    let (group, view, acknowledged) = match frame {
+        SiteFrame::Data(message) => (message.id.group, message.id.view, None),
+        SiteFrame::Ack(id) => (id.group, id.view, Some(*id)),
+        SiteFrame::Stable(id) => (id.group, id.view, None),
+        SiteFrame::Installed { group, view } => (*group, *view, None),
+        _ => return None,
+    };
+    Some(Heard {
+        domain: *domain,
+        site: *site,
+        group,
+        view,
+        acknowledged,
+    })
 }

@@ -1,7 +1,8 @@
 //! The table of a daemon behind its lock, as the threads use it.
 use crate::pace::{Pace, Turn, Wanted};
+use cast_edge::Heard;
 use cast_events::{Asked, Fault, Outs, Raw, Taken, Told};
-use cast_types::{DomainNo, NoMemory, SiteNo, Uid};
+use cast_types::{DomainNo, NoMemory, SiteNo};
 use crossbeam_channel::{Receiver, Sender};
 use std::sync::Wait;
 
@@ -51,8 +52,8 @@ pub trait SharedTable {
     /// The site that the frame of a job says it is from. `None` for what is no frame.
     fn sender(&self, job: &Self::Job) -> Option<SiteNo>;
 
-    /// What the frame of a job acknowledges, if it does, in which domain and from which site.
-    fn acknowledged(&self, job: &Self::Job) -> Option<(DomainNo, SiteNo, Uid)>;
+    /// What the frame of a job tells of the site that it is from, if it does.
+    fn heard(&self, job: &Self::Job) -> Option<Heard>;
 
     /// Does a job. Answers also the place of its domain's pace among these if readers may go on now that waited for it, or else how many
     /// paces there are.

@@ -94,9 +94,9 @@ impl<'a, T: SharedTable> Reader<'a, T> {
         }
     }
 
-    // Whether a cast of so many bytes, if it is one, is served alone: in a domain without other sites, if it most likely comes alone. Takes
-    // the pen of the program then. What the cast pushes to it is taken at once, so that the thread waits for the table once.
-    fn is_alone<R: Wait>(&self, rt: &R, len: Option<usize>) -> bool {
+    // Takes the pen of the program if its command is a cast, of so many bytes, that most likely comes alone, in a domain without other sites.
+    // Answers whether it did. Then what the cast pushes to the program is taken at once, so that the thread waits for the table once.
+    fn take_pen_if_alone<R: Wait>(&self, rt: &R, len: Option<usize>) -> bool {
         self.pace.is_none()
             && len.is_some()
             && self.count == 1
@@ -121,14 +121,14 @@ impl<'a, T: SharedTable> Reader<'a, T> {
             serial,
             command,
         };
-        let is_alone = self.is_alone(rt, len);
-        let (answer, outs) = if is_alone {
+        let has_pen = self.take_pen_if_alone(rt, len);
+        let (answer, outs) = if has_pen {
             self.server.serve_and_write(rt, self.client, event)
         } else {
             self.serve_event(rt, event, len)
         };
         self.note(rt, &outs);
-        if is_alone {
+        if has_pen {
             self.is_pushed = false;
             self.untaken = 0;
         }

@@ -1,7 +1,7 @@
 //! A thread that serves events: under the table's lock for each, and sends the frames outside it.
 use cast_edge::{
-    Client, Report, Session, Silence, Unacknowledged, Unwritten, WriterTask, Written, has_end,
-    write_now, write_whole,
+    Client, Heard, Report, Session, Silence, Unacknowledged, Unwritten, WriterTask, Written,
+    has_end, write_now, write_whole,
 };
 use cast_events::{Asked, Event, Fault, Outs, Taken};
 use cast_link::{Wire, send_all, send_bundled};
@@ -36,6 +36,8 @@ pub struct Server<'a, T: SharedTable> {
     room: Vec<u8>,
     // The frames that are gathered, to be sent together. None if each frame has a datagram of its own.
     gathered: Outs,
+    // What the last frame told that acknowledged nothing.
+    heard: Option<Heard>,
 }
 
 // A Take of the outbox of a session.
@@ -64,6 +66,7 @@ impl<'a, T: SharedTable> Server<'a, T> {
             wire: Udp::new(shared.alloc, shared.links),
             room: Vec::new(shared.alloc),
             gathered: Outs::new(shared.alloc),
+            heard: None,
         }
     }
 
@@ -107,23 +110,35 @@ impl<'a, T: SharedTable> Server<'a, T> {
             self.shared.desk.lock(rt).count_unread(rt, 1);
             return None;
         }
-        let acknowledged = self.shared.table.acknowledged(&job);
+        let heard = self.shared.table.heard(&job);
         let (_, outs) = self.do_job(rt, job);
-        if let Some((domain, site, id)) = acknowledged
-            && let Some(unacknowledged) = Unacknowledged::find(
-                self.shared.unacknowledged,
-                domain,
-                site,
-            )
-        {
-            self.end_silence(rt, site);
-            let (mut again, took) = unacknowledged.acknowledge(rt, id);
-            if let (Some(took), Some(pace)) = (took, Pace::find(self.shared.paces, domain)) {
-                pace.hear(rt, took);
-            }
-            self.gather(rt, &mut again);
+        if let Some(heard) = heard {
+            self.hear(rt, heard);
         }
         Some(outs)
+    }
+
+    // A frame told something of its site. Most tell nothing new. After an acknowledgement, what seems to be lost is sent again.
+    fn hear<R: Wait + Clock>(&mut self, rt: &R, heard: Heard) {
+        if self.heard == Some(heard) {
+            return;
+        }
+        let (domain, site) = (heard.domain, heard.site);
+        let Some(unacknowledged) = Unacknowledged::find(self.shared.unacknowledged, domain, site)
+        else {
+            return;
+        };
+        let Some(id) = heard.acknowledged else {
+            unacknowledged.enter(rt, heard.group, heard.view);
+            self.heard = Some(heard);
+            return;
+        };
+        self.end_silence(rt, site);
+        let (mut again, took) = unacknowledged.acknowledge(rt, id);
+        if let (Some(took), Some(pace)) = (took, Pace::find(self.shared.paces, domain)) {
+            pace.hear(rt, took);
+        }
+        self.gather(rt, &mut again);
     }
 
     // A site acknowledged a message. If it was silent, all that it was sent may be sent again as if for the first time.
@@ -377,7 +392,7 @@ impl<'a, T: SharedTable> Server<'a, T> {
         self.write_from(rt, client, came, is_writer);
     }
 
-    // So if this came of the first Take.
+    // With the pen of a program, and with what came of a Take of its outbox: writes that, and goes on as `write` does.
     fn write_from<R: Wait>(&mut self, rt: &R, client: &Client, came: Came, is_writer: bool) {
         let mut came = came;
         let mut rounds: u32 = 0;
