@@ -50,3 +50,4 @@ pub mod Untrimmed
 pub mod Serials
 pub mod Own
 pub mod Skipped
+pub mod Unchanged

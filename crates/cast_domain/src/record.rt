@@ -241,3 +241,15 @@ pub fn decide_at(groups: &mut Vec<GroupRecord>, place: usize) -> Result<(), NoMe
     record.home.decide(record.name)?;
     Ok(())
 }
+
+/// Reckons once what some sites lack of the view that the home of the group of a place flushes, where all have reported. Changes
+/// nothing that contracts see.
+#[tactic(auto, using(crate::proofs::Unchanged::set_same))]
+pub fn reckon_at(groups: &mut Vec<GroupRecord>, place: usize) -> Result<(), NoMemory>
+    requires { place < vec_len groups.old }
+    ensures items { groups.new.items ≡ groups.old.items }
+    ensures len { vec_len groups.new ≡ vec_len groups.old }
+{
+    let record = &mut groups[place];
+    record.home.reckon(record.name)
+}

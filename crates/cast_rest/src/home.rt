@@ -1,6 +1,6 @@
 ghost use Rattle.std.specs.Prelude.{◌≡◌, ◌<◌, ◌&&◌, ◌==◌, true, false, IfOk, OnOk, vec_len, not};
 ghost use Rattle.cast_rules.specs.Rules.Home.{wants, announce, decide, lead, lead_group, owe_of_home, prepare, start, want, want_bodies};
-ghost use Rattle.cast_domain.specs.Records.{GivesBack, KeepsBeside, records_in, Makes, StaysUnless};
+ghost use Rattle.cast_domain.specs.Records.{GivesBack, Keeps, KeepsBeside, records_in, Makes, MakesAlone, StaysUnless};
 ghost use Rattle.cast_domain.specs.Calls.{records, record_at};
 ghost use Rattle.std.specs.List.{fold, list_any};
 ghost use Rattle.cast_view.specs.Home.{may_start, may_decide};
@@ -12,7 +12,7 @@ ghost use Rattle.cast_rules.specs.Rules.Views.{install};
 use cast_domain::Domain;
 use cast_domain::keys::{home_key, want_key};
 use cast_domain::lent::Lent;
-use cast_domain::record::{decide_at, start_at};
+use cast_domain::record::{decide_at, reckon_at, start_at};
 use cast_timer::OwedKind;
 use cast_types::{NoMemory, Proc, SiteNo};
 
@@ -43,6 +43,7 @@ fn lead_group(domain: &mut Domain, place: usize, lent: &mut Lent<'_>) -> Result<
     ensures len { vec_len domain.new.groups ≡ vec_len domain.old.groups }
 {
     let started = start(domain, place, lent)?;
+    reckon(domain, place)?;
     let wanted = want_bodies(domain, place, lent)?;
     let decided = decide(domain, place, lent)?;
     Ok(started | wanted | decided)
@@ -63,6 +64,16 @@ fn start(domain: &mut Domain, place: usize, lent: &mut Lent<'_>) -> Result<bool,
     start_at(&mut domain.groups, place)?;
     prepare(domain, place, lent)?;
     Ok(true)
+}
+
+// What some sites lack is reckoned once, and not in each pass.
+fn reckon(domain: &mut Domain, place: usize) -> Result<(), NoMemory>
+    requires { place < vec_len domain.old.groups }
+    ensures same { Keeps domain.old domain.new }
+    ensures made { MakesAlone (λ r. r) domain.old domain.new }
+    ensures len { vec_len domain.new.groups ≡ vec_len domain.old.groups }
+{
+    reckon_at(&mut domain.groups, place)
 }
 
 // The home owes Want for messages that some sites lack. Answers whether one of them was not owed.
