@@ -1,10 +1,20 @@
 -- The order told: what is told of a place, and how the order grows with what is told.
-use Rattle.std.proofs.Common.{◌≡◌, ℕ, zero, suc, ◌+◌, ◌-◌, ◌<◌, ◌≤◌, false, cond, ◌&&◌, List, [], ◌∷◌, ◌++◌, length, Option, Some, None, slice_get, refl, sym, ap, subst, ◌∙◌, inl, inr, arith}
+use Rattle.std.proofs.Common.{◌≡◌, ℕ, zero, suc, ◌+◌, ◌-◌, ◌<◌, ◌≤◌, Bool, true, false, cond, ◌&&◌, List, [], ◌∷◌, ◌++◌, length, Less, Equal, Greater, Option, Some, None, slice_get, refl, sym, ap, subst, ◌∙◌, inl, inr, arith}
 use Rattle.std.specs.Prelude.{◌==◌, nat_lt, nat_le}
-use Rattle.std.specs.List.{find}
+use Rattle.std.specs.List.{find, All}
+use Rattle.std.specs.Map.{keys_of, lookup}
+use Rattle.std.specs.BTreeMap.{is_at, insert_entry}
+use Rattle.std.specs.BTreeMap.Range.{IsLeBy}
+use Rattle.std.specs.Ordering.{nat_cmp, eq_by_cmp, match_ordering}
+use Rattle.std.specs.Cmp.{unsigned_tied}
+use Rattle.std.specs.FinMap.Entries.{find as find_key, put, find-put, by_order}
+use Rattle.std.proofs.lemmas.Cmp.{nat_cmp_total}
+use Rattle.std.proofs.lemmas.Bool.Decides.{nat_tests}
 use Rattle.std.specs.Option.{option_or, option_map, is_none}
-use Rattle.std.proofs.lemmas.Bool.{cases_Bool, cases_eq, false≢true, false_from_ne_true, and_from, lt-ltb, ltb-false, le-leb, eqb-true}
+use Rattle.std.proofs.lemmas.Bool.{cases_Bool, cases_eq, false≢true, false_from_ne_true, and_parts, and_from, lt-ltb, ltb-false, le-leb, eqb-true}
+use Rattle.std.proofs.lemmas.List.Elements.{All-head, All-tail}
 use Rattle.std.proofs.lemmas.List.Folds.{find-append}
+use Rattle.std.proofs.lemmas.Map.Keys.{le_from_not_gt}
 use Rattle.cast_types.specs.declared.limits.TheConstants.{MAX_POSITION}
 use Rattle.cast_types.specs.Names.{Entry}
 use Rattle.cast_order.specs.Order.{Facts, id_at, order_from, known_order, IsKnownOrder, KnownOrderInWords}
@@ -129,10 +139,57 @@ some_told : (o : Option Entry) → is_none o ≡ false → (p : Option Entry) �
 some_told None is p = absurd (false≢true (sym is))
 some_told (Some e) is p = refl
 
+-- places tie where they are the same
+tied_place : (place q : ℕ) → eq_by_cmp nat_cmp place q ≡ (q == place)
+tied_place place q = unsigned_tied place q ∙ grind (arith, nat_tests)
+
+-- so a search by places finds what is told
+by_place : (place : ℕ) (facts : Facts) → find_key nat_cmp place facts ≡ id_at facts place
+by_place place [] = refl
+by_place place (f ∷ facts) =
+    (λ i. cond (tied_place place f.0 i) (Some f.1) (by_place place facts i))
+    ∙ elim (f.0 == place) as (λ b. cond b (Some f.1) (id_at facts place) ≡ option_map (λ (g : ℕ × Entry). g.1) (cond b (Some f) (find (λ g. g.0 == place) facts))) [ true ↦ refl | false ↦ refl ]
+
+-- and so does one in a map
+pub looked_up : (place : ℕ) (facts : Facts) → lookup (is_at (nat_cmp place)) facts ≡ id_at facts place
+looked_up place facts = as_found facts ∙ by_place place facts
+  where
+    as_found : (facts : Facts) → lookup (is_at (nat_cmp place)) facts ≡ find_key nat_cmp place facts
+    as_found [] = refl
+    as_found (f ∷ facts) = ap (cond (eq_by_cmp nat_cmp place f.0) (Some f.1)) (as_found facts)
+
+-- a map takes in a fact at its place
+pub inserted : (q : ℕ) (e : Entry) (facts : Facts) → insert_entry nat_cmp facts q e ≡ put nat_cmp q e facts
+inserted q e [] = refl
+inserted q e (f ∷ facts) =
+    elim (nat_cmp q f.0) as (λ o. match_ordering o ((q, e) ∷ f ∷ facts) ((f.0, e) ∷ facts) (f ∷ insert_entry nat_cmp facts q e) ≡ by_order o ((q, e) ∷ f ∷ facts) ((f.0, e) ∷ facts) (f ∷ put nat_cmp q e facts)) [
+      | Less ↦ refl
+      | Equal ↦ refl
+      | Greater ↦ ap (λ rest. f ∷ rest) (inserted q e facts)
+    ]
+
+-- a fact of a place of which nothing is told is told there, and changes no other place
+put_told : (q : ℕ) (e : Entry) (facts : Facts) → is_none (id_at facts q) ≡ true → (place : ℕ) → id_at (put nat_cmp q e facts) place ≡ option_or (id_at facts place) (id_at ((q, e) ∷ []) place)
+put_told q e facts new place =
+    sym (by_place place (put nat_cmp q e facts))
+    ∙ find-put nat_cmp nat_cmp_total place q e facts
+    ∙ (λ i. cond (tied_place place q i) (Some e) (by_place place facts i))
+    ∙ either (q == place) (id_at facts place) (λ same. none (id_at facts place) (subst (λ k. is_none (id_at facts k) ≡ true) (eqb-true q place same) new))
+  where
+    none : (o : Option Entry) → is_none o ≡ true → o ≡ None
+    none None is = refl
+    none (Some x) is = absurd (false≢true is)
+
+    either : (b : Bool) (o : Option Entry) → (b ≡ true → o ≡ None) → cond b (Some e) o ≡ option_or o (option_map (λ (f : ℕ × Entry). f.1) (cond b (Some (q, e)) None))
+    either true o lacks = sym (ap (λ p. option_or p (Some e)) (lacks refl))
+    either false o lacks = sym (or_none o)
+
 -- one more fact is kept unless its place has one, as the first of a place counts
-one_told : (most known : ℕ) (facts : Facts) (q : ℕ) (e : Entry) (place : ℕ) → known < place → place ≤ most → id_at (cond (nat_lt known q && (nat_le q most && is_none (id_at facts q))) (facts ++ (q, e) ∷ []) facts) place ≡ option_or (id_at facts place) (id_at ((q, e) ∷ []) place)
+one_told : (most known : ℕ) (facts : Facts) (q : ℕ) (e : Entry) (place : ℕ) → known < place → place ≤ most → id_at (cond (nat_lt known q && (nat_le q most && is_none (id_at facts q))) (put nat_cmp q e facts) facts) place ≡ option_or (id_at facts place) (id_at ((q, e) ∷ []) place)
 one_told most known facts q e place low high = elim (cases_Bool (nat_lt known q && (nat_le q most && is_none (id_at facts q)))) [
-  | inl put ↦ rw put (id_at-append facts ((q, e) ∷ []) place)
+  | inl all ↦
+      let parts = and_parts (nat_lt known q) (nat_le q most && is_none (id_at facts q)) all in
+      rw all (put_told q e facts (and_parts (nat_le q most) (is_none (id_at facts q)) parts.1).1 place)
   | inr left ↦ rw left (elim (cases_eq q place) [
     | inl same ↦
         let there : is_none (id_at facts q) ≡ false = false_from_ne_true (is_none (id_at facts q)) (λ none. false≢true (sym left
@@ -159,6 +216,15 @@ past_told known facts place lt =
     let below = ltb-false known f.0 low in
     let here = eqb-true f.0 place same in
     omega arith)) facts)
+
+-- where no fact is of a place before one past those known, all stay
+pub all_past : (known first : ℕ) (facts : Facts) → known < first → All (IsLeBy nat_cmp first) (keys_of facts) → facts ≡ past known facts
+all_past known first [] lt least = refl
+all_past known first (f ∷ facts) lt least =
+    let le = le_from_not_gt first f.0 (All-head (IsLeBy nat_cmp first) f.0 (keys_of facts) least) in
+    let stays = lt-ltb known f.0 (omega arith) in
+    let rest = all_past known first facts lt (All-tail (IsLeBy nat_cmp first) f.0 (keys_of facts) least) in
+    λ i. cond (sym stays i) (f ∷ rest i) (rest i)
 
 -- the order known grows by what later facts tell
 longer_by : (most : ℕ) (facts new later : Facts) (known : List Entry) → known ≡ order_from most 1 facts → ((place : ℕ) → length known < place → place ≤ most → id_at later place ≡ id_at (facts ++ new) place) → known ++ order_from (most - length known) (length known + 1) later ≡ order_from most 1 (facts ++ new)

@@ -2,6 +2,7 @@
 use Rattle.std.specs.Prelude.{ℕ, ◌+◌, ◌-◌, ◌*◌, Bool, true, false, not, ◌&&◌, nat_lt, nat_le, min, max, if◌then◌else◌, List, [], ◌∷◌, ◌++◌, length, take, drop, map, filter, Option, Some, None, unwrap_or}
 use Rattle.std.specs.List.{find, list_any}
 use Rattle.std.specs.Option.{is_none}
+use Rattle.std.specs.Ordering.{nat_cmp}
 use Rattle.std.specs.FinMap.Entries.{find as find_key, put}
 use Rattle.cast_types.specs.declared.limits.TheConstants.{MAX_TAIL, MAX_POSITION}
 use Rattle.cast_types.specs.declared.names.GroupNo.{GroupNo}
@@ -12,9 +13,9 @@ use Rattle.cast_order.specs.Order.{Facts, facts_of, id_at, order_from, ids_to_li
 use Rattle.cast_order.specs.Hand.{Hand, hand_of, change_hand, placed}
 
 -- base: how many of the first ids known are forgotten; window: the ids known behind them; later: facts of places past a
--- gap, in order of receipt; places: how many of the first ids known local processes have passed, each at least those that
--- are forgotten; hands: what is kept of local processes that order the view's ABCASTs, or did; closed: whether the order is
--- closed, so that nothing more is learnt
+-- gap, one of each, in rising order of the places; places: how many of the first ids known local processes have passed,
+-- each at least those that are forgotten; hands: what is kept of local processes that order the view's ABCASTs, or did;
+-- closed: whether the order is closed, so that nothing more is learnt
 pub record Log : Type 0 where
   pub group : GroupNo
   pub base : ℕ
@@ -55,10 +56,11 @@ but_log g logs = filter (λ l. not (group_eq l.group g)) logs
 
 -- What is told of the order
 
--- facts with one more, if it is of a place past so many, up to the last one, of which they tell nothing
+-- facts in rising order of their places with one more in its place, if it is of a place past so many, up to the last one,
+-- of which they tell nothing
 abbrev pub with_fact : ℕ → Facts → ℕ → Entry → Facts
 with_fact known facts place id =
-    if nat_lt known place && (nat_le place MAX_POSITION && is_none (id_at facts place)) then facts ++ (place, id) ∷ [] else facts
+    if nat_lt known place && (nat_le place MAX_POSITION && is_none (id_at facts place)) then put nat_cmp place id facts else facts
 
 -- with each of these, in order
 abbrev pub with_facts : ℕ → Facts → Facts → Facts

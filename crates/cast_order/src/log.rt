@@ -15,6 +15,7 @@ use cast_message::{Placement, Tail};
 use cast_types::limits::{MAX_PLACED, MAX_POSITION, MAX_TAIL};
 use cast_types::{Counts, GroupNo, List, NoMemory, Proc, SortedMap};
 use std::alloc::{AllocError, Global};
+use std::collections::BTreeMap;
 use std::marker::Model;
 
 /// What a site keeps of one group's order. Contracts see a `Log`.
@@ -23,7 +24,7 @@ pub struct OrderLog {
     pub group: GroupNo,
     base: u32,
     window: Vec<(Proc, u32)>,
-    later: Vec<(usize, (Proc, u32))>,
+    later: BTreeMap<usize, (Proc, u32)>,
     places: SortedMap<Proc, usize>,
     hands: Vec<OrderHand>,
     closed: bool,
@@ -34,7 +35,7 @@ impl Model for OrderLog {
 
     ghost Value = { Log };
 
-    ghost view = { λ l. record { group = l.group; base = l.base; window = l.window.items; later = l.later.items; places = l.places; hands = l.hands.items; closed = l.closed } };
+    ghost view = { λ l. record { group = l.group; base = l.base; window = l.window.items; later = l.later.entries; places = l.places; hands = l.hands.items; closed = l.closed } };
 }
 
 impl OrderLog {
@@ -46,7 +47,7 @@ impl OrderLog {
             group,
             base: 0,
             window: Vec::new(alloc),
-            later: Vec::new(alloc),
+            later: BTreeMap::new(alloc),
             places: SortedMap::new(alloc),
             hands: Vec::new(alloc),
             closed: false,
@@ -62,7 +63,7 @@ impl OrderLog {
             group: self.group,
             base: self.base,
             window: Vec::from_slice(alloc, &self.window)?,
-            later: Vec::from_slice(alloc, &self.later)?,
+            later: self.later.clone()?,
             places: self.places.copy()?,
             hands: copy_hands(alloc, &self.hands)?,
             closed: self.closed,
@@ -352,40 +353,35 @@ fn remove_first(ids: &mut Vec<(Proc, u32)>, count: usize)
 }
 
 // The first id told for a place.
-fn id_at(facts: &[(usize, (Proc, u32))], place: usize) -> Option<(Proc, u32)>
-    ensures { result ≡ id_at facts.now place }
+fn id_at(facts: &BTreeMap<usize, (Proc, u32)>, place: usize) -> Option<(Proc, u32)>
+    ensures { result ≡ id_at facts.now.entries place }
 {
-    for fact in facts {
-        if fact.0 == place {
-            return Some(fact.1);
-        }
-    }
-    None
+    facts.get(&place).copied()
 }
 
 // Adds a fact of a place past those known, where it is the first one of the place.
 fn add_fact(
-    facts: &mut Vec<(usize, (Proc, u32))>,
+    facts: &mut BTreeMap<usize, (Proc, u32)>,
     known: usize,
     place: usize,
     id: (Proc, u32),
 ) -> Result<(), NoMemory>
-    ensures { OnOk result (facts.new.items ≡ with_fact known facts.old.items place id) }
+    ensures { OnOk result (facts.new.entries ≡ with_fact known facts.old.entries place id) }
 {
     if known < place && place <= MAX_POSITION as usize && id_at(facts, place).is_none() {
-        facts.push((place, id))?;
+        facts.insert(place, id)?;
     }
     Ok(())
 }
 
 // Adds the facts of a place and those after it.
 fn add_facts(
-    facts: &mut Vec<(usize, (Proc, u32))>,
+    facts: &mut BTreeMap<usize, (Proc, u32)>,
     known: usize,
     first: u32,
     ids: &[(Proc, u32)],
 ) -> Result<(), NoMemory>
-    ensures { OnOk result (facts.new.items ≡ with_facts known facts.old.items (enumerate_from first ids.now)) }
+    ensures { OnOk result (facts.new.entries ≡ with_facts known facts.old.entries (enumerate_from first ids.now)) }
 {
     let mut place = first as usize;
     for id in ids {
@@ -399,9 +395,9 @@ fn add_facts(
 fn extend(
     window: &mut Vec<(Proc, u32)>,
     base: u32,
-    facts: &[(usize, (Proc, u32))],
+    facts: &BTreeMap<usize, (Proc, u32)>,
 ) -> Result<(), NoMemory>
-    ensures { OnOk result (window.new.items ≡ with_next base window.old.items facts.now) }
+    ensures { OnOk result (window.new.items ≡ with_next base window.old.items facts.now.entries) }
 {
     for place in base as usize + window.len() + 1..MAX_POSITION as usize + 1 {
         let Some(id) = id_at(facts, place) else {
@@ -420,8 +416,13 @@ fn keep_within(ids: &mut Vec<(Proc, u32)>, cut: &Counts)
 }
 
 // Keeps the facts of places past those known.
-fn keep_past(facts: &mut Vec<(usize, (Proc, u32))>, known: usize)
-    ensures { facts.new.items ≡ past known facts.old.items }
+fn keep_past(facts: &mut BTreeMap<usize, (Proc, u32)>, known: usize)
+    ensures { facts.new.entries ≡ past known facts.old.entries }
 {
-    facts.retain(|fact| known < fact.0);
+    while let Some((place, _)) = facts.first_key_value() {
+        if known < *place {
+            break;
+        }
+        facts.pop_first();
+    }
 }

@@ -9,7 +9,7 @@ pub loop-place-preserved : goal.loop-place-preserved
 loop-place-preserved c =
     let known = c.loop-place.window.items in
     let place = c.loop-place.place in
-    let facts = c.args.facts.now in
+    let facts = c.args.facts.now.entries in
     let told : id_at facts place ≡ Some c.in-Some.id = sym c.id_at.ensures ∙ c.in-Some.is in
     let grown = ap length c.in_ok-push.ensures.items ∙ length_push known c.in-Some.id in
     record {
@@ -21,4 +21,4 @@ loop-place-preserved c =
 
 pub returns-in_default : goal.returns-in_default
 returns-in_default c =
-    no_more c.args.facts.now c.loop-place.window.items _ (MAX_POSITION + 1 - c.loop-place.place) c.loop-place.place (sym c.id_at.ensures ∙ c.in_default.is) c.loop-place.invariant.rest
+    no_more c.args.facts.now.entries c.loop-place.window.items _ (MAX_POSITION + 1 - c.loop-place.place) c.loop-place.place (sym c.id_at.ensures ∙ c.in_default.is) c.loop-place.invariant.rest

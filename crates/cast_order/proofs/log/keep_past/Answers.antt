@@ -1,6 +1,8 @@
-use Rattle.std.proofs.Common.{rules}
-use Rattle.std.proofs.lemmas.Fn.{filter_same}
+use Rattle.std.proofs.Common.{◌∙◌}
+use Rattle.cast_order.proofs.Told.{all_past}
 use Rattle.cast_order.proofs.log.keep_past.Goals as goal
 
-pub returns : goal.returns
-returns c = filter_same _ _ _ (λ x b f' k. search rules) _ _ c.retain.ensures.filtered
+pub returns-then-known-place : goal.returns-then-known-place
+returns-then-known-place c =
+    all_past c.args.known c.in-Some.place.now c.loop-place.facts.entries c.if-known-place.true c.in-Some.ensures.all_from
+    ∙ c.loop-place.invariant

@@ -8,7 +8,7 @@ pub returns : goal.returns
 returns c =
     let was = c.self.inside in
     let o = c.args.holder in
-    let l : Log = record { group = was.group; base = was.base; window = was.window.items; later = was.later.items; places = was.places; hands = was.hands.items; closed = was.closed } in
+    let l : Log = record { group = was.group; base = was.base; window = was.window.items; later = was.later.entries; places = was.places; hands = was.hands.items; closed = was.closed } in
     let start = c.max-start.result in
     let same : length_of l ≡ length_of c.args.self.now = ap length_of c.self.view_is in
     let known = c.length-known.ensures in
