@@ -1,15 +1,16 @@
 -- The greatest count of a set, and so of the messages of a source that were received.
-use Rattle.std.proofs.Common.{◌≡◌, ℕ, ◌<◌, ◌≤◌, ◌⊎◌, max, true, List, [], ◌∷◌, refl, sym, subst, ◌∙◌, inl, inr, arith}
+use Rattle.std.proofs.Common.{◌≡◌, ℕ, zero, suc, ◌+◌, ◌-◌, ◌<◌, ◌≤◌, ◌⊎◌, max, true, Some, List, [], ◌∷◌, length, refl, sym, subst, ◌∙◌, inl, inr, arith}
 use Rattle.std.specs.Prelude.{◌&&◌, ◌==◌, nat_lt, nat_le}
-use Rattle.std.specs.List.{list_any, fold}
+use Rattle.std.specs.List.{list_any, fold, slice_get}
 use Rattle.std.proofs.Math.Nat.{le-max_left, le-max_right}
-use Rattle.std.proofs.lemmas.Bool.{and_parts, and_from, or_cases, or_left, or_right, cases_lt, lt-ltb, le-leb, leb-true, eq-eqb, eqb-true}
+use Rattle.std.proofs.lemmas.Bool.{and_parts, and_from, or_cases, or_left, or_right, cases_lt, lt-ltb, ltb-true, le-leb, leb-true, eq-eqb, eqb-true}
+use Rattle.std.proofs.lemmas.Option.{none-some, same_Some, slice_get_within}
 use Rattle.cast_types.specs.declared.names.Uid.{Uid}
 use Rattle.cast_types.specs.declared.source.Source.{Source}
 use Rattle.cast_types.specs.Names.{uid_eq, named}
 use Rattle.cast_types.specs.Sets.{is_among}
 use Rattle.cast_types.specs.Sources.{source_of}
-use Rattle.cast_stable.specs.Runs.{Run, contains, greatest}
+use Rattle.cast_stable.specs.Runs.{Run, rises_above, is_run, contains, greatest}
 use Rattle.cast_stable.specs.Acks.{Acks, received_run, last_received_in}
 use Rattle.cast_stable.specs.Fits.{Past, Fits, SaysLast}
 
@@ -38,6 +39,25 @@ greatest_reached a (x ∷ xs) = elim (greatest_reached (max a x) xs) [
   ]
   | inr later ↦ inr (or_right (x == fold max (max a x) xs) (list_any (λ y. y == fold max (max a x) xs) xs) later)
 ]
+
+-- of numbers that rise from above the first it is the last
+fold_last : (a n i k : ℕ) (xs : List ℕ) → a ≤ n → rises_above n xs ≡ true → i + 1 ≡ length xs → slice_get xs i ≡ Some k → fold max a xs ≡ k
+fold_last a n i k [] le rise end at = absurd (none-some k at)
+fold_last a n zero k (x ∷ []) le rise end at =
+    let lt : n < x = ltb-true n x (and_parts (nat_lt n x) true rise).0 in
+    let most : max a x ≡ x = omega (arith, le, lt) in
+    most ∙ same_Some x k at
+fold_last a n zero k (x ∷ y ∷ xs) le rise end at = absurd (omega (arith, end))
+fold_last a n (suc j) k (x ∷ xs) le rise end at =
+    let parts = and_parts (nat_lt n x) (rises_above x xs) rise in
+    let lt : n < x = ltb-true n x parts.0 in
+    fold_last (max a x) x j k xs (omega (arith, le, lt)) parts.1 (omega (arith, end)) at
+
+-- so the greatest count of a set is the last of the further ones
+pub greatest_last : (r : Run) (k : ℕ) → is_run r ≡ true → slice_get r.above (length r.above - 1) ≡ Some k → greatest r ≡ k
+greatest_last r k h at =
+    let within = slice_get_within r.above (length r.above - 1) k at in
+    fold_last r.upto (r.upto + 1) (length r.above - 1) k r.above (omega arith) h (omega (arith, within)) at
 
 -- no count of a set is above its greatest
 pub greatest_most : (r : Run) (k : ℕ) → contains r k ≡ true → k ≤ greatest r

@@ -1,6 +1,7 @@
--- What the contracts of maps say, in the words of lists of entries.
+-- What the contracts of maps and sets say, in the words of lists.
 use Rattle.std.proofs.Common.{◌≡◌, List, [], ◌∷◌, cond, Some, Ordering, Less, Equal, Greater, refl, sym, ap, ◌∙◌}
 use Rattle.std.specs.BTreeMap.{is_at, insert_entry}
+use Rattle.std.specs.BTreeSet.{insert_key}
 use Rattle.std.specs.Cmp.{IsTotalOrder}
 use Rattle.std.specs.FinMap.Entries.{by_order, find, put}
 use Rattle.std.specs.List.Sorted.{IsStrictlySortedBy}
@@ -10,6 +11,7 @@ use Rattle.std.proofs.lemmas.Map.{lookup-none}
 use Rattle.std.proofs.lemmas.Map.Entries.{none_below_head}
 use Rattle.std.proofs.lemmas.Map.Keys.{sorted_tail}
 use Rattle.std.proofs.lemmas.Option.{none-some}
+use Rattle.cast_types.specs.Sets.{with_item, at_order}
 
 module _ {K V : Type 0} (R : K → K → Ordering) where
   -- what is looked up is found
@@ -36,3 +38,13 @@ module _ {K V : Type 0} (R : K → K → Ordering) where
         | Equal ↦ λ _ _. refl
         | Greater ↦ λ _ later. ap (λ rest. e ∷ rest) (set_puts total k v w es (sorted_tail R e.0 (keys_of es) sorted) later)
       ] refl found
+
+-- a key is inserted where it is added
+pub insert_key_adds : {K : Type 0} (R : K → K → Ordering) (k : K) (ks : List K) → insert_key R ks k ≡ with_item R k ks
+insert_key_adds R k [] = refl
+insert_key_adds R k (x ∷ xs) =
+    elim (R k x) as (λ o. match_ordering o (k ∷ x ∷ xs) (x ∷ xs) (x ∷ insert_key R xs k) ≡ at_order o (k ∷ x ∷ xs) (x ∷ xs) (x ∷ with_item R k xs)) [
+      | Less ↦ refl
+      | Equal ↦ refl
+      | Greater ↦ ap (λ ys. x ∷ ys) (insert_key_adds R k xs)
+    ]

@@ -1,9 +1,9 @@
 -- Sets of counts as runs: what a further count changes, and that the one after the run is not in the set.
-use Rattle.std.proofs.Common.{◌≡◌, ℕ, suc, ◌+◌, ◌<◌, ◌≤◌, Bool, true, false, ◌&&◌, ◌||◌, List, [], ◌∷◌, drop, Less, Equal, Greater, refl, sym, ap, subst, ◌∙◌, inl, inr, arith}
+use Rattle.std.proofs.Common.{◌≡◌, ℕ, suc, ◌+◌, ◌<◌, ◌≤◌, Bool, true, false, ◌&&◌, ◌||◌, List, [], ◌∷◌, drop, Some, unwrap_or, Less, Equal, Greater, refl, sym, ap, subst, ◌∙◌, inl, inr, arith}
 use Rattle.std.specs.Prelude.{◌==◌, nat_lt, nat_le, if◌then◌else◌}
 use Rattle.std.specs.Ordering.{nat_cmp}
 use Rattle.std.specs.Cmp.{nat_cmp_is}
-use Rattle.std.specs.List.{list_any}
+use Rattle.std.specs.List.{list_any, slice_get}
 use Rattle.std.proofs.Math.Bool.{or_assoc, or_comm}
 use Rattle.std.proofs.lemmas.Bool.{and_parts, and_from, or_cases, or_left, or_right, cases_lt, cases_eq, lt-ltb, ltb-true, le-leb, leb-true, leb-false, lt-leb, eq-eqb, eqb-true, eqb-false, false_from_ne_true}
 use Rattle.cast_types.specs.Sets.{with_item, at_order}
@@ -49,6 +49,12 @@ going_on n m ms b = if b then ((run_after m ms).0, suc (run_after m ms).1) else 
 
 abbrev absorbing : ℕ → ℕ → List ℕ → Bool → Run
 absorbing n m ms b = record { upto = (going_on n m ms b).0; above = drop (going_on n m ms b).1 (m ∷ ms) }
+
+-- where the first count does not go on with the run, none does
+pub absorbed_apart : (n m : ℕ) (ms : List ℕ) → slice_get ms 0 ≡ Some m → (m ≡ n + 1 → ⊥) → absorbed n ms ≡ record { upto = n; above = ms }
+absorbed_apart n m [] first apart = refl
+absorbed_apart n m (x ∷ ms) first apart =
+    ap (λ b. absorbing n x ms b) (false_from_ne_true (x == n + 1) (λ e. apart (sym (ap (λ o. unwrap_or o m) first) ∙ eqb-true x (n + 1) e)))
 
 -- what joins the run leaves a run
 pub absorbed_is : (n : ℕ) (ms : List ℕ) → rises_above n ms ≡ true → is_run (absorbed n ms) ≡ true

@@ -1,8 +1,9 @@
-ghost use Rattle.std.specs.Prelude.{◌≡◌, ℕ, ◌+◌, ◌<◌, ◌≤◌, ◌||◌, ◌==◌, true, false, OnOk, OnErr, IfOk, length};
-ghost use Rattle.cast_stable.specs.Runs.{no_counts, contains, greatest, run_after, absorbed, inserted};
+ghost use Rattle.std.specs.Prelude.{◌≡◌, ℕ, ◌+◌, ◌<◌, ◌≤◌, ◌||◌, ◌==◌, true, false, OnOk, OnErr, IfOk};
+ghost use Rattle.cast_stable.specs.Runs.{no_counts, contains, greatest, absorbed, inserted};
 
-use cast_types::{NoMemory, sorted};
+use cast_types::NoMemory;
 use std::alloc::Global;
+use std::collections::BTreeSet;
 use std::marker::Model;
 
 /// A set of counts from 1 on. Counts without a gap from 1 on take no memory. Contracts see a `Run`.
@@ -10,8 +11,8 @@ use std::marker::Model;
 pub struct Counted {
     // All counts from 1 to this one are in the set.
     upto: u32,
-    // The further ones in rising order, each above `upto + 1`.
-    above: Vec<u32>,
+    // The further ones, each above `upto + 1`.
+    above: BTreeSet<u32>,
 }
 
 impl Model for Counted {
@@ -20,9 +21,9 @@ impl Model for Counted {
 
     ghost Value = { Run };
 
-    ghost view = { λ c. record { upto = c.upto; above = c.above.items } };
+    ghost view = { λ c. record { upto = c.upto; above = c.above.keys } };
 
-    ghost invariant = { λ c. IsTrue (is_run (record { upto = c.upto; above = c.above.items })) };
+    ghost invariant = { λ c. IsTrue (is_run (record { upto = c.upto; above = c.above.keys })) };
 }
 
 impl Clone for Counted {
@@ -42,7 +43,7 @@ impl Counted {
     {
         Counted {
             upto: 0,
-            above: Vec::new(alloc),
+            above: BTreeSet::new(alloc),
         }
     }
 
@@ -59,7 +60,7 @@ impl Counted {
             self.upto = absorb(count, &mut self.above);
             return Ok(());
         }
-        sorted::insert(&mut self.above, count)?;
+        self.above.insert(count)?;
         Ok(())
     }
 
@@ -83,9 +84,10 @@ impl Counted {
     pub fn greatest(&self) -> u32
         ensures value { result ≡ greatest self.now }
     {
-        self.above
-            .iter()
-            .fold(self.upto, |greatest, count| greatest.max(*count))
+        match self.above.last() {
+            Some(last) => *last,
+            None => self.upto,
+        }
     }
 
     /// An equal value.
@@ -94,32 +96,25 @@ impl Counted {
     {
         Ok(Counted {
             upto: self.upto,
-            above: Vec::from_slice(*self.above.allocator(), &self.above)?,
+            above: self.above.clone()?,
         })
     }
 }
 
-// The last count of the run that goes on from a count. What the run takes leaves the list.
-fn absorb(count: u32, above: &mut Vec<u32>) -> u32
-    ensures last { result ≡ (absorbed count above.old.items).upto }
-    ensures rest { above.new.items ≡ (absorbed count above.old.items).above }
-{
-    let (last, taken) = run_after(count, above);
-    above.drain(..taken);
-    last
-}
-
-// The last count of the run that goes on from a count, and how many counts from the list's front it takes.
-fn run_after(count: u32, above: &[u32]) -> (u32, usize)
-    ensures run { result ≡ run_after count above.now }
-    ensures within { result.1 ≤ length above.now }
+// The last count of the run that goes on from a count. What the run takes leaves the set.
+fn absorb(count: u32, above: &mut BTreeSet<u32>) -> u32
+    ensures last { result ≡ (absorbed count above.old.keys).upto }
+    ensures rest { above.new.keys ≡ (absorbed count above.old.keys).above }
 {
     let mut last = count;
-    for (taken, next) in above.iter().enumerate() {
+    while let Some(next) = above.first() {
         if last.checked_add(1) != Some(*next) {
-            return (last, taken);
+            return last;
         }
         last = *next;
+        above.pop_first();
     }
-    (last, above.len())
+    // An emptied set keeps a node until it is cleared.
+    above.clear();
+    last
 }

@@ -5,5 +5,5 @@ use Rattle.cast_stable.proofs.counted.Counted.upto.Goals as goal
 
 pub returns-clause-next : goal.returns-clause-next
 returns-clause-next c =
-    let run : Run = record { upto = c.self.inside.upto; above = c.self.inside.above.items } in
+    let run : Run = record { upto = c.self.inside.upto; above = c.self.inside.above.keys } in
     subst (λ r. contains r (c.self.inside.upto + 1) ≡ false) c.self.view_is (next_apart run c.self.invariant)
