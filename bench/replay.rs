@@ -24,6 +24,8 @@
 //!   and both become stable;
 //! - `sender-N`: three sites with a member each; in each round 1.1 casts N times, and each of the other sites acknowledges each cast;
 //! - `receiver-N`: so N messages of 2.1 come in each round, of which all but the last N are said to be stable;
+//! - `wanting-N`: site 1 is the home, and the view of 2.1 and 3.1 ends, of which site 3 lacks N messages of 2.1; in each round one of them
+//!   is forwarded;
 //! - `partition-N`: 1.1 casts N times in a view with a member at each of 14 other sites, none of which answers; in each round all that
 //!   is owed falls due.
 
@@ -424,6 +426,40 @@ fn partition(casts: usize, rounds: usize) -> Vec<String> {
     events
 }
 
+/// A site asks the home for the next change of its: that its process of this serial joins.
+fn ask(site: usize, number: usize, serial: usize) -> String {
+    format!("{}01{}", header(4, site, 1, number), member((site, serial)))
+}
+
+fn installed(site: usize, view: usize) -> String {
+    header(11, site, 1, view)
+}
+
+/// A site reports that it has had so many messages of 2.1, and keeps these.
+fn flushed(site: usize, view: usize, had: usize, kept: usize) -> String {
+    let counts = if had > 0 { format!("01{}", name(2, had)) } else { "00".to_string() };
+    let names: Vec<String> = (1..=kept).map(|count| name(2, count) + "00").collect();
+    format!("{}{counts}000000000000{kept:04x}{}", header(7, site, 1, view), names.concat())
+}
+
+/// The home ends the view of 2.1 and 3.1, and wants for site 3 what only site 2 keeps.
+fn wanting(many: usize, rounds: usize) -> Vec<String> {
+    let mut events = vec![
+        ask(2, 1, 1),
+        installed(2, 1),
+        ask(3, 1, 1),
+        flushed(2, 1, 0, 0),
+        installed(2, 2),
+        installed(3, 2),
+        ask(2, 2, 2),
+        flushed(3, 2, 0, 0),
+        flushed(2, 2, many, many),
+    ];
+    let forward = |count: usize| message(1, 2, count, 0, CAUSAL, &payload()).replacen("43440101", "43440109", 1);
+    events.extend((1..=rounds).map(forward));
+    events
+}
+
 /// The lines of a case behind those that open the first program of each domain, without the takes.
 fn events(case: &str, rounds: usize) -> Option<Vec<String>> {
     let by_round = |holder: usize, round: fn(usize) -> Vec<String>| {
@@ -465,6 +501,7 @@ fn events(case: &str, rounds: usize) -> Option<Vec<String>> {
             events.extend((1..=rounds).flat_map(|number| round(number, many)));
             Some(events)
         }
+        Some(("wanting", many)) => Some(wanting(many.parse().ok()?, rounds)),
         Some(("partition", casts)) => Some(partition(casts.parse().ok()?, rounds)),
         Some(("tenants", _)) => {
             let (domains, programs) = tenants_of(case)?;
@@ -489,11 +526,13 @@ fn script(case: &str, rounds: usize) -> Option<String> {
     let sites = match case.split_once('-') {
         Some(("partition", _)) => sites.join(","),
         Some(("members" | "crowds" | "sender" | "receiver", _)) => "1,2,3,9".to_string(),
+        Some(("wanting", _)) => "1,2,3".to_string(),
         _ => "1,2,9".to_string(),
     };
+    let home = if case.starts_with("wanting") { 1 } else { 9 };
     let mut text = "site 1\n".to_string();
     for domain in 1..=domains {
-        writeln!(text, "domain {domain} home 9 sites {sites} groups {} quotas 64 1024 4096 {RESEND}", groups.join(","))
+        writeln!(text, "domain {domain} home {home} sites {sites} groups {} quotas 64 1024 4096 {RESEND}", groups.join(","))
             .expect("a string takes all that is written");
     }
     for domain in 1..=domains {
@@ -513,7 +552,7 @@ fn main() {
     };
     let Some(text) = text else {
         eprintln!(
-            "replay kept-N|views|holder|follower|sessions|tokens|waiting-N|lost-N|members-N|groups-N|opened-N|passes-N|tenants-N-P|partition-N ROUNDS FILE"
+            "replay kept-N|views|holder|follower|sessions|tokens|waiting-N|lost-N|members-N|groups-N|opened-N|passes-N|wanting-N|tenants-N-P|partition-N ROUNDS FILE"
         );
         process::exit(2);
     };
