@@ -1,6 +1,6 @@
 ghost use Rattle.std.specs.Prelude.{◌≡◌, ◌<◌, ◌&&◌, ◌==◌, true, false, IfOk, OnOk, vec_len, not};
 ghost use Rattle.cast_rules.specs.Rules.Home.{wants, announce, decide, lead, lead_group, owe_of_home, prepare, start, want, want_bodies};
-ghost use Rattle.cast_domain.specs.Records.{GivesBack, Keeps, KeepsBeside, records_in, Makes, MakesAlone, StaysUnless};
+ghost use Rattle.cast_domain.specs.Records.{GivesBack, KeepsBeside, records_in, Makes, StaysUnless};
 ghost use Rattle.cast_domain.specs.Calls.{records, record_at};
 ghost use Rattle.std.specs.List.{fold, list_any};
 ghost use Rattle.cast_view.specs.Home.{may_start, may_decide};
@@ -42,8 +42,7 @@ fn lead_group(domain: &mut Domain, place: usize, lent: &mut Lent<'_>) -> Result<
     ensures told { IfOk result (λ changed. changed ≡ leads_in (records_in domain.old lent.old) place) }
     ensures len { vec_len domain.new.groups ≡ vec_len domain.old.groups }
 {
-    let started = start(domain, place, lent)?;
-    reckon(domain, place)?;
+    let started = start_and_reckon(domain, place, lent)?;
     let wanted = want_bodies(domain, place, lent)?;
     let decided = decide(domain, place, lent)?;
     Ok(started | wanted | decided)
@@ -66,14 +65,23 @@ fn start(domain: &mut Domain, place: usize, lent: &mut Lent<'_>) -> Result<bool,
     Ok(true)
 }
 
-// What some sites lack is reckoned once, and not in each pass.
-fn reckon(domain: &mut Domain, place: usize) -> Result<(), NoMemory>
+// The home starts a flush where something is to change. What some sites lack is reckoned once, and not in each pass. Answers whether
+// it started one.
+fn start_and_reckon(
+    domain: &mut Domain,
+    place: usize,
+    lent: &mut Lent<'_>,
+) -> Result<bool, NoMemory>
     requires { place < vec_len domain.old.groups }
-    ensures same { Keeps domain.old domain.new }
-    ensures made { MakesAlone (λ r. r) domain.old domain.new }
+    ensures stays { KeepsBeside domain.old lent.old domain.new lent.new }
+    ensures made { OnOk result (Makes (λ r. start records r place) domain.old lent.old domain.new lent.new) }
+    ensures still { IfOk result (StaysUnless domain.old lent.old domain.new lent.new) }
+    ensures told { IfOk result (λ changed. changed ≡ may_start (record_at domain.old.groups.items place).home) }
     ensures len { vec_len domain.new.groups ≡ vec_len domain.old.groups }
 {
-    reckon_at(&mut domain.groups, place)
+    let started = start(domain, place, lent)?;
+    reckon_at(&mut domain.groups, place)?;
+    Ok(started)
 }
 
 // The home owes Want for messages that some sites lack. Answers whether one of them was not owed.
