@@ -3,7 +3,6 @@
 //! - `queues`, `streams`, `texts`: parts of a domain, streams of programs, scripts. That a call
 //!   succeeds where there is memory is seen where `cast_trials` and `cast_refusals` run.
 //! - `schedules`: schedules over several sites that `cast_world` runs, and what was delivered.
-//! - `speeds`: how many casts may be on their way, by the time that acknowledgements take.
 //! - `workers`: the table that workers share. A worker that waits before or behind the lock keeps
 //!   no other from its work. Each job is done once and counted, while the trace is trimmed.
 #![tactic(auto)]
@@ -16,8 +15,6 @@ mod queues;
 mod rows;
 #[cfg(test)]
 mod schedules;
-#[cfg(test)]
-mod speeds;
 #[cfg(test)]
 mod streams;
 #[cfg(test)]
