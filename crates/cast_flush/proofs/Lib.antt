@@ -4,4 +4,3 @@ pub mod Cuts
 pub mod Lacking
 pub mod Ends
 pub mod Kept
-pub mod Added

@@ -1,13 +1,13 @@
 -- The order told: what is told of a place, and how the order grows with what is told.
-use Rattle.std.proofs.Common.{◌≡◌, ℕ, zero, suc, ◌+◌, ◌-◌, ◌<◌, ◌≤◌, Bool, true, false, cond, ◌&&◌, List, [], ◌∷◌, ◌++◌, length, Less, Equal, Greater, Option, Some, None, slice_get, refl, sym, ap, subst, ◌∙◌, inl, inr, arith}
+use Rattle.std.proofs.Common.{◌≡◌, ℕ, zero, suc, ◌+◌, ◌-◌, ◌<◌, ◌≤◌, Bool, true, false, cond, ◌&&◌, List, [], ◌∷◌, ◌++◌, length, Option, Some, None, slice_get, refl, sym, ap, subst, ◌∙◌, inl, inr, arith}
 use Rattle.std.specs.Prelude.{◌==◌, nat_lt, nat_le}
 use Rattle.std.specs.List.{find, All}
 use Rattle.std.specs.Map.{keys_of, lookup}
-use Rattle.std.specs.BTreeMap.{is_at, insert_entry}
+use Rattle.std.specs.BTreeMap.{is_at}
 use Rattle.std.specs.BTreeMap.Range.{IsLeBy}
-use Rattle.std.specs.Ordering.{nat_cmp, eq_by_cmp, match_ordering}
+use Rattle.std.specs.Ordering.{nat_cmp, eq_by_cmp}
 use Rattle.std.specs.Cmp.{unsigned_tied}
-use Rattle.std.specs.FinMap.Entries.{find as find_key, put, find-put, by_order}
+use Rattle.std.specs.FinMap.Entries.{find as find_key, put, find-put}
 use Rattle.std.proofs.lemmas.Cmp.{nat_cmp_total}
 use Rattle.std.proofs.lemmas.Bool.Decides.{nat_tests}
 use Rattle.std.specs.Option.{option_or, option_map, is_none}
@@ -17,6 +17,7 @@ use Rattle.std.proofs.lemmas.List.Folds.{find-append}
 use Rattle.std.proofs.lemmas.Map.Keys.{le_from_not_gt}
 use Rattle.cast_types.specs.declared.limits.TheConstants.{MAX_POSITION}
 use Rattle.cast_types.specs.Names.{Entry}
+use Rattle.cast_types.proofs.Maps.{lookup_finds}
 use Rattle.cast_order.specs.Order.{Facts, id_at, order_from, known_order, IsKnownOrder, KnownOrderInWords}
 use Rattle.cast_order.specs.Log.{with_fact, with_facts, past}
 use Rattle.cast_order.proofs.Lists.{or_none, or_again, find_kept}
@@ -152,21 +153,7 @@ by_place place (f ∷ facts) =
 
 -- and so does one in a map
 pub looked_up : (place : ℕ) (facts : Facts) → lookup (is_at (nat_cmp place)) facts ≡ id_at facts place
-looked_up place facts = as_found facts ∙ by_place place facts
-  where
-    as_found : (facts : Facts) → lookup (is_at (nat_cmp place)) facts ≡ find_key nat_cmp place facts
-    as_found [] = refl
-    as_found (f ∷ facts) = ap (cond (eq_by_cmp nat_cmp place f.0) (Some f.1)) (as_found facts)
-
--- a map takes in a fact at its place
-pub inserted : (q : ℕ) (e : Entry) (facts : Facts) → insert_entry nat_cmp facts q e ≡ put nat_cmp q e facts
-inserted q e [] = refl
-inserted q e (f ∷ facts) =
-    elim (nat_cmp q f.0) as (λ o. match_ordering o ((q, e) ∷ f ∷ facts) ((f.0, e) ∷ facts) (f ∷ insert_entry nat_cmp facts q e) ≡ by_order o ((q, e) ∷ f ∷ facts) ((f.0, e) ∷ facts) (f ∷ put nat_cmp q e facts)) [
-      | Less ↦ refl
-      | Equal ↦ refl
-      | Greater ↦ ap (λ rest. f ∷ rest) (inserted q e facts)
-    ]
+looked_up place facts = lookup_finds nat_cmp place facts ∙ by_place place facts
 
 -- a fact of a place of which nothing is told is told there, and changes no other place
 put_told : (q : ℕ) (e : Entry) (facts : Facts) → is_none (id_at facts q) ≡ true → (place : ℕ) → id_at (put nat_cmp q e facts) place ≡ option_or (id_at facts place) (id_at ((q, e) ∷ []) place)

@@ -4,4 +4,3 @@ pub mod Lists
 pub mod Greatest
 pub mod Meanings
 pub mod Last
-pub mod Maps

@@ -9,3 +9,4 @@ pub mod Bools
 pub mod Rising
 pub mod Contains
 pub mod Results
+pub mod Maps

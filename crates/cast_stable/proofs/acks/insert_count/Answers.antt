@@ -5,7 +5,7 @@ use Rattle.std.specs.Map.{lookup}
 use Rattle.std.proofs.lemmas.Map.Steps.{set_value_same}
 use Rattle.std.proofs.lemmas.Result.{on_ok_weaker, on_err_weaker}
 use Rattle.cast_stable.specs.Runs.{Run, no_counts, inserted}
-use Rattle.cast_stable.proofs.Maps.{lookup_finds, insert_puts, set_puts}
+use Rattle.cast_types.proofs.Maps.{lookup_finds, insert_puts, set_puts}
 use Rattle.cast_stable.proofs.acks.insert_count.Goals as goal
 
 pub returns-in-Some-clause-ok : goal.returns-in-Some-clause-ok

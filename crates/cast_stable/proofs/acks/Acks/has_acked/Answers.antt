@@ -1,7 +1,7 @@
 use Rattle.std.proofs.Common.{rules}
 use Rattle.cast_types.specs.Sources.{source_of}
 use Rattle.cast_stable.specs.Witnesses.{witness_cmp, witness}
-use Rattle.cast_stable.proofs.Maps.{lookup_finds}
+use Rattle.cast_types.proofs.Maps.{lookup_finds}
 use Rattle.cast_stable.proofs.Meanings.{has_acked_means}
 use Rattle.cast_stable.proofs.acks.Acks.has_acked.Goals as goal
 

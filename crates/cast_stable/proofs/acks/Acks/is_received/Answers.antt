@@ -1,6 +1,6 @@
 use Rattle.std.proofs.Common.{rules}
 use Rattle.cast_types.specs.Sources.{source_cmp, source_of}
-use Rattle.cast_stable.proofs.Maps.{lookup_finds}
+use Rattle.cast_types.proofs.Maps.{lookup_finds}
 use Rattle.cast_stable.proofs.Meanings.{is_received_means}
 use Rattle.cast_stable.proofs.acks.Acks.is_received.Goals as goal
 

@@ -1,7 +1,7 @@
 use Rattle.std.proofs.Common.{rules}
 use Rattle.cast_types.specs.Sources.{source_cmp, source}
 use Rattle.cast_stable.proofs.Last.{last_means}
-use Rattle.cast_stable.proofs.Maps.{lookup_finds}
+use Rattle.cast_types.proofs.Maps.{lookup_finds}
 use Rattle.cast_stable.proofs.acks.Acks.last_received.Goals as goal
 
 pub returns-in-Some-clause-value : goal.returns-in-Some-clause-value

@@ -7,7 +7,7 @@ use Rattle.cast_types.specs.declared.source.Source.{Source}
 use Rattle.cast_types.specs.Sources.{source_cmp, source_of}
 use Rattle.cast_types.proofs.Sources.{source_total}
 use Rattle.cast_stable.specs.Acks.{Acks, told_count, learnt_ledger}
-use Rattle.cast_stable.proofs.Maps.{lookup_finds, insert_puts, set_puts}
+use Rattle.cast_types.proofs.Maps.{lookup_finds, insert_puts, set_puts}
 use Rattle.cast_stable.proofs.acks.Acks.learn_stable.Goals as goal
 
 -- the greater of what was told and of the count is put

@@ -1,6 +1,6 @@
 use Rattle.std.proofs.Common.{rules}
 use Rattle.cast_types.specs.Sources.{source_cmp}
-use Rattle.cast_stable.proofs.Maps.{lookup_finds}
+use Rattle.cast_types.proofs.Maps.{lookup_finds}
 use Rattle.cast_stable.proofs.acks.Acks.told_count.Goals as goal
 
 pub returns-in-Some : goal.returns-in-Some

@@ -2,7 +2,7 @@ use Rattle.std.proofs.Common.{◌≡◌, ◌||◌, ap, ◌∙◌}
 use Rattle.std.specs.Prelude.{◌==◌}
 use Rattle.std.specs.Ordering.{nat_cmp}
 use Rattle.cast_stable.specs.Runs.{Run, contains, inserted}
-use Rattle.cast_stable.proofs.Maps.{insert_key_adds}
+use Rattle.cast_types.proofs.Maps.{insert_key_adds}
 use Rattle.cast_stable.proofs.Runs.{meant, still_run, inserted_next, inserted_apart}
 use Rattle.cast_stable.proofs.counted.Counted.insert.Goals as goal
 

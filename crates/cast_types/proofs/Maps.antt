@@ -1,4 +1,4 @@
--- What the contracts of maps and sets say, in the words of lists.
+-- What the standard library's maps and sets say, in the words of lists.
 use Rattle.std.proofs.Common.{◌≡◌, List, [], ◌∷◌, cond, Some, Ordering, Less, Equal, Greater, refl, sym, ap, ◌∙◌}
 use Rattle.std.specs.BTreeMap.{is_at, insert_entry}
 use Rattle.std.specs.BTreeSet.{insert_key}
