@@ -24,8 +24,8 @@ pub(crate) fn awaits_own(domain: &Domain, process: Proc, lent: &Lent<'_>) -> boo
     false
 }
 
-// Whether it has not of the group at a place. It delivers its own in their order: so where it has delivered the least and the
-// greatest count of those that are kept, it has delivered all.
+// Whether a process has not delivered an ABCAST of its own, of the group at a place. A process delivers its own ABCASTs in their
+// order. So if it has delivered those with the least and the greatest count that are kept, it has delivered all of them.
 fn awaits_own_at(domain: &Domain, place: usize, process: Proc, lent: &Lent<'_>) -> bool
     requires { place < vec_len domain.now.groups }
     ensures some { result ≡ true → awaits_own_in (records_in domain.now lent.now) process ≡ true }

@@ -332,8 +332,8 @@ impl<L: Ledger> Kept<L> {
         Ok(self.trail.cut(room, base))
     }
 
-    /// Lets go of what a domain kept, where the job halted one: trims the trace, since its base and its events hold that too. Where
-    /// memory is refused, nothing is changed, and it goes when the trace is trimmed next.
+    /// If the job halted a domain, trims the trace, since its base and its events hold what that domain kept. If memory is refused,
+    /// nothing is changed, and the next trim lets go of it.
     pub fn let_go(&mut self, done: &Done)
         ensures { IsTrimmedOr (halts done.now.outcome) self.old self.new }
     {
@@ -342,8 +342,8 @@ impl<L: Ledger> Kept<L> {
         }
     }
 
-    /// Does a job, as `serve_one` does, and then, if that may be, lets go of what a domain kept that it halted, as `let_go` does. Whoever
-    /// records the events lets go by cutting the trace: a trim would lose them.
+    /// Does a job, as `serve_one` does. If `may_trim` is set and the job halted a domain, then lets go of what that domain kept, as
+    /// `let_go` does. Whoever records the events cuts the trace instead: a trim would lose them.
     pub fn complete(&mut self, mine: &mut Worked<L>, job: Job, may_trim: bool) -> Done
         requires { 0 < mine.old.parts }
         ensures number { result.number ≡ job.number }
