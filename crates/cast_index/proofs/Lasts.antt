@@ -18,7 +18,7 @@ use Rattle.cast_types.specs.Sources.{source_cmp, source_of}
 use Rattle.cast_types.proofs.Orders.{same_group, same_proc, group_itself, proc_itself}
 use Rattle.cast_types.proofs.Sources.{source_total}
 use Rattle.cast_index.specs.declared.entry.Entry.{Entry}
-use Rattle.cast_index.specs.Index.{entry_cmp, has, is_behind, is_below, is_from, is_upto, lowest_of, IsCountRange, IsFirstEntry, IsLastEntry}
+use Rattle.cast_index.specs.Index.{entry_cmp, has, is_behind, is_below, is_from, is_upto, lowest_of, IsCountRange, IsFirstEntry, IsFirstOf, IsLastEntry}
 use Rattle.cast_index.proofs.Orders.{at_zero, by_source, contained, entry_total, ordered}
 use Rattle.cast_index.proofs.Firsts.{above, further, is_among, more, none_found, none_kept, not_itself, same_entry}
 
@@ -188,9 +188,16 @@ module _ (entries : List Entry) (s : Source) (e : Entry) (last : IsLastEntry ent
       by (inl same) = (same.0 ∙ is, same.1)
       by (inr behind) = absurd (false≢true (sym (ap not (ap (λ t. is_behind (Some t) e.id) (sym is) ∙ behind)) ∙ last.passes))
 
-pub counts : (entries : List Entry) (s : Source) (e f : Entry) → IsFirstEntry entries (is_from (lowest_of s)) e → IsLastEntry entries (λ x. is_upto s x.id) f → source_of e.id ≡ s → IsCountRange entries s (e.id.count, f.id.count)
-counts entries s e f first last is = record {
-  least = (e.id, record { 0 = e.number }, first.there, is, refl);
-  greatest = (f.id, record { 0 = f.number }, last.there, (greatest_of entries s f last e.id (record { 0 = e.number }) first.there is).0, refl);
-  within = λ u k there same. ((least_of entries s e first u k there same).1, (greatest_of entries s f last u k there same).1);
+pub first_of : (entries : List Entry) (s : Source) (e : Entry) → IsFirstEntry entries (is_from (lowest_of s)) e → source_of e.id ≡ s → IsFirstOf entries s (e.id, record { 0 = e.number })
+first_of entries s e first is = record {
+  there = first.there;
+  own = is;
+  least = λ u k there same. (least_of entries s e first u k there same).1;
+}
+
+pub counts : (entries : List Entry) (s : Source) (first : Uid × Key) (f : Entry) → IsFirstOf entries s first → IsLastEntry entries (λ x. is_upto s x.id) f → IsCountRange entries s (first.0.count, f.id.count)
+counts entries s first f is last = record {
+  least = (first.0, first.1, is.there, is.own, refl);
+  greatest = (f.id, record { 0 = f.number }, last.there, (greatest_of entries s f last first.0 first.1 is.there is.own).0, refl);
+  within = λ u k there same. (is.least u k there same, (greatest_of entries s f last u k there same).1);
 }

@@ -73,6 +73,12 @@ pub record IsLastEntry (entries : List Entry) (test : Entry → Bool) (e : Entry
   pub passes : test e ≡ true
   pub last : (u : Uid) (k : Key) → has entries u k ≡ true → test (record { id = u; number = k.0 }) ≡ true → is_le (entry_cmp (record { id = u; number = k.0 }) e) ≡ true
 
+-- an index has an id of a source under a key, and no id of the source has a lower count
+pub record IsFirstOf (entries : List Entry) (s : Source) (first : Uid × Key) : Type 0 where
+  pub there : has entries first.0 first.1 ≡ true
+  pub own : source_of first.0 ≡ s
+  pub least : (u : Uid) (k : Key) → has entries u k ≡ true → source_of u ≡ s → first.0.count ≤ u.count
+
 -- an index has an id of a source with this count
 abbrev pub HasCount : List Entry → Source → ℕ → Type 0
 HasCount entries s count = (u : Uid) × (k : Key) × (has entries u k ≡ true) × (source_of u ≡ s) × (u.count ≡ count)

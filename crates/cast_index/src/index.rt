@@ -6,7 +6,7 @@ ghost use Rattle.cast_types.specs.declared.names.Uid.{Uid};
 ghost use Rattle.cast_types.specs.declared.names.Key.{Key};
 ghost use Rattle.cast_types.specs.Names.{uid_eq};
 ghost use Rattle.cast_types.specs.Sources.{source_of};
-ghost use Rattle.cast_index.specs.Index.{entry_cmp, has, is_below, is_pair, is_behind, is_from, is_upto, left, lowest_of, lowest_past, IsCountRange, IsFirstEntry, IsFirstBehind, IsLastEntry};
+ghost use Rattle.cast_index.specs.Index.{entry_cmp, has, is_below, is_pair, is_behind, is_from, is_upto, left, lowest_of, lowest_past, IsCountRange, IsFirstEntry, IsFirstBehind, IsFirstOf, IsLastEntry};
 
 use crate::entry::Entry;
 use cast_types::{Key, NoMemory, Proc, Source, Uid, source_of};
@@ -94,17 +94,26 @@ impl Index {
         Some(entry.id)
     }
 
-    /// The least and the greatest count of the ids of a source, `None` where it has none. Takes no memory.
-    pub fn count_range(&self, source: Source) -> Option<(u32, u32)>
-        ensures some { IfSome result (IsCountRange self.now source) }
+    /// The least id of a source with a key, `None` where the source has none. Takes no memory.
+    pub fn first_of(&self, source: Source) -> Option<(Uid, Key)>
+        ensures some { IfSome result (IsFirstOf self.now source) }
         ensures none { IfNone result ((u : Uid) (k : Key) → has self.now u k ≡ true → source_of u ≢ source) }
     {
         let least = first_from(&self.entries, lowest_of(source))?;
         if source_of(least.id) != source {
             return None;
         }
+        Some((least.id, Key(least.number)))
+    }
+
+    /// The least and the greatest count of the ids of a source, `None` where it has none. Takes no memory.
+    pub fn count_range(&self, source: Source) -> Option<(u32, u32)>
+        ensures some { IfSome result (IsCountRange self.now source) }
+        ensures none { IfNone result ((u : Uid) (k : Key) → has self.now u k ≡ true → source_of u ≢ source) }
+    {
+        let first = self.first_of(source)?;
         let greatest = last_upto(&self.entries, source)?;
-        Some((least.id.count, greatest.id.count))
+        Some((first.0.count, greatest.id.count))
     }
 }
 

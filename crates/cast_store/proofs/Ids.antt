@@ -12,10 +12,10 @@ use Rattle.cast_types.specs.Sources.{source_of}
 use Rattle.cast_types.proofs.Orders.{same_uid, uid_itself}
 use Rattle.cast_types.proofs.Contains.{contains_here, contains_later}
 use Rattle.cast_index.specs.declared.entry.Entry.{Entry}
-use Rattle.cast_index.specs.Index.{has, is_behind, HasCount, IsCountRange, IsFirstBehind}
+use Rattle.cast_index.specs.Index.{has, is_behind, HasCount, IsCountRange, IsFirstBehind, IsFirstOf}
 use Rattle.cast_index.proofs.Rises.{above_at}
 use Rattle.cast_store.specs.declared.receipt.Receipt.{Receipt}
-use Rattle.cast_store.specs.Lines.{number_of, key_of, is_numbered, slot_under, slot_of, is_named, HasAbcast, HasAbcastRange, HasAbcastsOf, HasIdsOf, HasNoAbcast, IsReceivedOf, IsLedByReceipts}
+use Rattle.cast_store.specs.Lines.{number_of, key_of, is_numbered, slot_under, slot_of, is_named, HasAbcast, HasAbcastRange, HasAbcastsOf, HasIdsOf, HasNoAbcast, HasNoneOf, IsFirstReceipt, IsReceivedOf, IsLedByReceipts}
 use Rattle.cast_store.proofs.Numbers.{first_parts}
 
 same_key : (r : Receipt) (k : Key) → r.number ≡ k.0 → key_of r ≡ k
@@ -231,6 +231,22 @@ first_received Passes entries receipts id key ids there passes =
 pub some_received : (Passes : Uid → Type 0) (entries : List Entry) (receipts : List Receipt) (id : Uid) (o : Option Key) → HasIdsOf entries receipts → IfSome o (λ key. (has entries id key ≡ true) × ((k : Key) → has entries id k ≡ true → key.0 ≤ k.0)) → Passes id → IfSome o (IsReceivedOf Passes receipts)
 some_received Passes entries receipts id None ids found passes = tt
 some_received Passes entries receipts id (Some key) ids found passes = first_received Passes entries receipts id key ids found.0 passes
+
+-- The first of a source
+
+pub first_of_received : (entries : List Entry) (receipts : List Receipt) (s : Source) (o : Option (Uid × Key)) → HasIdsOf entries receipts → IfSome o (IsFirstOf entries s) → IfSome o (IsFirstReceipt receipts s)
+first_of_received entries receipts s None ids found = tt
+first_of_received entries receipts s (Some first) ids found =
+    let r = receipt_of receipts first.0 first.1 (sym (ids first.0 first.1) ∙ found.there) in
+    record {
+      there = (r.0, r.1, r.3, r.2);
+      own = found.own;
+      least = λ x there its. found.least x.id (key_of x) (ids x.id (key_of x) ∙ has_receipt x receipts there) its;
+    }
+
+pub none_of_received : (entries : List Entry) (receipts : List Receipt) (s : Source) (o : Option (Uid × Key)) → HasIdsOf entries receipts → IfNone o ((u : Uid) (k : Key) → has entries u k ≡ true → source_of u ≢ s) → IfNone o (HasNoneOf receipts s)
+none_of_received entries receipts s None ids none = λ r there. none r.id (key_of r) (ids r.id (key_of r) ∙ has_receipt r receipts there)
+none_of_received entries receipts s (Some first) ids none = tt
 
 -- The counts of the ABCASTs of a source
 

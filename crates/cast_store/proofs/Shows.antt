@@ -16,9 +16,9 @@ use Rattle.cast_message.specs.Receipts.{key_eq, message_under}
 use Rattle.cast_index.specs.Rises.{rises, all_below}
 use Rattle.cast_store.specs.declared.receipt.Receipt.{Receipt}
 use Rattle.cast_store.specs.declared.slot.Slot.{Slot}
-use Rattle.cast_store.specs.Ids.{IsKeptOf, IsLedBy, KeepsAbcast, KeepsAbcastRange, KeepsNoAbcast, is_abcast, message_of}
+use Rattle.cast_store.specs.Ids.{IsKeptOf, IsLedBy, KeepsAbcast, KeepsAbcastRange, KeepsFirst, KeepsNoAbcast, KeepsNoneOf, is_abcast, message_of}
 use Rattle.cast_store.specs.Store.{is_rising, key_of}
-use Rattle.cast_store.specs.Lines.{number_of, is_numbered, slot_under, slot_of, message_in, received_by, kept_by, but_number, key_of as receipt_key, HasAbcastRange, HasNoAbcast, IsHeld, IsReceivedOf, IsLedByReceipts}
+use Rattle.cast_store.specs.Lines.{number_of, is_numbered, slot_under, slot_of, message_in, received_by, kept_by, but_number, key_of as receipt_key, HasAbcastRange, HasNoAbcast, HasNoneOf, IsFirstReceipt, IsHeld, IsReceivedOf, IsLedByReceipts}
 
 -- a message with its key
 abbrev pub received : Receipt → Slot → Received
@@ -182,6 +182,26 @@ module _ (slots : ℕ → Option Slot) where
   pub led_by_none : (Fails : Uid → Type 0) (xs : List Receipt) (o : Option Key) → IsHeld slots xs → IfNone o (IsLedByReceipts Fails xs) → IfNone o (IsLedBy Fails (kept_by slots xs))
   led_by_none Fails xs None has led = led_by Fails xs has led
   led_by_none Fails xs (Some k) has led = tt
+
+  -- of the first of a source
+  first_kept : (xs : List Receipt) (s : Source) (first : Uid × Key) → IsHeld slots xs → IsFirstReceipt xs s first → KeepsFirst (kept_by slots xs) s first
+  first_kept xs s first has is =
+      let y = kept_there xs is.there.0 has is.there.1 in
+      record {
+        there = (y.0, y.1, y.3 ∙ is.there.2, y.2 ∙ is.there.3);
+        own = is.own;
+        least = λ z there its.
+            let r = receipt_there xs z has there in
+            subst (λ (u : Uid). first.0.count ≤ u.count) r.2 (is.least r.0 r.1 (ap source_of r.2 ∙ its));
+      }
+
+  pub first_kept_some : (xs : List Receipt) (s : Source) (o : Option (Uid × Key)) → IsHeld slots xs → IfSome o (IsFirstReceipt xs s) → IfSome o (KeepsFirst (kept_by slots xs) s)
+  first_kept_some xs s None has is = tt
+  first_kept_some xs s (Some first) has is = first_kept xs s first has is
+
+  pub none_kept_none : (xs : List Receipt) (s : Source) (o : Option (Uid × Key)) → IsHeld slots xs → IfNone o (HasNoneOf xs s) → IfNone o (KeepsNoneOf (kept_by slots xs) s)
+  none_kept_none xs s None has none = λ y there its. let r = receipt_there xs y has there in none r.0 r.1 (ap source_of r.2 ∙ its)
+  none_kept_none xs s (Some first) has none = tt
 
   -- and of the ABCASTs of a source
   abcast_range : (xs : List Receipt) (s : Source) (range : ℕ × ℕ) → IsHeld slots xs → HasAbcastRange xs s range → KeepsAbcastRange (kept_by slots xs) s range

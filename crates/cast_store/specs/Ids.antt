@@ -1,5 +1,5 @@
 -- What a store says of the ids of its messages.
-use Rattle.std.specs.Prelude.{◌≡◌, ◌≤◌, ℕ, Bool, true, false, List, Contains, Option}
+use Rattle.std.specs.Prelude.{◌≡◌, ◌≢◌, ◌≤◌, ℕ, Bool, true, false, List, Contains, Option}
 use Rattle.std.specs.List.{find}
 use Rattle.std.specs.Option.{option_map}
 use Rattle.cast_types.specs.declared.names.Key.{Key}
@@ -22,6 +22,16 @@ IsKeptOf Passes kept key = (r : Received) × Contains kept r × (r.key ≡ key) 
 -- of each message's source a message is kept that has no greater count, and whose id a test is true of
 abbrev pub IsLedBy : (Uid → Type 0) → List Received → Type 0
 IsLedBy Fails kept = (r : Received) → Contains kept r → (s : Received) × Contains kept s × (source_of s.message.id ≡ source_of r.message.id) × (s.message.id.count ≤ r.message.id.count) × Fails s.message.id
+
+-- a message of a source is kept with this id and under this key, and none of the source with a lower count
+pub record KeepsFirst (kept : List Received) (s : Source) (first : Uid × Key) : Type 0 where
+  pub there : (r : Received) × Contains kept r × (r.message.id ≡ first.0) × (r.key ≡ first.1)
+  pub own : source_of first.0 ≡ s
+  pub least : (r : Received) → Contains kept r → source_of r.message.id ≡ s → first.0.count ≤ r.message.id.count
+
+-- no message of a source is kept
+abbrev pub KeepsNoneOf : List Received → Source → Type 0
+KeepsNoneOf kept s = (r : Received) → Contains kept r → source_of r.message.id ≢ s
 
 -- whether a message is an ABCAST
 abbrev pub is_abcast : Message → Bool

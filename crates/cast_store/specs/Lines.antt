@@ -54,6 +54,16 @@ IsReceivedOf Passes receipts key = (r : Receipt) × Contains receipts r × (reco
 abbrev pub IsLedByReceipts : (Uid → Type 0) → List Receipt → Type 0
 IsLedByReceipts Fails receipts = (r : Receipt) → Contains receipts r → (s : Receipt) × Contains receipts s × (source_of s.id ≡ source_of r.id) × (s.id.count ≤ r.id.count) × Fails s.id
 
+-- a receipt of a source has this id and number, and none of the source has a lower count
+pub record IsFirstReceipt (receipts : List Receipt) (s : Source) (first : Uid × Key) : Type 0 where
+  pub there : (r : Receipt) × Contains receipts r × (r.id ≡ first.0) × (key_of r ≡ first.1)
+  pub own : source_of first.0 ≡ s
+  pub least : (r : Receipt) → Contains receipts r → source_of r.id ≡ s → first.0.count ≤ r.id.count
+
+-- no receipt is of a source
+abbrev pub HasNoneOf : List Receipt → Source → Type 0
+HasNoneOf receipts s = (r : Receipt) → Contains receipts r → source_of r.id ≢ s
+
 -- whether an id and a key are a receipt's
 abbrev pub is_named : Uid → Key → Receipt → Bool
 is_named u k r = is_pair r.id (record { 0 = r.number }) u k

@@ -6,7 +6,7 @@ ghost use Rattle.cast_types.specs.declared.names.Uid.{Uid};
 ghost use Rattle.cast_index.specs.Index.{has};
 ghost use Rattle.cast_index.specs.Rises.{rises};
 ghost use Rattle.cast_store.specs.declared.receipt.Receipt.{Receipt};
-ghost use Rattle.cast_store.specs.Lines.{is_abcast_named, is_named, is_numbered, key_of, number_of, slot_of, slot_with, slot_under, with_receipt, without_number, HasAbcastRange, HasNoAbcast, IsFilled, IsLedByReceipts, IsReceivedOf};
+ghost use Rattle.cast_store.specs.Lines.{is_abcast_named, is_named, is_numbered, key_of, number_of, slot_of, slot_with, slot_under, with_receipt, without_number, HasAbcastRange, HasNoAbcast, HasNoneOf, IsFilled, IsFirstReceipt, IsLedByReceipts, IsReceivedOf};
 ghost use Rattle.slab.specs.Slab.{get as slot_at};
 
 use crate::receipt::Receipt;
@@ -145,7 +145,7 @@ impl Row {
         self.slot_under(key)
     }
 
-    /// The key of a message that passes, none only where of each message's source one with no greater count fails.
+    /// The key of a message that passes. `None` says that each message has one of its source, with no greater count, that fails.
     pub(crate) fn first_passing<F: Fn(Uid) -> bool>(&self, passes: F) -> Option<Key>
         requires { F.IsAlwaysCallable passes }
         ensures some { IfSome result (IsReceivedOf (λ id. F.post passes id true) self.now.receipts) }
@@ -159,6 +159,14 @@ impl Row {
             after = Some(source_of(id));
         }
         None
+    }
+
+    /// Of the messages of a source, the id and the key of the one with the least count.
+    pub(crate) fn first_of(&self, source: Source) -> Option<(Uid, Key)>
+        ensures some { IfSome result (IsFirstReceipt self.now.receipts source) }
+        ensures none { IfNone result (HasNoneOf self.now.receipts source) }
+    {
+        self.ids.all.first_of(source)
     }
 
     /// The least and the greatest count of the ABCASTs of a source, `None` where there is none.

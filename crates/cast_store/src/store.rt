@@ -2,7 +2,7 @@ ghost use Rattle.std.specs.Prelude.{◌≡◌, ◌≢◌, ◌<◌, ◌+◌, ◌�
 ghost use Rattle.std.specs.Option.{option_copied, option_map};
 ghost use Rattle.cast_types.specs.declared.names.DomainNo.{DomainNo};
 ghost use Rattle.cast_message.specs.Receipts.{key_eq, message_under};
-ghost use Rattle.cast_store.specs.Ids.{IsKeptOf, IsLedBy, KeepsAbcastRange, KeepsNoAbcast, message_of};
+ghost use Rattle.cast_store.specs.Ids.{IsKeptOf, IsLedBy, KeepsAbcastRange, KeepsFirst, KeepsNoAbcast, KeepsNoneOf, message_of};
 ghost use Rattle.cast_store.specs.Store.{kept_in, next_in, is_rising};
 ghost use Rattle.cast_store.specs.Lines.{line_of, line_or_empty, message_in, only, receipts_in, receipts_of, slot_under, slot_with, with_receipt, without_number, ChangesLine, IsEmptied, IsFilled, IsPadded};
 ghost use Rattle.slab.specs.Slab.{get as slot_at, Updates};
@@ -96,8 +96,8 @@ impl Store {
         }
     }
 
-    /// The key of a message that a domain keeps and whose id passes; `None` only where of the source of each message that
-    /// is kept one with no greater count fails. Of each source the least count alone is asked for. Takes no memory.
+    /// The key of a message that a domain keeps and whose id passes. `None` says that each message has one of its source, with
+    /// no greater count, whose id fails. Only the id with the least count of each source is asked for. Takes no memory.
     pub fn first_passing<F: Fn(Uid) -> bool>(&self, domain: DomainNo, passes: F) -> Option<Key>
         requires { F.IsAlwaysCallable passes }
         ensures some { IfSome result (IsKeptOf (λ id. F.post passes id true) (kept_in self.now domain)) }
@@ -105,6 +105,18 @@ impl Store {
     {
         match row_of(&self.rows, domain) {
             Some(row) => row.first_passing(passes),
+            None => None,
+        }
+    }
+
+    /// Of the messages of a source that a domain keeps, the id and the key of the one with the least count. `None` where it
+    /// keeps none. Takes no memory.
+    pub fn first_of(&self, domain: DomainNo, source: Source) -> Option<(Uid, Key)>
+        ensures some { IfSome result (KeepsFirst (kept_in self.now domain) source) }
+        ensures none { IfNone result (KeepsNoneOf (kept_in self.now domain) source) }
+    {
+        match row_of(&self.rows, domain) {
+            Some(row) => row.first_of(source),
             None => None,
         }
     }
