@@ -1,11 +1,12 @@
 -- Rows that rise by their processes: one is found by halving, and they rise still once some are changed, added or taken out.
-use Rattle.std.proofs.Common.{◌≡◌, ℕ, zero, suc, ◌<◌, ◌≤◌, Bool, true, false, cond, List, [], ◌∷◌, ◌++◌, length, map, get_or, Option, Some, None, Ok, Err, Ordering, Less, Equal, Greater, refl, sym, ap, subst, ◌∙◌, inl, inr, arith}
+use Rattle.std.proofs.Common.{◌≡◌, ℕ, zero, suc, ◌<◌, ◌≤◌, Bool, true, false, cond, List, [], ◌∷◌, ◌++◌, length, map, get_or, slice_set, Option, Some, None, Ok, Err, Ordering, Less, Equal, Greater, refl, sym, ap, subst, ◌∙◌, inl, inr, arith}
 use Rattle.std.specs.Prelude.{◌&&◌, ◌==◌, not, nat_lt, unwrap_or, if◌then◌else◌}
 use Rattle.std.specs.List.{list_all, find}
 use Rattle.std.specs.List.Sorted.{IsBinarySearchResult, IsNonDecreasingBy}
 use Rattle.std.specs.Ordering.{is_lt, ordering_index}
 use Rattle.std.specs.Option.{option_map_or, option_and_then}
-use Rattle.std.proofs.lemmas.Bool.{cases_Bool, cases_eq, eqb-true, and_parts, not-true, and_from, false≢true, true≢false}
+use Rattle.std.proofs.lemmas.Bool.{cases_Bool, cases_eq, eqb-true, and_parts, not-true, and_from, false≢true, true≢false, false_from_ne_true}
+use Rattle.std.proofs.lemmas.Option.{none-some}
 use Rattle.std.proofs.lemmas.Cmp.{tied_itself}
 use Rattle.std.proofs.lemmas.List.{take_all}
 use Rattle.std.proofs.lemmas.List.Folds.{list_all_at}
@@ -94,6 +95,41 @@ module _ (p : Proc) where
   search_absent rows i up parted =
       let parts = parted (comparisons_rise rows up) in
       absent rows i (λ j d lt within. parts.0 j d (omega arith) lt) parts.1
+
+  -- The row of the process alone is changed
+
+  -- none is, where there is none
+  pub none_changed : (f : Row → Row) (rows : List Row) → row_of rows p ≡ None → change_row p f rows ≡ rows
+  none_changed f [] none = refl
+  none_changed f (x ∷ rows) none = elim (cases_Bool (proc_eq x.process p)) [
+    | inl same ↦ absurd (none-some x (sym none ∙ ap (λ b. cond b (Some x) (row_of rows p)) same))
+    | inr differ ↦
+        ap (λ b. cond b (f x) x ∷ change_row p f rows) differ
+        ∙ ap (λ rest. x ∷ rest) (none_changed f rows (sym (ap (λ b. cond b (Some x) (row_of rows p)) differ) ∙ none))
+  ]
+
+  beyond : (rows : List Row) → list_all (λ r. is_lt (proc_cmp p r.process)) rows ≡ true → row_of rows p ≡ None
+  beyond [] all = refl
+  beyond (x ∷ rows) all =
+      let parts = and_parts (is_lt (proc_cmp p x.process)) (list_all (λ r. is_lt (proc_cmp p r.process)) rows) all in
+      let differ : proc_eq x.process p ≡ false = false_from_ne_true (proc_eq x.process p) (λ same.
+      false≢true (sym (ap is_lt (ap (proc_cmp p) (same_proc x.process p same) ∙ tied_itself proc_total p)) ∙ parts.0)) in
+      ap (λ b. cond b (Some x) (row_of rows p)) differ ∙ beyond rows parts.1
+
+  changed_at : (f : Row → Row) (rows : List Row) (i : ℕ) (d : Row) → rise rows ≡ true → i < length rows → proc_eq (get_or rows i d).process p ≡ true → change_row p f rows ≡ slice_set rows i (f (get_or rows i d))
+  changed_at f [] i d up within same = absurd (omega arith)
+  changed_at f (x ∷ rows) zero d up within same =
+      let none : row_of rows p ≡ None = beyond rows (subst (λ q. list_all (λ r. is_lt (proc_cmp q r.process)) rows ≡ true) (same_proc x.process p same) (parts_of x rows up).0) in
+      λ j. cond (same j) (f x) x ∷ none_changed f rows none j
+  changed_at f (x ∷ rows) (suc i) d up within same =
+      let parts = parts_of x rows up in
+      let there : (get_or rows i d).process ≡ p = same_proc (get_or rows i d).process p same in
+      let less : proc_cmp x.process p ≡ Less = ap (proc_cmp x.process) (sym there) ∙ above_at x.process rows i d parts.0 (omega arith) in
+      let later = changed_at f rows i d parts.1 (omega arith) same in
+      λ j. cond (not_eq x.process p Less less (λ e. cc e) j) (f x) x ∷ later j
+
+  pub search_changed : (f : Row → Row) (rows : List Row) (i : ℕ) (d : Row) → rise rows ≡ true → i < length rows → IsBinarySearchResult (λ r. proc_cmp r.process p) rows (Ok i) → change_row p f rows ≡ slice_set rows i (f (get_or rows i d))
+  search_changed f rows i d up within is = changed_at f rows i d up within (eq_of (get_or rows i d).process p (is d))
 
 -- Changes
 

@@ -8,7 +8,6 @@ pub mod RowLemmas
 pub mod Reached
 pub mod Queues
 pub mod Words
-pub mod Least
 pub mod Settled
 pub mod MemberLemmas
 pub mod Behind
@@ -17,4 +16,4 @@ pub mod Admitted
 pub mod Looks
 pub mod LookedAt
 pub mod Passed
-mod Marks
+mod Busy

@@ -1,5 +1,5 @@
 -- Rows that stand in rising order of their processes, and processes that are in no group.
-use Rattle.std.specs.Prelude.{◌≡◌, ◌⊎◌, Bool, false, not, ◌==◌, List, [], ◌∷◌, length, map}
+use Rattle.std.specs.Prelude.{◌≡◌, ℕ, suc, Bool, true, false, not, ◌==◌, if◌then◌else◌, List, [], ◌∷◌, length}
 use Rattle.std.specs.List.{list_all}
 use Rattle.std.specs.Option.{option_map_or}
 use Rattle.std.specs.Ordering.{is_lt}
@@ -40,6 +40,11 @@ is_idle rows p = option_map_or (λ r. length r.standings == 0) (row_of rows p) f
 abbrev pub is_busy : Row → Bool
 is_busy row = not (length row.standings == 0)
 
--- of each row whether it is busy, in order, or nothing
-abbrev pub AreMarks : List Row → List Bool → Type 0
-AreMarks rows marks = (marks ≡ []) ⊎ (marks ≡ map is_busy rows)
+-- the places of the rows that are busy, where that of the first row is a number
+abbrev pub busy_places : ℕ → List Row → List ℕ
+busy_places n [] = []
+busy_places n (row ∷ rows) = if is_busy row then n ∷ busy_places (suc n) rows else busy_places (suc n) rows
+
+-- these are the places of the busy rows, where they are kept up
+abbrev pub AreBusy : Bool → List Row → List ℕ → Type 0
+AreBusy kept rows places = kept ≡ true → places ≡ busy_places 0 rows

@@ -198,6 +198,14 @@ impl Delay {
         self.settled = settled;
     }
 
+    /// The id of the first message that is offered under a key, `None` where none is. Takes no memory.
+    pub fn id_under(&self, key: Key) -> Option<Uid>
+        ensures { result ≡ option_map (λ o. o.id) (offered_under self.now.offered key) }
+    {
+        let offered = self.offered.under(key)?;
+        Some(offered.id)
+    }
+
     /// Whether some process that is a member of a message's group has not delivered the message, whose view has not
     /// ended and whose count is from 1 on. Takes no memory.
     pub fn is_awaited(&self, id: Uid) -> bool

@@ -1,16 +1,17 @@
 ghost use Rattle.std.specs.Prelude.{◌≡◌, ◌≤◌, ◌<◌, ◌++◌, ◌∷◌, ℕ, [], true, IfOk, OnErr, OnOk, Some, get_or, length, map, slice_get, ◌&&◌};
+ghost use Rattle.std.specs.List.Sorted.{IsNonDecreasing};
 ghost use Rattle.std.specs.Vec.{vec_capacity};
 ghost use Rattle.std.specs.Option.{option_copied};
 ghost use Rattle.std.specs.Ordering.{is_lt};
 ghost use Rattle.cast_types.specs.Names.{proc_cmp, site_eq};
 ghost use Rattle.cast_ready.specs.declared.row.Row.{Row};
 ghost use Rattle.cast_delay.specs.Queue.{row_of, but_row, change_row, after_delivery, is_awaited};
-ghost use Rattle.cast_ready.specs.Rows.{new_row, awaits_row, ended_row, told_row};
-ghost use Rattle.cast_delay.specs.Admitted.{all_below, are_of, is_busy, is_idle, rise, site_with, AreMarks};
+ghost use Rattle.cast_ready.specs.Rows.{new_row, awaits_row, delivered_row, ended_row, told_row};
+ghost use Rattle.cast_delay.specs.Admitted.{all_below, are_of, busy_places, is_idle, rise, site_with};
 
 use crate::offers::Offers;
 use cast_ready::row::copy_rows;
-use cast_ready::{ProcessUpdate, Row};
+use cast_ready::{Offered, ProcessUpdate, Row};
 use cast_types::{GroupNo, Key, NoMemory, Proc, SiteNo, Uid};
 use std::alloc::Global;
 use std::marker::Model;
@@ -24,20 +25,22 @@ pub struct Rows {
     /// Whether all processes are of this site, and each was admitted behind all lower ones, as those are whose serials rise. No two rows
     /// are then of one process, and a row is found by halving.
     rising: bool,
-    /// Of each row whether something was told of its process's groups; empty where that is not kept up.
-    marks: Vec<bool>,
+    /// The places of the rows of whose process's groups something was told, in rising order.
+    busy: Vec<usize>,
+    /// Whether these are kept up.
+    kept_up: bool,
 }
 
 impl Model for Rows {
     ghost use Rattle.std.specs.Prelude.{List, ◌≡◌, true};
     ghost use Rattle.cast_ready.specs.declared.row.Row.{Row};
-    ghost use Rattle.cast_delay.specs.Admitted.{are_of, rise, AreMarks};
+    ghost use Rattle.cast_delay.specs.Admitted.{are_of, rise, AreBusy};
 
     ghost Value = { List Row };
 
     ghost view = { λ r. r.rows.items };
 
-    ghost invariant = { λ r. (r.rising ≡ true → (rise r.rows.items ≡ true) × (are_of r.site r.rows.items ≡ true)) × AreMarks r.rows.items r.marks.items };
+    ghost invariant = { λ r. (r.rising ≡ true → (rise r.rows.items ≡ true) × (are_of r.site r.rows.items ≡ true)) × AreBusy r.kept_up r.rows.items r.busy.items };
 }
 
 impl Rows {
@@ -49,7 +52,8 @@ impl Rows {
             rows: Vec::new(alloc),
             site: SiteNo(0),
             rising: true,
-            marks: Vec::new(alloc),
+            busy: Vec::new(alloc),
+            kept_up: true,
         }
     }
 
@@ -61,7 +65,8 @@ impl Rows {
             rows: copy_rows(*self.rows.allocator(), &self.rows)?,
             site: self.site,
             rising: self.rising,
-            marks: self.marks.clone()?,
+            busy: copy_places(*self.rows.allocator(), &self.busy, self.rows.len())?,
+            kept_up: self.kept_up,
         })
     }
 
@@ -89,8 +94,8 @@ impl Rows {
         ensures from { place ≤ result }
         ensures idle { (i : ℕ) (row : Row) → place ≤ i → i < result → slice_get self.now i ≡ Some row → (row.process.site ≡ site) × (is_idle self.now row.process ≡ true) }
     {
-        if self.rising && self.site == site {
-            unmarked_until(&self.rows, &self.marks, site, place)
+        if self.rising && self.kept_up && self.site == site {
+            first_busy(&self.rows, &self.busy, site, place)
         } else {
             place
         }
@@ -100,7 +105,11 @@ impl Rows {
     pub fn is_awaited(&self, id: Uid) -> bool
         ensures { result ≡ is_awaited self.now id }
     {
-        awaited_at_last(&self.rows, &self.marks, id)
+        if self.kept_up {
+            awaited_at_busy(&self.rows, &self.busy, id)
+        } else {
+            awaited_in(&self.rows, id)
+        }
     }
 
     /// Adds a process that is in no group, the last one. `NoMemory` changes nothing.
@@ -111,14 +120,8 @@ impl Rows {
         let site = site_with(self.site, &self.rows, process);
         let rising = rises_with(self.rising, site, &self.rows, process);
         let row = Row::new(*self.rows.allocator(), process);
-        let marked = self.marks.len() == self.rows.len();
-        self.marks.reserve(1)?;
+        make_room(&mut self.busy, self.rows.len() + 1)?;
         self.rows.push(row)?;
-        if marked {
-            self.marks.push_reserved(false);
-        } else {
-            self.marks.clear();
-        }
         self.site = site;
         self.rising = rising;
         Ok(())
@@ -129,7 +132,7 @@ impl Rows {
         ensures { self.new ≡ but_row process self.old }
     {
         dismiss_in(&mut self.rows, process);
-        mark(&self.rows, &mut self.marks);
+        self.kept_up = note_busy(&self.rows, &mut self.busy);
     }
 
     /// Each row forgets what was delivered of a group's views below a number.
@@ -148,7 +151,7 @@ impl Rows {
         let told = tell_in(&mut self.rows, process, fact);
         match (&told, fact) {
             (Ok(()), ProcessUpdate::Time(_)) => {}
-            _ => mark(&self.rows, &mut self.marks),
+            _ => self.kept_up = note_busy(&self.rows, &mut self.busy),
         }
         told?;
         self.rising = rising;
@@ -161,9 +164,9 @@ impl Rows {
     {
         let rising = self.rising;
         self.rising = false;
-        let delivered = deliver_in(&mut self.rows, offered, process, key);
+        let delivered = deliver_in(&mut self.rows, rising, offered, process, key);
         if delivered.is_err() {
-            self.marks.clear();
+            self.kept_up = false;
         }
         delivered?;
         self.rising = rising;
@@ -189,75 +192,107 @@ fn found_in(rows: &[Row], process: Proc) -> Option<&Row>
     }
 }
 
-// The first place from one on, of a row that is marked as busy; the place itself where rows are not marked.
-fn unmarked_until(rows: &[Row], marks: &[bool], site: SiteNo, place: usize) -> usize
+// The first place from one on, of a row that is busy; behind all rows where there is none. Where all rows up to the place are
+// busy, as where all are, the place stands in the list at itself.
+fn first_busy(rows: &[Row], busy: &[usize], site: SiteNo, place: usize) -> usize
     requires rise { rise rows.now ≡ true }
     requires site { are_of site rows.now ≡ true }
-    requires marks { AreMarks rows.now marks.now }
+    requires busy { busy.now ≡ busy_places 0 rows.now }
     ensures from { place ≤ result }
     ensures idle { (i : ℕ) (row : Row) → place ≤ i → i < result → slice_get rows.now i ≡ Some row → (row.process.site ≡ site) × (is_idle rows.now row.process ≡ true) }
 {
-    let mut busy = place;
-    while busy < marks.len() && !marks[busy] {
-        busy += 1;
+    if place < busy.len() && busy[place] == place {
+        return place;
     }
-    busy
+    let below = count_below(busy, place);
+    if below < busy.len() {
+        busy[below]
+    } else {
+        place.max(rows.len())
+    }
 }
 
-// Marks rows anew, where there is room for it. Takes no memory.
-fn mark(rows: &[Row], marks: &mut Vec<bool>)
-    ensures { AreMarks rows.now marks.new.items }
+// How many places are below one, found by halving.
+fn count_below(places: &[usize], place: usize) -> usize
+    requires { IsNonDecreasing places.now }
+    ensures below { (i : ℕ) → i < result → i < length places.now → get_or places.now i 0 < place }
+    ensures others { (i : ℕ) → result ≤ i → i < length places.now → place ≤ get_or places.now i 0 }
 {
-    marks.clear();
-    if rows.len() <= marks.capacity() {
-        mark_each(rows, marks);
-    }
+    places.partition_point(|at| *at < place)
 }
 
-// Marks each row.
-fn mark_each(rows: &[Row], marks: &mut Vec<bool>)
-    requires empty { marks.old.items ≡ [] }
-    requires room { length rows.now ≤ vec_capacity marks.old }
-    ensures { marks.new.items ≡ map is_busy rows.now }
+// Finds the places of the busy rows anew, where there is room for those of all rows, and says whether there is. Takes no memory.
+fn note_busy(rows: &[Row], busy: &mut Vec<usize>) -> bool
+    ensures { result ≡ true → busy.new.items ≡ busy_places 0 rows.now }
 {
-    for row in rows {
-        marks.push_reserved(!row.is_idle());
+    busy.clear();
+    if busy.capacity() < rows.len() {
+        return false;
+    }
+    note_each(rows, busy);
+    true
+}
+
+// Notes the place of each busy row.
+fn note_each(rows: &[Row], busy: &mut Vec<usize>)
+    requires empty { busy.old.items ≡ [] }
+    requires room { length rows.now ≤ vec_capacity busy.old }
+    ensures { busy.new.items ≡ busy_places 0 rows.now }
+{
+    for (place, row) in rows.iter().enumerate() {
+        if !row.is_idle() {
+            busy.push_reserved(place);
+        }
     }
 }
 
-// Whether some row awaits a message. Rows are asked from the last one on: processes deliver in the order of their rows, so it
-// is the last ones that await a message while it is being delivered. Those that are marked as not busy are passed over.
-fn awaited_at_last(rows: &[Row], marks: &[bool], id: Uid) -> bool
-    requires { AreMarks rows.now marks.now }
+// Makes room for so many places.
+fn make_room(busy: &mut Vec<usize>, count: usize) -> Result<(), NoMemory>
+    ensures items { busy.new.items ≡ busy.old.items }
+    ensures room { OnOk result (count ≤ vec_capacity busy.new) }
+{
+    busy.reserve(count.saturating_sub(busy.len()))?;
+    Ok(())
+}
+
+// Equal places, with room for so many.
+fn copy_places(alloc: Global, places: &[usize], count: usize) -> Result<Vec<usize>, NoMemory>
+    ensures { IfOk result (λ copied. copied.items ≡ places.now) }
+{
+    let mut copied = Vec::with_capacity(alloc, count)?;
+    copied.extend_from_slice(places)?;
+    Ok(copied)
+}
+
+// Whether some row awaits a message, where the places of the busy ones are known: no other does. Rows are asked from the last one
+// on: processes deliver in the order of their rows, so it is the last ones that await a message while it is being delivered.
+fn awaited_at_busy(rows: &[Row], busy: &[usize], id: Uid) -> bool
+    requires { busy.now ≡ busy_places 0 rows.now }
     ensures { result ≡ is_awaited rows.now id }
 {
-    let mut left = rows.len();
+    let mut left = busy.len();
     while 0 < left {
         left -= 1;
-        if awaits_at(rows, marks, left, id) {
+        if awaits_at(rows, busy[left], id) {
             return true;
         }
     }
     false
 }
 
-// Whether the row at a place awaits a message. One that is marked as not busy awaits none.
-fn awaits_at(rows: &[Row], marks: &[bool], place: usize, id: Uid) -> bool
-    requires place { place < length rows.now }
-    requires marks { AreMarks rows.now marks.now }
+// Whether the row at a place awaits a message.
+fn awaits_at(rows: &[Row], place: usize, id: Uid) -> bool
+    requires { place < length rows.now }
     ensures { (row : Row) → result ≡ awaits_row (get_or rows.now place row) id }
 {
-    may_be_busy(marks, place) && rows[place].awaits(id)
+    rows[place].awaits(id)
 }
 
-// Whether a row is marked as busy, or not marked.
-fn may_be_busy(marks: &[bool], place: usize) -> bool
-    ensures { result ≡ get_or marks.now place true }
+// Whether some row awaits a message.
+fn awaited_in(rows: &[Row], id: Uid) -> bool
+    ensures { result ≡ is_awaited rows.now id }
 {
-    match marks.get(place) {
-        Some(busy) => *busy,
-        None => true,
-    }
+    rows.iter().any(|row| row.awaits(id))
 }
 
 // The site of the process that was admitted first, once a process stands behind the others.
@@ -316,18 +351,42 @@ fn tell_in(rows: &mut Vec<Row>, process: Proc, fact: &ProcessUpdate) -> Result<(
     Ok(())
 }
 
-// Each row of the process takes in that it delivered the message under a key.
+// Each row of the process takes in that it delivered the message under a key. Where rows rise, there is at most one.
 fn deliver_in(
     rows: &mut Vec<Row>,
+    rising: bool,
     offered: &Offers,
     process: Proc,
     key: Key,
 ) -> Result<(), NoMemory>
+    requires { rising ≡ true → rise rows.old.items ≡ true }
     ensures { OnOk result (rows.new.items ≡ after_delivery offered.now process key rows.old.items) }
 {
     let Some(message) = offered.under(key) else {
         return Ok(());
     };
+    if rising {
+        deliver_found(rows, message, process)
+    } else {
+        deliver_each(rows, message, process)
+    }
+}
+
+// The row of the process, found by halving, takes in that it delivered a message.
+fn deliver_found(rows: &mut Vec<Row>, message: &Offered, process: Proc) -> Result<(), NoMemory>
+    requires { rise rows.old.items ≡ true }
+    ensures { OnOk result (rows.new.items ≡ change_row process (delivered_row message.now.id message.now.times) rows.old.items) }
+{
+    match rows.binary_search_by_key(&process, |row| row.process) {
+        Ok(place) => rows[place].deliver(message.id, &message.times),
+        Err(_) => Ok(()),
+    }
+}
+
+// Each row of the process takes in that it delivered a message.
+fn deliver_each(rows: &mut Vec<Row>, message: &Offered, process: Proc) -> Result<(), NoMemory>
+    ensures { OnOk result (rows.new.items ≡ change_row process (delivered_row message.now.id message.now.times) rows.old.items) }
+{
     for row in rows.iter_mut() {
         if row.process == process {
             row.deliver(message.id, &message.times)?;

@@ -1,8 +1,9 @@
-use Rattle.std.proofs.Common.{◌≡◌, ◌∙◌, ap, subst, inl, map, rules}
+use Rattle.std.proofs.Common.{◌≡◌, ◌∙◌, sym, ap, true, rules}
+use Rattle.std.proofs.lemmas.Bool.{false≢true}
 use Rattle.cast_delay.specs.Queue.{after_delivery}
-use Rattle.cast_delay.specs.Admitted.{are_of, rise, is_busy, AreMarks}
+use Rattle.cast_delay.specs.Admitted.{are_of, busy_places, rise}
 use Rattle.cast_delay.proofs.Admitted.{rise_delivered}
-use Rattle.cast_delay.proofs.Marks.{are_marks_still, are_of_delivered, marks_delivered}
+use Rattle.cast_delay.proofs.Busy.{are_of_delivered, places_delivered}
 use Rattle.cast_delay.proofs.rows.Rows.deliver.Goals as goal
 use Rattle.cast_delay.proofs.rows.Rows.deliver.Goals.{then-is_err, else-is_err}
 
@@ -16,11 +17,11 @@ invariant_of-self-2 c =
         ap rise delivered ∙ rise_delivered c.args.offered.now c.args.process c.args.key rows ∙ (c.self.invariant.0 rising).0,
         site ∙ ap (are_of c.self.inside.site) delivered ∙ are_of_delivered c.self.inside.site c.args.offered.now c.args.process c.args.key rows ∙ (c.self.invariant.0 rising).1,
       ),
-      elim c.if-is_err.branch [
-        | then-is_err w ↦ inl (search rules)
+      λ kept. elim c.if-is_err.branch [
+        | then-is_err w ↦ absurd (false≢true (sym (ap (λ s. s.kept_up) w.self-inside-is) ∙ kept))
         | else-is_err w ↦
-            let same : c.if-is_err.self-inside.marks.items ≡ c.self.inside.marks.items = search rules in
-            subst (λ marks. AreMarks c.if-is_err.self-inside.rows.items marks) (search (rules, same))
-            (are_marks_still rows c.if-is_err.self-inside.rows.items c.self.inside.marks.items (ap (map is_busy) delivered ∙ marks_delivered c.args.offered.now c.args.process c.args.key rows) c.self.invariant.1)
+            let was : c.self.inside.kept_up ≡ true = search (rules, kept) in
+            let same : c.if-is_err.self-inside.busy.items ≡ c.self.inside.busy.items = search rules in
+            same ∙ c.self.invariant.1 was ∙ sym (ap (busy_places 0) delivered ∙ places_delivered c.args.offered.now c.args.process c.args.key rows)
       ],
     )
