@@ -1,6 +1,6 @@
 ghost use Rattle.std.specs.Prelude.{◌≡◌, ◌+◌, ◌<◌, ◌≤◌, ◌==◌, true, false};
 ghost use Rattle.cast_events.specs.declared.session.Status.{Status};
-ghost use Rattle.cast_domain.specs.Fits.{status_in};
+ghost use Rattle.cast_domain.specs.GivenSessions.{status_in};
 ghost use Rattle.cast_events.specs.Session.{is_gone_status};
 ghost use Rattle.cast_rules.specs.Rules.Events.{opened};
 

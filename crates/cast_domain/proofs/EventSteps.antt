@@ -16,7 +16,8 @@ use Rattle.cast_rules.specs.Rules.Events as rules
 use Rattle.cast_domain.specs.Records.{Records}
 use Rattle.cast_domain.specs.Calls.{records, records_sessions, open_in, take_entries_in, set_quota_in, acted_in}
 use Rattle.cast_rules.specs.Lawful.{IsLawful, IsTyped}
-use Rattle.cast_domain.specs.Fits.{status_in, Fits}
+use Rattle.cast_domain.specs.GivenSessions.{status_in}
+use Rattle.cast_domain.specs.Fits.{Fits}
 use Rattle.cast_domain.proofs.Standing.{fits_if, fits_open, fits_take_entries, fits_counted, sessions_there, status_there, box_there}
 use Rattle.cast_domain.proofs.Framing.{fits_framed, fits_commanded, fits_suspect}
 use Rattle.cast_domain.proofs.Ending.{fits_ended}

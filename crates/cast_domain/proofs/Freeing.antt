@@ -9,10 +9,10 @@ use Rattle.cast_types.specs.declared.names.SiteNo.{SiteNo}
 use Rattle.cast_types.specs.declared.names.Uid.{Uid}
 use Rattle.cast_types.specs.declared.source.Source.{Source}
 use Rattle.cast_types.specs.Names.{site_eq}
-use Rattle.cast_types.specs.Sources.{source_of}
+use Rattle.cast_types.specs.Sources.{source_cmp, source_of}
 use Rattle.cast_message.specs.declared.message.Received.{Received}
 use Rattle.cast_message.specs.Receipts.{key_eq}
-use Rattle.cast_store.specs.Ids.{IsKeptOf, IsLedBy}
+use Rattle.cast_store.specs.Ids.{IsKeptOf, IsLedBy, KeepsFirst, KeepsNoneOf}
 use Rattle.cast_ready.specs.declared.row.Row.{Row}
 use Rattle.cast_ready.specs.declared.offered.Offered.{Offered}
 use Rattle.cast_ready.specs.Ready.{is_member}
@@ -22,11 +22,16 @@ use Rattle.cast_stable.specs.Acks.{Acks, is_stable_among, is_stable_in, others_i
 use Rattle.cast_rules.specs.Rules.Release as release
 use Rattle.cast_domain.specs.Records.{Records}
 use Rattle.cast_domain.specs.Calls.{is_open_in, release_in, records, resting_records}
-use Rattle.cast_domain.specs.Freed.{AreNotFree}
+use Rattle.cast_domain.specs.Freed.{AreNotFree, AreNotFreeBut}
 use Rattle.cast_domain.proofs.Releases.{fold_release, is_key, filter_twice, filter_same}
 use Rattle.cast_types.proofs.Bools.{neither}
+use Rattle.cast_types.proofs.Orders.{tie_self, tie_same}
+use Rattle.cast_types.proofs.Sources.{source_exact, source_total}
+use Rattle.cast_delay.proofs.Finds.{kept_parts}
+use Rattle.std.specs.Ordering.{eq_by_cmp}
 
-abbrev free : Records → Uid → Bool
+-- a message is free
+abbrev pub free : Records → Uid → Bool
 free r u = release.is_free records resting_records r u
 
 -- Which keys are those of free messages
@@ -220,3 +225,25 @@ led_as P Q implied kept led x there = let first = led x there in (first.0, first
 pub if_none_free : {A : Type 0} (r : Records) (P : Uid → Type 0) → ((id : Uid) → P id → free r id ≡ false) → (o : Option A) → IfNone o (IsLedBy P r.part.kept) → IfNone o (AreNotFree r)
 if_none_free r P implied None led = none_free r (led_as P (λ id. free r id ≡ false) implied r.part.kept led)
 if_none_free r P implied (Some x) led = tt
+
+-- Where none is free but such as are of a source
+
+-- one more is let go
+pub but_released : (s : Source) (r : Records) (key : Key) → AreNotFreeBut s r → AreNotFreeBut s (release_in r key)
+but_released s r key none x there apart = none x (kept_parts (λ y. not (key_eq y.key key)) r.part.kept x there).0 apart
+
+-- none of the source is either
+none_of : (s : Source) (r : Records) → ((x : Received) → Contains r.part.kept x → source_of x.message.id ≡ s → free r x.message.id ≡ false) → AreNotFreeBut s r → AreNotFree r
+none_of s r own others x there = elim (cases_Bool (eq_by_cmp source_cmp (source_of x.message.id) s)) [
+  | inl same ↦ own x there (tie_same source_exact (source_of x.message.id) s same)
+  | inr apart ↦ others x there (λ is. false≢true (sym apart ∙ tie_self source_total (source_of x.message.id) s is))
+]
+
+-- none of it is kept
+pub none_kept_of : (s : Source) (r : Records) → KeepsNoneOf r.part.kept s → AreNotFreeBut s r → AreNotFree r
+none_kept_of s r none = none_of s r (λ x there its. absurd (none x there its))
+
+-- its first message is not free
+pub first_not_free : (s : Source) (r : Records) (first : Uid × Key) → KeepsFirst r.part.kept s first → free r first.0 ≡ false → AreNotFreeBut s r → AreNotFree r
+first_not_free s r first is held =
+    none_of s r (λ x there its. false_from_ne_true (free r x.message.id) (λ h. false≢true (sym held ∙ free_before r first.0 x.message.id (is.own ∙ sym its) (is.least x there its) h)))

@@ -28,6 +28,8 @@ pub mod Entering
 pub mod Passing
 pub mod Releases
 pub mod Freeing
+pub mod Touched
+pub mod NotFree
 pub mod CommandSteps
 pub mod Framing
 pub mod Dismissals

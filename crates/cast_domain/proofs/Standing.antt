@@ -46,7 +46,7 @@ use Rattle.cast_order.specs.Log.{Log, log_of, but_log, place_of}
 use Rattle.cast_order.proofs.Meanings.{new_fits as order_new_fits}
 use Rattle.cast_events.specs.declared.config.DomainConfig.{DomainConfig}
 use Rattle.cast_domain.specs.declared.record.GroupRecord.{GroupRecord}
-use Rattle.cast_domain.specs.GivenSessions.{SessionRecord}
+use Rattle.cast_domain.specs.GivenSessions.{SessionRecord, status_in}
 use Rattle.cast_quota.specs.declared.quotas.Quotas.{Quotas}
 use Rattle.cast_message.specs.declared.client.Push.{Push}
 use Rattle.cast_view.specs.MemberSide.{MemberSide, is_pending, members_of, with_view}
@@ -69,7 +69,7 @@ use Rattle.cast_domain.specs.Shared.{no_part, part_boxing, part_pushing}
 use Rattle.cast_domain.specs.Records.{Records}
 use Rattle.cast_domain.specs.Calls.{place_among, local_in, place_in, no_record, record_at, standing_of, time_of, send_in, push_in, with_status, close_in, go_in, take_entries_in, tell_in, open_in, learn_in, receive_in, view_in, holding_from, orders_sent}
 use Rattle.cast_rules.specs.Lawful.{IsLawful}
-use Rattle.cast_domain.specs.Fits.{settled_of, process_named, record_for, tagged, status_in, session_for, is_there, is_live, past_of, LogFits, Fits, goes_on, has_passed}
+use Rattle.cast_domain.specs.Fits.{settled_of, process_named, record_for, tagged, session_for, is_there, is_live, past_of, LogFits, Fits, goes_on, has_passed}
 use Rattle.cast_domain.proofs.Statuses.{open_remains, status_given, roster, same_roster, set_one, same_status, roster_closed, roster_gone, boxes_set, unused_set, roster_first}
 use Rattle.cast_domain.proofs.Receipts.{group_same, others_told, past_same, live_and_stands}
 use Rattle.cast_domain.proofs.Rows.{row_given}

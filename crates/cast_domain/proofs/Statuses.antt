@@ -10,9 +10,9 @@ use Rattle.cast_events.specs.declared.session.Status.{Status}
 use Rattle.cast_events.specs.declared.session.Status.TheVariants.{Open, Closed, Gone}
 use Rattle.cast_events.specs.Session.{Session, no_session, is_open, is_open_status, is_gone, is_gone_status}
 use Rattle.cast_rules.specs.State.{was_given}
-use Rattle.cast_domain.specs.GivenSessions.{SessionRecord}
+use Rattle.cast_domain.specs.GivenSessions.{SessionRecord, status_in}
 use Rattle.cast_domain.specs.Calls.{with_status}
-use Rattle.cast_domain.specs.Fits.{status_in, session_for, is_there}
+use Rattle.cast_domain.specs.Fits.{session_for, is_there}
 
 -- whether a number is one of n numbers, from a on
 abbrev pub within : ℕ → ℕ → ℕ → Bool

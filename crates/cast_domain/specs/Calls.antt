@@ -55,7 +55,7 @@ use Rattle.cast_events.specs.declared.limits.TheConstants.{MAX_CASTS}
 use Rattle.cast_events.specs.declared.session.Status.{Status}
 use Rattle.cast_events.specs.declared.session.Status.TheVariants.{Open, Closed}
 use Rattle.cast_events.specs.Session.{is_open_status, is_gone_status}
-use Rattle.cast_domain.specs.GivenSessions.{SessionRecord}
+use Rattle.cast_domain.specs.GivenSessions.{SessionRecord, status_in}
 use Rattle.cast_view.specs.declared.member.Pending.{Pending}
 use Rattle.cast_view.specs.MemberSide.{MemberSide, no_group, members_of, holder_at, is_current, is_open_to, with_request, with_answer, frozen_side, report_of, with_pending, with_view, is_taken_in}
 use Rattle.cast_view.specs.Sites.{is_at, other_sites}
@@ -79,7 +79,6 @@ use Rattle.cast_domain.specs.declared.rest.Delivery.{Delivery}
 use Rattle.cast_domain.specs.declared.rest.Weight.{Weight}
 use Rattle.cast_domain.specs.declared.rest.Weight.TheVariants.{Nothing, Placed, Hands}
 use Rattle.cast_domain.specs.Records.{Records}
-use Rattle.cast_domain.specs.Fits.{status_in}
 
 -- a list with one more item where a fact holds
 abbrev pub added_if : {A : Type 0} → Bool → A → List A → List A
@@ -692,9 +691,6 @@ delivery_of m = record { id = m.id; weight = weight_of m.body; push = told_of m.
 -- and its program is told
 abbrev pub deliver_as : Records → Proc → Key → Delivery → Records
 deliver_as r p key d = tell_if records (note_weight_in d.weight (take_delivery_in r p key d.id) p d.id) p.serial d.push
-
-abbrev pub deliver_under : Records → Proc → Key → Message → Records
-deliver_under r p key m = deliver_as r p key (delivery_of m)
 
 -- the key of the first message that is ready for a process
 abbrev pub ready_key_in : Records → Proc → Option Key

@@ -1,7 +1,7 @@
 -- When a domain's records stand for a history.
 use Rattle.std.specs.Prelude.{◌≡◌, ℕ, ◌≤◌, Bool, not, ◌&&◌, ◌||◌, ◌==◌, true, nat_lt, if◌then◌else◌, List, length, map, filter, take, Contains, None, false}
-use Rattle.std.specs.Option.{IsSome, option_map_or}
-use Rattle.std.specs.List.{find, list_all, list_any, range_with_len}
+use Rattle.std.specs.Option.{IsSome}
+use Rattle.std.specs.List.{list_all, list_any, range_with_len}
 use Rattle.cast_types.specs.declared.names.DomainNo.{DomainNo}
 use Rattle.cast_types.specs.declared.names.SiteNo.{SiteNo}
 use Rattle.cast_types.specs.declared.names.GroupNo.{GroupNo}
@@ -27,11 +27,9 @@ use Rattle.cast_domain.specs.declared.domain.Domain.{Domain}
 use Rattle.cast_domain.specs.declared.record.GroupRecord.{GroupRecord}
 use Rattle.cast_timer.specs.declared.key.Owed.{Owed}
 use Rattle.cast_events.specs.declared.config.DomainConfig.{DomainConfig}
-use Rattle.cast_domain.specs.GivenSessions.{SessionRecord}
+use Rattle.cast_domain.specs.GivenSessions.{SessionRecord, status_in}
 use Rattle.cast_message.specs.declared.client.Push.{Push}
 use Rattle.cast_quota.specs.declared.quotas.Quotas.{Quotas}
-use Rattle.cast_events.specs.declared.session.Status.{Status}
-use Rattle.cast_events.specs.declared.session.Status.TheVariants.{Gone}
 use Rattle.cast_events.specs.Session.{Session, no_session, is_gone, is_gone_status}
 use Rattle.cast_view.specs.MemberSide.{is_pending}
 use Rattle.cast_view.specs.Home.{is_empty}
@@ -42,6 +40,7 @@ use Rattle.cast_rules.specs.Run.{before_event}
 use Rattle.cast_domain.specs.Shared.{Part}
 use Rattle.cast_events.specs.Outs.{no_outs}
 use Rattle.cast_domain.specs.Records.{Records, records_of}
+use Rattle.cast_domain.specs.Freed.{AreNotFree}
 
 -- a process by its name
 abbrev pub process_named : State → Proc → Process
@@ -50,10 +49,6 @@ process_named s p = if site_eq p.site s.here then s.process p.serial else no_pro
 -- what is kept of a group
 abbrev pub record_for : State → GroupNo → GroupRecord
 record_for s g = record { name = g; here = s.group g; home = s.home g }
-
--- how the session of a serial stands; one that has no record was never given, or is gone
-abbrev pub status_in : List SessionRecord → ℕ → Status
-status_in sessions k = option_map_or (λ x. x.status) (find (λ x. x.serial == k) sessions) Gone
 
 -- what is kept of the session of a serial
 abbrev pub session_for : (ℕ → Session) → ℕ → SessionRecord
@@ -197,3 +192,4 @@ pub record Represents (d : Domain) (part : Part) (s : State) : Type 0 where
   pub fits : Fits (records_of d part no_outs) (before_event s)
   pub lawful : IsLawful s
   pub dismissed : AreDismissed (records_of d part no_outs)
+  pub freed : AreNotFree (records_of d part no_outs)

@@ -1,8 +1,9 @@
 -- What contracts see of a domain's sessions: how many serials were given, and those that are not gone, in the order of their serials.
 use Rattle.std.specs.Prelude.{ℕ, ◌+◌, Bool, not, ◌==◌, nat_le, if◌then◌else◌, List, [], ◌∷◌, ◌++◌, filter}
-use Rattle.std.specs.List.{list_all}
+use Rattle.std.specs.List.{find, list_all}
+use Rattle.std.specs.Option.{option_map_or}
 use Rattle.cast_events.specs.declared.session.Status.{Status}
-use Rattle.cast_events.specs.declared.session.Status.TheVariants.{Open, Closed}
+use Rattle.cast_events.specs.declared.session.Status.TheVariants.{Open, Closed, Gone}
 
 -- what is kept of a session that is not gone
 pub record SessionRecord : Type 0 where
@@ -16,6 +17,10 @@ pub record GivenSessions : Type 0 where
 -- what is kept of the session of a serial that stands so
 abbrev pub record_of : ℕ × Status → SessionRecord
 record_of e = record { serial = e.0; status = e.1 }
+
+-- how the session of a serial stands; one that has no record was never given, or is gone
+abbrev pub status_in : List SessionRecord → ℕ → Status
+status_in sessions k = option_map_or (λ x. x.status) (find (λ x. x.serial == k) sessions) Gone
 
 -- whether all serials were given
 abbrev pub are_given : ℕ → List (ℕ × Status) → Bool

@@ -1,13 +1,13 @@
 use crate::domain::Domain;
 use crate::lent::Lent;
-use cast_types::{Key, Uid};
+use cast_types::{Key, Source, Uid};
 
 impl Domain {
     ghost use Rattle.std.specs.Prelude.{◌≡◌, ◌<◌, false, None, IfSome, ◌&&◌, not, Some, IfNone};
     ghost use Rattle.cast_domain.specs.Records.{Keeps, KeepsBeside, records_in, Makes, own_records};
     ghost use Rattle.cast_domain.specs.Calls.{records, resting_records, is_open_in, release_in};
     ghost use Rattle.cast_rules.specs.Rules.Release.{is_free, let_go};
-    ghost use Rattle.cast_domain.specs.Freed.{AreNotFree, IsFreeKey};
+    ghost use Rattle.cast_domain.specs.Freed.{AreNotFree, AreNotFreeBut, IsFreeKey};
     ghost use Rattle.cast_delay.specs.Queue.{is_awaited};
     ghost use Rattle.cast_stable.specs.Acks.{is_stable_in};
 
@@ -15,8 +15,20 @@ impl Domain {
     pub fn let_go(&mut self, lent: &mut Lent<'_>)
         ensures stays { KeepsBeside self.old lent.old self.new lent.new }
         ensures made { Makes (let_go records resting_records) self.old lent.old self.new lent.new }
+        ensures none { AreNotFree (records_in self.new lent.new) }
     {
         while let Some(key) = self.free_key(lent) {
+            self.release(key, lent);
+        }
+    }
+
+    // Lets go of the free messages of a source. Where no others are free, that is all.
+    pub fn let_go_of(&mut self, source: Source, lent: &mut Lent<'_>)
+        ensures stays { KeepsBeside self.old lent.old self.new lent.new }
+        ensures made { AreNotFreeBut source (records_in self.old lent.old) → Makes (let_go records resting_records) self.old lent.old self.new lent.new }
+        ensures none { AreNotFreeBut source (records_in self.old lent.old) → AreNotFree (records_in self.new lent.new) }
+    {
+        while let Some(key) = self.free_key_of(source, lent) {
             self.release(key, lent);
         }
     }
@@ -30,6 +42,15 @@ impl Domain {
         lent.shared
             .store
             .first_passing(self.config.domain, |id| self.is_free(id))
+    }
+
+    // The key of the first message of a source, if it is free. Where it is not, none behind it is.
+    fn free_key_of(&self, source: Source, lent: &Lent<'_>) -> Option<Key>
+        ensures some { IfSome result (IsFreeKey (records_in self.now lent.now)) }
+        ensures none { IfNone result (AreNotFreeBut source (records_in self.now lent.now) → AreNotFree (records_in self.now lent.now)) }
+    {
+        let (id, key) = lent.shared.store.first_of(self.config.domain, source)?;
+        if self.is_free(id) { Some(key) } else { None }
     }
 
     // Whether a message is of the current view, which is not frozen, stable, and delivered to each member here.

@@ -1,8 +1,7 @@
 ghost use Rattle.std.specs.Prelude.{◌≡◌, ◌+◌, ◌<◌, ◌≤◌, ◌==◌, [], IfOk, OnOk, filter, length, map, not};
 ghost use Rattle.cast_events.specs.declared.session.Status.{Status};
-ghost use Rattle.cast_domain.specs.GivenSessions.{closed_if, with_next, without_serial};
+ghost use Rattle.cast_domain.specs.GivenSessions.{closed_if, status_in, with_next, without_serial};
 ghost use Rattle.cast_domain.specs.Calls.{with_status};
-ghost use Rattle.cast_domain.specs.Fits.{status_in};
 
 use crate::domain::Domain;
 use crate::lent::Lent;

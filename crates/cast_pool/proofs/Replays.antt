@@ -19,6 +19,7 @@ use Rattle.cast_domain.specs.declared.shared.Shared.{Shared}
 use Rattle.cast_domain.specs.Records.{Records, number_of, is_halted, records_of}
 use Rattle.cast_domain.specs.Shared.{Part, part_of, no_part}
 use Rattle.cast_domain.specs.Fits.{Fits, Represents, AreDismissed}
+use Rattle.cast_domain.specs.Freed.{AreNotFree}
 use Rattle.cast_domain.specs.Copies.{IsCopyOf as IsDomainCopy}
 use Rattle.cast_table.specs.declared.table.Table.{Table}
 use Rattle.cast_table.specs.Tables.{domains_of, shared_of, lent, by_number, IsNew, SharesNothing, IsApplied, NotesHalts}
@@ -88,6 +89,7 @@ means_copy d copy part s is means =
       fits = subst (λ r. Fits r (before_event s)) same means.fits;
       lawful = means.lawful;
       dismissed = subst AreDismissed same means.dismissed;
+      freed = subst AreNotFree same means.freed;
     }
 
 stands_copy : (d copy : Domain) (part : Part) (s : Option State) → IsDomainCopy d copy → StandsFor d part s → StandsFor copy part s

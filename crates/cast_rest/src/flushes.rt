@@ -3,6 +3,7 @@ ghost use Rattle.std.specs.List.{list_any, fold};
 ghost use Rattle.cast_domain.specs.Records.{GivesBack, KeepsBeside, records_in, Makes, own_records, MakesAtAnyCut, StaysUnless};
 ghost use Rattle.cast_domain.specs.Calls.{records, record_at, is_awaited_of, is_received_of, resting_records, has_cut_in, missing_in, missing_upto, with_unreceived, complete_in};
 ghost use Rattle.cast_types.specs.declared.limits.TheConstants.{MAX_PLACED};
+ghost use Rattle.cast_domain.specs.Freed.{AreNotFree};
 ghost use Rattle.cast_domain.specs.Flags.{goes_on as goes_on_at, goes_on_some, wants_own_more};
 ghost use Rattle.cast_rules.specs.Rules.Flushes.{go_on, go_on_all, want_own};
 ghost use Rattle.cast_rules.specs.Rules.Asking.{request};
@@ -26,6 +27,7 @@ pub(crate) fn go_on_all(domain: &mut Domain, lent: &mut Lent<'_>) -> Result<bool
     ensures made { OnOk result (Makes (go_on_all records resting_records) domain.old lent.old domain.new lent.new) }
     ensures still { IfOk result (StaysUnless domain.old lent.old domain.new lent.new) }
     ensures told { IfOk result (λ changed. changed ≡ goes_on_some (records_in domain.old lent.old)) }
+    ensures none { OnOk result (AreNotFree (records_in domain.old lent.old) → AreNotFree (records_in domain.new lent.new)) }
 {
     let mut changed = false;
     for place in 0..domain.groups.len() {
@@ -42,6 +44,7 @@ fn go_on(domain: &mut Domain, place: usize, lent: &mut Lent<'_>) -> Result<bool,
     ensures made { OnOk result (Makes (λ r. go_on records resting_records r place) domain.old lent.old domain.new lent.new) }
     ensures still { IfOk result (StaysUnless domain.old lent.old domain.new lent.new) }
     ensures told { IfOk result (λ changed. changed ≡ goes_on_at (records_in domain.old lent.old) place) }
+    ensures none { OnOk result (AreNotFree (records_in domain.old lent.old) → AreNotFree (records_in domain.new lent.new)) }
 {
     if place >= domain.groups.len() {
         return Ok(false);

@@ -4,6 +4,7 @@ ghost use Rattle.cast_domain.specs.Calls.{records, record_at, resting_records, a
 ghost use Rattle.std.specs.List.{fold};
 ghost use Rattle.cast_types.specs.Names.{entry_of};
 ghost use Rattle.cast_ready.specs.Ready.{is_member};
+ghost use Rattle.cast_domain.specs.Freed.{AreNotFree};
 ghost use Rattle.cast_domain.specs.Flags.{lists_some, orders_at, orders_each, orders_some};
 ghost use Rattle.cast_rules.specs.Rules.Order.{may_list, send_places, set_order_by, set_order, set_orders};
 
@@ -80,6 +81,7 @@ pub(crate) fn set_orders(domain: &mut Domain, lent: &mut Lent<'_>) -> Result<boo
     ensures made { OnOk result (Makes (set_orders records resting_records) domain.old lent.old domain.new lent.new) }
     ensures still { IfOk result (StaysUnless domain.old lent.old domain.new lent.new) }
     ensures told { IfOk result (λ changed. changed ≡ orders_some (records_in domain.old lent.old)) }
+    ensures none { OnOk result (AreNotFree (records_in domain.old lent.old) → AreNotFree (records_in domain.new lent.new)) }
 {
     if !domain.orders.some_wait() {
         return Ok(false);
@@ -100,6 +102,7 @@ fn set_order(domain: &mut Domain, place: usize, lent: &mut Lent<'_>) -> Result<b
     ensures still { IfOk result (StaysUnless domain.old lent.old domain.new lent.new) }
     ensures told { IfOk result (λ changed. changed ≡ orders_at (records_in domain.old lent.old) place) }
     ensures len { vec_len domain.new.groups ≡ vec_len domain.old.groups }
+    ensures none { OnOk result (AreNotFree (records_in domain.old lent.old) → AreNotFree (records_in domain.new lent.new)) }
 {
     let group = domain.record(place).name;
     if !domain.orders.waits(group) {
@@ -122,6 +125,7 @@ fn set_order_by_each(
     ensures still { IfOk result (StaysUnless domain.old lent.old domain.new lent.new) }
     ensures told { IfOk result (λ changed. changed ≡ orders_each (records_in domain.old lent.old) place holders.now) }
     ensures len { vec_len domain.new.groups ≡ vec_len domain.old.groups }
+    ensures none { OnOk result (AreNotFree (records_in domain.old lent.old) → AreNotFree (records_in domain.new lent.new)) }
 {
     let mut changed = false;
     for serial in holders {
@@ -144,6 +148,7 @@ fn set_order_by(
     ensures still { IfOk result (StaysUnless domain.old lent.old domain.new lent.new) }
     ensures told { IfOk result (λ changed. changed ≡ lists_some (records_in domain.old lent.old) place serial) }
     ensures len { vec_len domain.new.groups ≡ vec_len domain.old.groups }
+    ensures none { OnOk result (AreNotFree (records_in domain.old lent.old) → AreNotFree (records_in domain.new lent.new)) }
 {
     let holder = domain.process(serial);
     let group = domain.record(place).name;

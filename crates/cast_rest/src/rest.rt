@@ -9,6 +9,7 @@ ghost use Rattle.cast_rules.specs.Rules.Order.{set_orders};
 ghost use Rattle.cast_events.specs.declared.event.Outs.{Outs};
 ghost use Rattle.cast_domain.specs.Flags.{delivers_some, has_ready, passes_some};
 ghost use Rattle.cast_domain.specs.Fits.{AreDismissed};
+ghost use Rattle.cast_domain.specs.Freed.{AreNotFree, AreNotFreeBut};
 ghost use Rattle.cast_domain.specs.Stepped.{IsRested};
 ghost use Rattle.cast_rules.specs.Rules.Release.{let_go};
 
@@ -21,14 +22,15 @@ use cast_domain::lent::Lent;
 use cast_domain::rest::{Delivery, Weight};
 use cast_events::Outs;
 use cast_message::{Body, CastKind, Message, Push};
-use cast_types::{Key, NoMemory, Proc, Uid};
+use cast_types::{Key, NoMemory, Proc, Source, Uid, source_of};
 use std::alloc::AllocError;
 
 // What follows from an event, until nothing changes. No run makes 2^64 passes.
 pub fn rest(domain: &mut Domain, lent: &mut Lent<'_>) -> Result<(), NoMemory>
     ensures stays { KeepsBeside domain.old lent.old domain.new lent.new }
-    ensures dismissed { OnOk result (AreDismissed (records_in domain.old lent.old) → AreDismissed (records_in domain.new lent.new)) }
-    ensures rests { OnOk result (IsRested (records_in domain.old lent.old) (records_in domain.new lent.new)) }
+    ensures dismissed { OnOk result (AreNotFree (records_in domain.old lent.old) → AreDismissed (records_in domain.old lent.old) → AreDismissed (records_in domain.new lent.new)) }
+    ensures rests { OnOk result (AreNotFree (records_in domain.old lent.old) → IsRested (records_in domain.old lent.old) (records_in domain.new lent.new)) }
+    ensures none { OnOk result (AreNotFree (records_in domain.old lent.old) → AreNotFree (records_in domain.new lent.new)) }
 {
     for _turn in 0..u64::MAX {
         if !pass(domain, lent)? {
@@ -42,9 +44,10 @@ pub fn rest(domain: &mut Domain, lent: &mut Lent<'_>) -> Result<(), NoMemory>
 // home. Answers whether anything changed.
 fn pass(domain: &mut Domain, lent: &mut Lent<'_>) -> Result<bool, NoMemory>
     ensures stays { KeepsBeside domain.old lent.old domain.new lent.new }
-    ensures made { OnOk result (Makes (pass records resting_records) domain.old lent.old domain.new lent.new) }
+    ensures made { OnOk result (AreNotFree (records_in domain.old lent.old) → Makes (pass records resting_records) domain.old lent.old domain.new lent.new) }
     ensures still { IfOk result (StaysUnless domain.old lent.old domain.new lent.new) }
-    ensures told { IfOk result (λ changed. changed ≡ passes_some (records_in domain.old lent.old)) }
+    ensures told { IfOk result (λ changed. AreNotFree (records_in domain.old lent.old) → changed ≡ passes_some (records_in domain.old lent.old)) }
+    ensures none { OnOk result (AreNotFree (records_in domain.old lent.old) → AreNotFree (records_in domain.new lent.new)) }
 {
     let settled = settle(domain, lent)?;
     let ordered = set_orders(domain, lent)?;
@@ -56,9 +59,10 @@ fn pass(domain: &mut Domain, lent: &mut Lent<'_>) -> Result<bool, NoMemory>
 // Each process delivers until nothing is ready for it. Where each message is settled, nothing is.
 fn settle(domain: &mut Domain, lent: &mut Lent<'_>) -> Result<bool, NoMemory>
     ensures stays { KeepsBeside domain.old lent.old domain.new lent.new }
-    ensures made { OnOk result (Makes (settle records resting_records) domain.old lent.old domain.new lent.new) }
+    ensures made { OnOk result (AreNotFree (records_in domain.old lent.old) → Makes (settle records resting_records) domain.old lent.old domain.new lent.new) }
     ensures still { IfOk result (StaysUnless domain.old lent.old domain.new lent.new) }
-    ensures told { IfOk result (λ changed. changed ≡ delivers_some (records_in domain.old lent.old)) }
+    ensures told { IfOk result (λ changed. AreNotFree (records_in domain.old lent.old) → changed ≡ delivers_some (records_in domain.old lent.old)) }
+    ensures none { OnOk result (AreNotFree (records_in domain.old lent.old) → AreNotFree (records_in domain.new lent.new)) }
 {
     if domain.delay.is_settled() {
         return Ok(false);
@@ -69,9 +73,10 @@ fn settle(domain: &mut Domain, lent: &mut Lent<'_>) -> Result<bool, NoMemory>
 // One process after the other delivers; those that are in no group are passed over.
 fn settle_each(domain: &mut Domain, lent: &mut Lent<'_>) -> Result<bool, NoMemory>
     ensures stays { KeepsBeside domain.old lent.old domain.new lent.new }
-    ensures made { OnOk result (Makes (settle records resting_records) domain.old lent.old domain.new lent.new) }
+    ensures made { OnOk result (AreNotFree (records_in domain.old lent.old) → Makes (settle records resting_records) domain.old lent.old domain.new lent.new) }
     ensures still { IfOk result (StaysUnless domain.old lent.old domain.new lent.new) }
-    ensures told { IfOk result (λ changed. changed ≡ delivers_some (records_in domain.old lent.old)) }
+    ensures told { IfOk result (λ changed. AreNotFree (records_in domain.old lent.old) → changed ≡ delivers_some (records_in domain.old lent.old)) }
+    ensures none { OnOk result (AreNotFree (records_in domain.old lent.old) → AreNotFree (records_in domain.new lent.new)) }
 {
     let count = domain.delay.admitted_count();
     let mut changed = false;
@@ -89,9 +94,10 @@ fn settle_each(domain: &mut Domain, lent: &mut Lent<'_>) -> Result<bool, NoMemor
 // A process looks at the messages that came since, and then delivers until nothing is ready for it.
 fn deliver_to(domain: &mut Domain, serial: u32, lent: &mut Lent<'_>) -> Result<bool, NoMemory>
     ensures stays { KeepsBeside domain.old lent.old domain.new lent.new }
-    ensures made { OnOk result (Makes (λ r. deliver_all records resting_records r serial) domain.old lent.old domain.new lent.new) }
+    ensures made { OnOk result (AreNotFree (records_in domain.old lent.old) → Makes (λ r. deliver_all records resting_records r serial) domain.old lent.old domain.new lent.new) }
     ensures still { IfOk result (StaysUnless domain.old lent.old domain.new lent.new) }
     ensures told { IfOk result (λ changed. changed ≡ has_ready (records_in domain.old lent.old) serial) }
+    ensures none { OnOk result (AreNotFree (records_in domain.old lent.old) → AreNotFree (records_in domain.new lent.new)) }
 {
     let process = domain.process(serial);
     domain.delay.look(process);
@@ -101,9 +107,10 @@ fn deliver_to(domain: &mut Domain, serial: u32, lent: &mut Lent<'_>) -> Result<b
 // A process delivers until nothing is ready for it. It delivers no message twice.
 fn deliver_all(domain: &mut Domain, serial: u32, lent: &mut Lent<'_>) -> Result<bool, NoMemory>
     ensures stays { KeepsBeside domain.old lent.old domain.new lent.new }
-    ensures made { OnOk result (Makes (λ r. deliver_all records resting_records r serial) domain.old lent.old domain.new lent.new) }
+    ensures made { OnOk result (AreNotFree (records_in domain.old lent.old) → Makes (λ r. deliver_all records resting_records r serial) domain.old lent.old domain.new lent.new) }
     ensures still { IfOk result (StaysUnless domain.old lent.old domain.new lent.new) }
     ensures told { IfOk result (λ changed. changed ≡ has_ready (records_in domain.old lent.old) serial) }
+    ensures none { OnOk result (AreNotFree (records_in domain.old lent.old) → AreNotFree (records_in domain.new lent.new)) }
 {
     let mut changed = false;
     for _turn in 0..domain.held_count(lent) {
@@ -118,9 +125,10 @@ fn deliver_all(domain: &mut Domain, serial: u32, lent: &mut Lent<'_>) -> Result<
 // A process delivers the first message that is ready for it, and what is free then is let go. Answers whether there was one.
 fn deliver_first(domain: &mut Domain, serial: u32, lent: &mut Lent<'_>) -> Result<bool, NoMemory>
     ensures stays { KeepsBeside domain.old lent.old domain.new lent.new }
-    ensures made { OnOk result (Makes (deliver_first records resting_records serial) domain.old lent.old domain.new lent.new) }
+    ensures made { OnOk result (AreNotFree (records_in domain.old lent.old) → Makes (deliver_first records resting_records serial) domain.old lent.old domain.new lent.new) }
     ensures still { IfOk result (StaysUnless domain.old lent.old domain.new lent.new) }
     ensures told { IfOk result (λ changed. changed ≡ has_ready (records_in domain.old lent.old) serial) }
+    ensures none { OnOk result (AreNotFree (records_in domain.old lent.old) → AreNotFree (records_in domain.new lent.new)) }
 {
     let process = domain.process(serial);
     let Some(key) = next_ready(domain, process, lent)? else {
@@ -130,9 +138,25 @@ fn deliver_first(domain: &mut Domain, serial: u32, lent: &mut Lent<'_>) -> Resul
         return Ok(false);
     };
     let delivery = delivery_of(message)?;
+    let source = source_of(domain.delay.id_under(key).unwrap_or(delivery.id));
+    let full = domain.is_full(serial, lent);
     deliver(domain, process, key, delivery, lent)?;
-    domain.let_go(lent);
+    let_go_delivered(domain, full, source, lent);
     Ok(true)
+}
+
+// Lets go of what is free after a delivery. Where nothing was free before it, those are messages of one source, but where the
+// outbox was full: the session was closed then, and its process left all groups.
+fn let_go_delivered(domain: &mut Domain, full: bool, source: Source, lent: &mut Lent<'_>)
+    ensures stays { KeepsBeside domain.old lent.old domain.new lent.new }
+    ensures made { (full ≡ false → AreNotFreeBut source (records_in domain.old lent.old)) → Makes (let_go records resting_records) domain.old lent.old domain.new lent.new }
+    ensures none { (full ≡ false → AreNotFreeBut source (records_in domain.old lent.old)) → AreNotFree (records_in domain.new lent.new) }
+{
+    if full {
+        domain.let_go(lent);
+    } else {
+        domain.let_go_of(source, lent);
+    }
 }
 
 // A process delivers the message under a key, and the program is told.

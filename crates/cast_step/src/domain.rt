@@ -1,10 +1,11 @@
 ghost use Rattle.std.specs.Prelude.{◌<◌, ◌≡◌, true, false, None, IfOk, OnOk, OnErr};
-ghost use Rattle.cast_domain.specs.Records.{number_of, is_halted, records_beside, Makes};
+ghost use Rattle.cast_domain.specs.Records.{number_of, is_halted, records_beside, records_in, KeepsBeside, Makes};
 ghost use Rattle.cast_domain.specs.Shared.{no_part, part_of, LeavesOthers};
 ghost use Rattle.cast_domain.specs.Shows.{groups_shown};
 ghost use Rattle.cast_events.specs.Events.{domain_of};
 ghost use Rattle.cast_domain.specs.Stepped.{IsSteppedBeside, IsRefusedBeside};
-ghost use Rattle.cast_domain.specs.Calls.{answered_in};
+ghost use Rattle.cast_domain.specs.Calls.{answered_in, records, resting_records};
+ghost use Rattle.cast_domain.specs.Freed.{source_freed, AreNotFree, AreFreedBy};
 ghost use Rattle.cast_events.specs.declared.event.Outs.{Outs};
 ghost use Rattle.cast_rules.specs.Rules.Release.{let_go};
 
@@ -15,10 +16,11 @@ use cast_domain::lent::Lent;
 use cast_domain::record::drop_homes;
 use cast_domain::{Domain, Shared};
 use cast_events::{Event, Outs, Taken};
+use cast_message::SiteFrame;
 use cast_order::Orders;
 use cast_rest::rest::rest;
 use cast_stable::Acks;
-use cast_types::{NoMemory, Refusal};
+use cast_types::{NoMemory, Refusal, Source, source_of};
 
 /// Makes one step: the event, and then what follows from it until nothing changes. What is sent and delivered is
 /// added to `outs`. Of what is `shared` the parts of other domains stay as they are. `NoMemory` halts the domain: it
@@ -86,10 +88,33 @@ fn serve(
         outs: &mut step,
     };
     let taken = act(domain, event, &mut lent)?;
-    domain.let_go(&mut lent);
+    let_go_after(domain, event, &mut lent);
     rest(domain, &mut lent)?;
     let kept = lent.shared.store.messages(domain.config.domain);
     trim_orders(domain, &kept);
     outs.append(step)?;
     Ok(taken)
+}
+
+// Lets go of what is free after an event. Where nothing was free before it, only what it set free is looked for.
+fn let_go_after(domain: &mut Domain, event: &Event, lent: &mut Lent<'_>)
+    ensures stays { KeepsBeside domain.old lent.old domain.new lent.new }
+    ensures made { AreFreedBy event.now (records_in domain.old lent.old) → Makes (let_go records resting_records) domain.old lent.old domain.new lent.new }
+    ensures none { AreFreedBy event.now (records_in domain.old lent.old) → AreNotFree (records_in domain.new lent.new) }
+{
+    match source_set_free(event) {
+        Some(source) => domain.let_go_of(source, lent),
+        None => domain.let_go(lent),
+    }
+}
+
+// The source of the only messages that an event can set free, where that is known.
+fn source_set_free(event: &Event) -> Option<Source>
+    ensures { result ≡ source_freed event.now }
+{
+    match event {
+        Event::Frame(_, _, SiteFrame::Data(message)) => Some(source_of(message.id)),
+        Event::Frame(_, _, SiteFrame::Ack(id) | SiteFrame::Stable(id)) => Some(source_of(*id)),
+        _ => None,
+    }
 }

@@ -1,4 +1,5 @@
-use Rattle.std.proofs.Common.{◌≡◌, ◌∙◌, true, Option, Some, None, sym, ap}
+use Rattle.std.proofs.Common.{◌≡◌, ◌∙◌, true, Option, Some, None, sym, ap, subst}
+use Rattle.std.proofs.lemmas.Result.{on_ok_weaker}
 use Rattle.std.specs.Prelude.{if◌then◌else◌}
 use Rattle.std.specs.List.{fold}
 use Rattle.cast_message.specs.Membership.{Membership}
@@ -7,6 +8,8 @@ use Rattle.cast_rules.specs.Rules.Flushes.{complete, complete_or_want, want_own}
 use Rattle.cast_rules.specs.Rules.Release.{let_go}
 use Rattle.cast_domain.specs.Records.{Records, records_in}
 use Rattle.cast_domain.specs.Calls.{has_cut_of, missing_of, record_at, records, resting_records}
+use Rattle.cast_domain.specs.Freed.{AreNotFree}
+use Rattle.cast_domain.proofs.NotFree.{none_wants}
 use Rattle.cast_rest.proofs.flushes.go_on.Goals as goal
 
 pub returns-clause-made : goal.returns-clause-made
@@ -23,3 +26,12 @@ returns-clause-made c =
     ∙ ap (let_go records resting_records) (c.in_ok-complete.ensures.made p.cut ∙ ap (λ (m : Membership). complete records r i (record { members = m; request = p.request; cut = p.cut })) c.in_ok-members.ensures)
     ∙ sym (ap (λ b. if b then let_go records resting_records (complete records r i p) else wants) cut)
     ∙ sym (ap step waits)
+
+-- what is wanted frees none
+pub returns-then-not-has_cut-clause-none : goal.returns-then-not-has_cut-clause-none
+returns-then-not-has_cut-clause-none c =
+    let r = records_in c.args.domain.now c.args.lent.now in
+    let i = c.args.place in
+    on_ok_weaker c.want_missing.result
+    (λ made none. subst AreNotFree (sym made) (none_wants i (missing_of r (record_at r.groups i) c.in-Some.pending.now.cut) r none))
+    c.want_missing.ensures.made

@@ -17,6 +17,7 @@ loop-place-preserved c =
     let within : i < n = omega arith in
     record {
       stays = beside_then c.loop-place.invariant.stays c.in_ok-gone_on.ensures.stays;
+      clear = λ none. c.in_ok-gone_on.ensures.none (c.loop-place.invariant.clear none);
       left =
           ap (λ x. fold (go_on records resting_records) x (range_with_len (i + 1) (n - (i + 1)))) c.in_ok-gone_on.ensures.made
           ∙ fold_more (go_on records resting_records) r i n within ∙ c.loop-place.invariant.left;

@@ -18,6 +18,7 @@ loop-place-preserved c =
     let within : i < n = omega arith in
     record {
       stays = beside_then c.loop-place.invariant.stays c.in_ok-set.ensures.stays;
+      clear = λ none. c.in_ok-set.ensures.none (c.loop-place.invariant.clear none);
       len = c.in_ok-set.ensures.len ∙ c.loop-place.invariant.len;
       left =
           ap (λ x. fold (set_order records resting_records) x (range_with_len (i + 1) (n - (i + 1)))) c.in_ok-set.ensures.made

@@ -20,7 +20,8 @@ loop-turn-preserved c =
     let within : i < n = omega (arith, c.held_count-turn-end.ensures) in
     record {
       stays = beside_then c.loop-turn.invariant.stays c.in_ok-deliver_first.ensures.stays;
-      left = ap (iterate (n - (i + 1)) first) c.in_ok-deliver_first.ensures.made ∙ turn_more first r i n within ∙ c.loop-turn.invariant.left;
+      clear = λ none. c.in_ok-deliver_first.ensures.none (c.loop-turn.invariant.clear none);
+      left = λ none. ap (iterate (n - (i + 1)) first) (c.in_ok-deliver_first.ensures.made (c.loop-turn.invariant.clear none)) ∙ turn_more first r i n within ∙ c.loop-turn.invariant.left none;
       told = λ _. elim c.loop-turn.changed as (λ b. c.loop-turn.changed ≡ b → has_ready (records_in c.args.domain.now c.args.lent.now) c.args.serial ≡ true) [
         | true ↦ λ e. c.loop-turn.invariant.told e
         | false ↦ λ e. subst (λ x. has_ready x c.args.serial ≡ true) (c.loop-turn.invariant.still e) (sym c.in_ok-deliver_first.ensures.told ∙ c.if-not-branch.false)
@@ -31,13 +32,13 @@ loop-turn-preserved c =
 
 -- a process that delivered nothing has nothing to deliver
 pub returns-then-not-branch-clause-made : goal.returns-then-not-branch-clause-made
-returns-then-not-branch-clause-made c =
+returns-then-not-branch-clause-made c none =
     let r = records_in c.loop-turn.domain c.loop-turn.lent in
     let first = deliver_first records resting_records c.args.serial in
     let n = length (part_of c.args.domain.now.config.domain c.args.lent.now.shared.now).kept in
     let same = c.in_ok-deliver_first.ensures.still c.if-not-branch.true in
-    let still : first r ≡ r = sym c.in_ok-deliver_first.ensures.made ∙ same in
-    same ∙ sym (iterate_still (n - c.loop-turn._turn) first r still) ∙ c.loop-turn.invariant.left
+    let still : first r ≡ r = sym (c.in_ok-deliver_first.ensures.made (c.loop-turn.invariant.clear none)) ∙ same in
+    same ∙ sym (iterate_still (n - c.loop-turn._turn) first r still) ∙ c.loop-turn.invariant.left none
 
 -- it tells whether something was ready at first: it delivered, or nothing was
 pub returns-then-not-branch-clause-told : goal.returns-then-not-branch-clause-told

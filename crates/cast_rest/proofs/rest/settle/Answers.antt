@@ -11,11 +11,11 @@ none : (c : Then-is_settled) → c.is_settled.result ≡ true → (p : Proc) →
 none c settled p = c.is_settled.ensures p (not_from_true c.is_settled.result settled) (turns_in (records_in c.args.domain.now c.args.lent.now) p)
 
 pub returns-then-is_settled-clause-made : goal.returns-then-is_settled-clause-made
-returns-then-is_settled-clause-made c =
+returns-then-is_settled-clause-made c _ =
     let r = records_in c.args.domain.now c.args.lent.now in
     sym (none_deliver r (none c c.if-is_settled.true) (serials_in r))
 
 pub returns-then-is_settled-clause-told : goal.returns-then-is_settled-clause-told
-returns-then-is_settled-clause-told c =
+returns-then-is_settled-clause-told c _ =
     let r = records_in c.args.domain.now c.args.lent.now in
     sym (none_delivers r (none c c.if-is_settled.true) (serials_in r))
