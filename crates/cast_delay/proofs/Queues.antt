@@ -450,9 +450,6 @@ new_fits groups = record {
 pub next_means : (turns : List (GroupNo × Turn)) (q : Queue) (p : Proc) (k : Option Key) → k ≡ next_key turns q p → (groups : List GroupNo) (gate : GroupNo → Gate) (processes : Proc → Process) (received : List Received) → Fits groups gate processes received q → (turn : GroupNo → Turn) → HasTurns (processes p) turns turn → FirstReady groups gate turn (processes p) received k
 next_means turns q p k is groups gate processes received fits turn agree = subst (λ x. FirstReady groups gate turn (processes p) received x) (sym is) (next_rules groups gate processes received q fits p turns turn agree)
 
-pub delivered_is : (q : Queue) (p : Proc) (id : Uid) (b : Bool) → b ≡ delivered_in q p id → (groups : List GroupNo) (gate : GroupNo → Gate) (processes : Proc → Process) (received : List Received) → Fits groups gate processes received q → IsSome (row_of q.rows p) → HasNotEnded gate id.group id.view → b ≡ has_delivered (processes p) id
-delivered_is q p id b is groups gate processes received fits admitted stands = is ∙ delivered_rules groups gate processes received q fits p id admitted stands
-
 pub passed_is : (q : Queue) (p : Proc) (g : GroupNo) (view : ℕ) (ids : List Entry) (n : ℕ) → n ≡ passed_in q p g view ids → (groups : List GroupNo) (gate : GroupNo → Gate) (processes : Proc → Process) (received : List Received) → Fits groups gate processes received q → IsSome (row_of q.rows p) → HasNotEnded gate g view → n ≡ unwrap_or (list.position (λ e. not (has_delivered (processes p) (named g view e))) ids) (length ids)
 passed_is q p g view ids n is groups gate processes received fits admitted stands = is ∙ passed_rules groups gate processes received q fits p g view ids admitted stands
 

@@ -1,12 +1,11 @@
 -- Messages that are settled are ready for no row, and stay settled.
-use Rattle.std.proofs.Common.{◌≡◌, ℕ, zero, suc, ◌+◌, ◌<◌, ◌≤◌, Bool, true, false, cond, not, ◌&&◌, ◌||◌, List, [], ◌∷◌, ◌++◌, length, length-append, take, get_or, filter, Option, Some, None, unwrap_or, refl, sym, ap, subst, ◌∙◌, inl, inr, arith}
+use Rattle.std.proofs.Common.{◌≡◌, ℕ, zero, suc, ◌≤◌, Bool, true, false, cond, not, ◌&&◌, ◌||◌, List, [], ◌∷◌, ◌++◌, length, length-append, take, filter, Option, Some, None, unwrap_or, refl, sym, ap, subst, ◌∙◌, inl, inr, arith}
 use Rattle.std.specs.Prelude.{◌==◌, nat_lt, nat_le, if◌then◌else◌}
 use Rattle.std.specs.List as list
 use Rattle.std.specs.Option.{option_map, option_and_then}
 use Rattle.std.specs.Ordering.{eq_by_cmp}
 use Rattle.std.specs.FinMap.Entries.{find, put, find-put}
 use Rattle.std.proofs.lemmas.Bool.{cases_Bool, false≢true, false_from_ne_true, not-true, not_from_false, and_parts, and_from, or_cases, or_left, or_right, or_parts, eq-eqb, lt-ltb, leb-true, ltb-false, le-ltb}
-use Rattle.std.proofs.lemmas.List.Folds.{list_all_more}
 use Rattle.cast_types.specs.declared.names.GroupNo.{GroupNo}
 use Rattle.cast_types.specs.declared.names.Proc.{Proc}
 use Rattle.cast_types.specs.declared.names.Key.{Key}
@@ -105,13 +104,6 @@ next_row q p row at turns = ap (option_map (λ (o : Offered). o.key)) (sym (ap (
 -- nothing is settled at first
 pub none_settled : (gates : List (GroupNo × Gate)) (rows : List Row) (offered : List Offered) → AreSettled gates rows offered 0
 none_settled gates rows offered = record { within = omega arith; each = refl }
-
--- one more is
-pub settled_more : (gates : List (GroupNo × Gate)) (rows : List Row) (offered : List Offered) (n : ℕ) (o : Offered) → AreSettled gates rows offered n → n < length offered → is_settled gates rows (get_or offered n o) ≡ true → AreSettled gates rows offered (n + 1)
-settled_more gates rows offered n o settled lt is = record {
-  within = omega (arith, lt);
-  each = list_all_more (is_settled gates rows) offered n o lt ∙ and_from (list.list_all (is_settled gates rows) (take n offered)) (is_settled gates rows (get_or offered n o)) settled.each is;
-}
 
 -- where rows await no more, and groups have the same views
 settled_still : (gates later : List (GroupNo × Gate)) → ((g : GroupNo) → (gate_in later g).number ≡ (gate_in gates g).number) → (rows others : List Row) → ((id : Uid) → is_awaited rows id ≡ false → is_awaited others id ≡ false) → (offered : List Offered) (n : ℕ) → AreSettled gates rows offered n → AreSettled later others offered n

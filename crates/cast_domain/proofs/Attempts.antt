@@ -49,13 +49,6 @@ cast_going r k g cast payload i short member =
     ap (λ b. if b then (r, Some TooLong) else if not (is_member (standing_of r.delay (local_in r k) g)) then (r, Some NotMember) else last) short
     ∙ ap (λ b. if not b then (r, Some NotMember) else last) member
 
--- a cast to a group that a flush has frozen is refused
-pub cast_frozen : (r : Records) (k : ℕ) (g : GroupNo) (cast : CastKind) (payload : List ℕ) (i : ℕ) → nat_lt MAX_PAYLOAD (length payload) ≡ false → is_member (standing_of r.delay (local_in r k) g) ≡ true → (record_at r.groups i).here.frozen ≡ true → cast_at records r k g cast payload i ≡ (r, Some Flushing)
-cast_frozen r k g cast payload i short member frozen =
-    let last : Attempt Records = if awaits_own_in r (local_in r k) then (r, Some OwnAbcast) else if not (may_receive records r) then (r, Some HeldFull) else if not (may_raise (time_of r.delay (local_in r k)) g (local_in r k)) then (r, Some HeldFull) else (count_cast_in (sent r k g cast payload i), None) in
-    cast_going r k g cast payload i short member
-    ∙ ap (λ b. if b then (r, Some Flushing) else last) frozen
-
 -- what is left of a cast past the tests of the group
 cast_owning : (r : Records) (k : ℕ) (g : GroupNo) (cast : CastKind) (payload : List ℕ) (i : ℕ) → nat_lt MAX_PAYLOAD (length payload) ≡ false → is_member (standing_of r.delay (local_in r k) g) ≡ true → (record_at r.groups i).here.frozen ≡ false → cast_at records r k g cast payload i ≡ (if awaits_own_in r (local_in r k) then (r, Some OwnAbcast) else if not (may_receive records r) then (r, Some HeldFull) else if not (may_raise (time_of r.delay (local_in r k)) g (local_in r k)) then (r, Some HeldFull) else (count_cast_in (sent r k g cast payload i), None))
 cast_owning r k g cast payload i short member going =

@@ -40,10 +40,6 @@ beside_then {a} {b} {c} {x} {y} {z} first then = record {
   back = back_then a.config.domain x y z first.back (subst (λ (d : DomainConfig). GivesBack d.domain y z) first.same.config then.back);
 }
 
--- a change of the domain's own beside which something was sent or delivered
-pub beside_outs : {a b : Domain} (l : Lent) (o : Outs) → Keeps a b → KeepsBeside a l b (record l { outs = record l.outs { now = o } })
-beside_outs l o same = record { same = same; back = record { others = refl; shared = refl; outs = refl } }
-
 -- a domain with what is shared, after its own change
 pub seen_as : (a b : Domain) → Keeps a b → (h : Shared) (o : Outs) → records_of b (part_of b.config.domain h) o ≡ records_of b (part_of a.config.domain h) o
 seen_as a b same h o = ap (λ (c : DomainConfig). records_of b (part_of c.domain h) o) same.config
@@ -69,18 +65,6 @@ pub record_at_update : (f : GroupRecord → GroupRecord) (xs : List GroupRecord)
 record_at_update f [] i lt = absurd (omega arith)
 record_at_update f (x ∷ xs) zero lt = refl
 record_at_update f (x ∷ xs) (suc i) lt = record_at_update f xs i (omega arith)
-
--- to write the same is to write the same
-pub update_same : (f g : GroupRecord → GroupRecord) (xs : List GroupRecord) (i : ℕ) → f (record_at xs i) ≡ g (record_at xs i) → update xs i f ≡ update xs i g
-update_same f g [] i same = refl
-update_same f g (x ∷ xs) zero same = ap (λ y. y ∷ xs) same
-update_same f g (x ∷ xs) (suc i) same = ap (λ ys. x ∷ ys) (update_same f g xs i same)
-
--- to write what stands there changes nothing
-pub update_still : (f : GroupRecord → GroupRecord) (xs : List GroupRecord) (i : ℕ) → f (record_at xs i) ≡ record_at xs i → update xs i f ≡ xs
-update_still f [] i same = refl
-update_still f (x ∷ xs) zero same = ap (λ y. y ∷ xs) same
-update_still f (x ∷ xs) (suc i) same = ap (λ ys. x ∷ ys) (update_still f xs i same)
 
 -- what is released is of no group's record
 groups_after : (keys : List Key) (r : Records) → (fold release_in r keys).groups ≡ r.groups

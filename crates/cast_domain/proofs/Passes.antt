@@ -1,5 +1,5 @@
 -- Passes of the records are passes of what they stand for.
-use Rattle.std.proofs.Common.{◌≡◌, zero, [], refl, sym, subst}
+use Rattle.std.proofs.Common.{◌≡◌, [], refl, sym, subst}
 use Rattle.cast_types.proofs.Iterates.{Led, led_on, led_rests}
 use Rattle.cast_rules.specs.State.{State}
 use Rattle.cast_rules.specs.Rest.{pass, RestsAt}
@@ -35,10 +35,6 @@ fits_between r s fits = record {
   delivered = refl;
   pushed = refl;
 }
-
--- at the start no pass was made
-pub led_start : (w : Records) (s : State) → Fits w s → IsLawful s → Led Stands pass w s
-led_start w s fits lawful = (zero, (fits, lawful))
 
 -- one more pass
 pub led_pass : (w v : Records) → v ≡ rest.pass records resting_records w → (s : State) → Led Stands pass w s → Led Stands pass v s

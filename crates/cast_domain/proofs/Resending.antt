@@ -83,24 +83,6 @@ resent r sent is moment =
     ∙ ap (λ s. fold note_resent_in s keys) is
     ∙ one_by_one keys r
 
--- sending changes nothing that a frame says
-kind_sent : (r : Records) (to : SiteNo) (f : SiteFrame) (x : OwedKey) (h : ℕ) (kind : OwedKind) → frame_of_kind records (send_in r to f) h x kind ≡ frame_of_kind records r h x kind
-kind_sent r to f x h Ask = refl
-kind_sent r to f x h Data = refl
-kind_sent r to f x h Prepare = refl
-kind_sent r to f x h Want = elim x.side as (λ side. frame_of_kind records (send_in r to f) h (record x { side = side }) Want ≡ frame_of_kind records r h (record x { side = side }) Want) [
-  | Site ↦ refl
-  | Home ↦ refl
-]
-kind_sent r to f x h Install = refl
-kind_sent r to f x h Ack = refl
-
-pub frame_sent : (r : Records) (to : SiteNo) (f : SiteFrame) (x : OwedKey) → frame_for records (send_in r to f) x ≡ frame_for records r x
-frame_sent r to f x = elim (place_in r x.group) as (λ o. option_and_then (λ h. frame_of_kind records (send_in r to f) h x x.kind) o ≡ option_and_then (λ h. frame_of_kind records r h x x.kind) o) [
-  | None ↦ refl
-  | Some h ↦ kind_sent r to f x h x.kind
-]
-
 data_of : (kind : OwedKind) → kind_rank kind == 1 ≡ true → kind ≡ Data
 data_of Ask is = absurd (false≢true is)
 data_of Data is = refl

@@ -23,9 +23,6 @@ use Rattle.cast_isolation.proofs.Later.{IsLater, configs_of, later_same, all_sam
 use Rattle.cast_isolation.proofs.Served.{HasGiven, Keeps, kept_given, other_event, halt_after, own_turn, all_numbered}
 
 module _ (here : SiteNo) (events : List Event) (answers : List (Result Taken Fault)) (e : Event) (a : Result Taken Fault) (long : length events ≡ length answers) (n : DomainNo) (is : domain_of e ≡ Some n) (before after : Lent) (kept : (q : DomainNo) → domain_eq n q ≡ false → Keeps q before after) where
-  names_is : (d : DomainNo) → names d e ≡ domain_eq n d
-  names_is d = ap (λ o. option_map_or (λ m. domain_eq m d) o false) is
-
   own_is : (d : DomainNo) → is_own d e ≡ domain_eq n d
   own_is d = ap (λ o. option_map_or (λ m. domain_eq m d) o true) is
 

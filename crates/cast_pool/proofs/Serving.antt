@@ -1,13 +1,12 @@
 -- What an event that is served leaves: nothing, or one more entry, with the trace trimmed before it or not.
 use Rattle.std.proofs.Common.{◌≡◌, ℕ, ◌+◌, ◌<◌, ◌≤◌, Bool, true, false, cond, List, [], ◌∷◌, ◌++◌, length, Option, Some, None, Result, Ok, Err, refl, sym, ap, subst, ◌∙◌, arith, length-append}
 use Rattle.std.specs.Prelude.{◌==◌, nat_le}
-use Rattle.std.proofs.lemmas.Bool.{false≢true, le-leb, lt-leb, leb-true, eq-eqb, false_from_ne_true, eqb-true}
+use Rattle.std.proofs.lemmas.Bool.{false≢true, le-leb, lt-leb, leb-true, false_from_ne_true, eqb-true}
 use Rattle.cast_types.specs.declared.names.DomainNo.{DomainNo}
 use Rattle.cast_types.specs.declared.refusal.Refusal.TheVariants as refusal
 use Rattle.cast_events.specs.declared.event.Event.{Event}
 use Rattle.cast_events.specs.declared.event.Outs.{Outs}
 use Rattle.cast_events.specs.declared.event.Taken.{Taken}
-use Rattle.cast_events.specs.declared.event.Taken.TheVariants.{Refused}
 use Rattle.cast_events.specs.declared.log.Fault.{Fault}
 use Rattle.cast_events.specs.declared.log.Fault.TheVariants.{NoMemory, Halted, NoDomain}
 use Rattle.cast_events.specs.Outs.{no_outs}
@@ -44,16 +43,9 @@ left_none (Err NoMemory) old new before after none same = same.0
 left_none (Err (Halted d)) old new before after none same = absurd (some_kept (noted.Halted d) none)
 left_none (Err NoDomain) old new before after none same = same.0
 
--- The event after the last one that can be counted
+-- An event that can be counted
 
-pub served_full : (event : Event) (s : Seen) (was : ℕ) → events_of s ≡ 18446744073709551615 → Serves event (Ok (Refused refusal.Halted)) no_outs s s was was
-served_full event s was full =
-    record {
-      full = λ is. (refl, refl, (refl, refl));
-      room = λ not. absurd (false≢true (sym not ∙ eq-eqb (events_of s) 18446744073709551615 full));
-    }
-
--- one that can be counted
+-- there is a number for it
 pub counts_on : (s : Seen) → ((events_of s ≡ 18446744073709551615) → ⊥) → is_full s ≡ false
 counts_on s not = false_from_ne_true (is_full s) (λ is. not (eqb-true (events_of s) 18446744073709551615 is))
 
@@ -61,10 +53,6 @@ module _ (event : Event) (old : Seen) (counts : is_full old ≡ false) where
   served_as : (a : Result Taken Fault) (outs : Outs) (new : Seen) (was now : ℕ) → IsServed event a outs old new was now → Serves event a outs old new was now
   served_as a outs new was now served =
       record { full = λ is. absurd (false≢true (sym counts ∙ is)); room = λ _. served }
-
-  -- there was no room
-  pub served_without_room : (new : Seen) (was : ℕ) → new ≡ old → Serves event (Err NoMemory) no_outs old new was was
-  served_without_room new was same = served_as (Err NoMemory) no_outs new was was (refl, (same, refl))
 
   -- it was not taken
   pub served_none : (a : Result Taken Fault) (outs : Outs) (new : Seen) (was : ℕ) → noted_of a ≡ None → IsApplied a event (domains_of old.table) (domains_of new.table) (lent old.table no_outs) (lent new.table outs) → IsUnchanged a old.table new.table no_outs outs

@@ -462,12 +462,6 @@ same_request s g what p =
     let a : SameLaw s next = same_group_set s g (with_request (s.group g) what p) refl refl refl refl in
     same_if s (ask_home history next g) next (is_empty (s.group g).requests) (same_then s next (ask_home history next g) a (same_ask_home next g)) a
 
-pub lawful_emitted : (s : State) (to : SiteNo) (f : SiteFrame) → IsLawful s → IsLawful (emitted s to f)
-lawful_emitted s to f l = lawful_same s (emitted s to f) (same_emitted s to f) l
-
-pub lawful_request : (s : State) (g : GroupNo) (what : Change) (p : Proc) → IsLawful s → IsLawful (request history s g what p)
-lawful_request s g what p l = lawful_same s (request history s g what p) (same_request s g what p) l
-
 -- Combinations
 
 pub lawful_if : (x y : State) (b : Bool) → (b ≡ true → IsLawful x) → (b ≡ false → IsLawful y) → IsLawful (if b then x else y)
@@ -504,19 +498,6 @@ lawful_before s l = record {
   listed = l.listed;
   waiting = l.waiting;
   traced = record { reached = l.traced.reached; spoken = l.traced.spoken; acted = same_acted s (before_event s) refl l.traced; delivered = l.traced.delivered; seen = l.traced.seen };
-}
-
-pub lawful_after : (s : State) → IsLawful (before_event s) → IsLawful s
-lawful_after s l = record {
-  rising = l.rising;
-  known = l.known;
-  current = l.current;
-  viewed = l.viewed;
-  stamped = l.stamped;
-  spent = kept_map (IsSpent (before_event s)) (IsSpent s) (λ m h. record { reached = h.reached; delivered = h.delivered }) s.got s.kept l.spent;
-  listed = l.listed;
-  waiting = l.waiting;
-  traced = record { reached = l.traced.reached; spoken = l.traced.spoken; acted = same_acted (before_event s) s refl l.traced; delivered = l.traced.delivered; seen = l.traced.seen };
 }
 
 -- One process

@@ -3,7 +3,7 @@ use Rattle.std.proofs.Common.{◌≡◌, ℕ, ◌+◌, ◌<◌, zero, suc, Bool,
 use Rattle.std.specs.Prelude.{◌&&◌, nat_lt, nat_le, if◌then◌else◌}
 use Rattle.std.specs.List.{fold, find}
 use Rattle.std.specs.FinMap.Entries.{is_sorted}
-use Rattle.std.proofs.lemmas.Bool.{cases_eq, eqb-true, false≢true, and_parts, and_from, or_left, or_right, leb-true, le-leb, not-true}
+use Rattle.std.proofs.lemmas.Bool.{cases_eq, eqb-true, false≢true, and_parts, and_from, or_left, or_right, leb-true, le-leb}
 use Rattle.std.proofs.lemmas.Option.{none-some, same_Some}
 use Rattle.cast_types.specs.declared.names.SiteNo.{SiteNo}
 use Rattle.cast_types.specs.declared.names.GroupNo.{GroupNo}
@@ -15,7 +15,7 @@ use Rattle.cast_types.specs.Repeat.{iterate}
 use Rattle.cast_types.specs.Stamps.{ClockList, is_stamp}
 use Rattle.cast_clock.specs.Times.{count_in, bumped, has_room}
 use Rattle.cast_types.specs.Sets.{is_among}
-use Rattle.cast_types.proofs.Orders.{same_site, group_itself}
+use Rattle.cast_types.proofs.Orders.{group_itself}
 use Rattle.cast_message.specs.declared.message.Body.{Body}
 use Rattle.cast_message.specs.declared.message.Body.TheVariants as body
 use Rattle.cast_message.specs.declared.message.Message.{Message}
@@ -54,7 +54,7 @@ use Rattle.cast_rules.proofs.Totals.{In}
 use Rattle.cast_rules.proofs.Spots.{found_passes}
 use Rattle.cast_rules.specs.History.{history}
 use Rattle.cast_rules.proofs.Rules.Follows.{IsTaken, IsBrought, IsEntered, IsInvariantOfAll}
-use Rattle.cast_rules.proofs.Rules.Data.{used_current, used_from_its_site, used_of_another, used_of_member}
+use Rattle.cast_rules.proofs.Rules.Data.{used_current, used_of_member}
 use Rattle.cast_rules.proofs.Rules.Commands.{commanded_keeps}
 use Rattle.cast_rules.proofs.Rules.Leaving.{ended_keeps}
 use Rattle.cast_rules.proofs.Rules.Rest.{told_if_keeps}
@@ -96,12 +96,6 @@ taken_speaks s h from m taken =
     let there = placed_at s m.id.group h taken.at in
     or_left (is_among proc_eq m.id.proc (members_of (s.group m.id.group))) (site_eq m.id.proc.site s.here)
     (ap (λ g. is_among proc_eq m.id.proc (members_of (s.group g))) there.1 ∙ used_of_member history s h from m taken.used)
-
--- what is received is of another site
-pub taken_foreign : (s : State) (g : GroupNo) (from : SiteNo) (m : Message) → IsTaken history s g from m → site_eq m.id.proc.site s.here ≡ false
-taken_foreign s g from m taken =
-    ap (λ t. site_eq t s.here) (same_site m.id.proc.site from (used_from_its_site history s g from m taken.used))
-    ∙ not-true (site_eq from s.here) (used_of_another history s g from m taken.used)
 
 -- what the home brings is of the view that its group has reached
 pub brought_current : (s : State) (h : GroupNo) (m : Message) → IsBrought history s h m → m.id.view ≡ (s.group m.id.group).number

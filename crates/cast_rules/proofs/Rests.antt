@@ -333,10 +333,6 @@ moves_decide s g at =
 
 -- Wants
 
--- with a frame sent, the same is owed and at the homes
-sent_owed : (s : State) (key : OwedKey) → (send_for history s key).owed ≡ s.owed
-sent_owed s key = elim (frame_for history s key) as (λ o. (option_map_or (emitted s key.site) o s).owed ≡ s.owed) [ Some f ↦ refl | None ↦ refl ]
-
 still_owed : (owed : List Owed) (key other : OwedKey) (due : ℕ) → is_owed owed other ≡ true → is_owed (with_owed owed key due) other ≡ true
 still_owed owed key other due is = elim (cases_Bool (key_eq other key)) [
   | inl same ↦ subst (λ k. is_owed (with_owed owed key due) k ≡ true) (sym (same_key other key same)) (owing_owes owed key due)

@@ -1,8 +1,7 @@
 -- What stands at a place of a list, after one place is changed or an item is added.
-use Rattle.std.proofs.Common.{◌≡◌, ℕ, zero, suc, Bool, true, false, List, [], ◌∷◌, ◌++◌, length, map, Some, unwrap_or, refl, sym, ap, subst, ◌∙◌}
+use Rattle.std.proofs.Common.{◌≡◌, ℕ, zero, suc, Bool, true, false, List, [], ◌∷◌, map, Some, unwrap_or, refl, sym, ap, subst, ◌∙◌}
 use Rattle.std.specs.Prelude.{slice_get, if◌then◌else◌}
 use Rattle.std.specs.List.{list_all, find}
-use Rattle.std.specs.Option.{option_map}
 use Rattle.std.specs.Ordering.{is_lt}
 use Rattle.std.proofs.lemmas.Bool.{and_parts, false≢true, false_from_ne_true}
 use Rattle.std.proofs.lemmas.Cmp.{tied_itself}
@@ -12,28 +11,6 @@ use Rattle.cast_types.specs.Names.{group_cmp, group_eq}
 use Rattle.cast_types.specs.Places.{update}
 use Rattle.cast_types.proofs.Orders.{group_total, same_group}
 use Rattle.cast_types.specs.Rising.{is_rising}
-
-pub update_own : {X : Type 0} (f : X → X) (xs : List X) (i : ℕ) → slice_get (update xs i f) i ≡ option_map f (slice_get xs i)
-update_own f [] i = refl
-update_own f (x ∷ xs) zero = refl
-update_own f (x ∷ xs) (suc i) = update_own f xs i
-
-pub update_other : {X : Type 0} (f : X → X) (xs : List X) (i j : ℕ) → (i ≡ j → ⊥) → slice_get (update xs i f) j ≡ slice_get xs j
-update_other f [] i j apart = refl
-update_other f (x ∷ xs) zero zero apart = absurd (apart refl)
-update_other f (x ∷ xs) zero (suc j) apart = refl
-update_other f (x ∷ xs) (suc i) zero apart = refl
-update_other f (x ∷ xs) (suc i) (suc j) apart = update_other f xs i j (λ same. apart (ap suc same))
-
-pub push_last : {X : Type 0} (xs : List X) (x : X) → slice_get (xs ++ x ∷ []) (length xs) ≡ Some x
-push_last [] x = refl
-push_last (y ∷ xs) x = push_last xs x
-
-pub push_other : {X : Type 0} (xs : List X) (x : X) (j : ℕ) → (j ≡ length xs → ⊥) → slice_get (xs ++ x ∷ []) j ≡ slice_get xs j
-push_other [] x zero apart = absurd (apart refl)
-push_other [] x (suc j) apart = refl
-push_other (y ∷ xs) x zero apart = refl
-push_other (y ∷ xs) x (suc j) apart = push_other xs x j (λ same. apart (ap suc same))
 
 -- what holds of all items holds of the one at a place
 pub all_at : {X : Type 0} (t : X → Bool) (xs : List X) (i : ℕ) (x : X) → list_all t xs ≡ true → slice_get xs i ≡ Some x → t x ≡ true

@@ -109,9 +109,6 @@ serials s = range_with_len 1 s.used
 abbrev pub was_given : ℕ → ℕ → Bool
 was_given used k = nat_lt 0 k && nat_le k used
 
-abbrev pub is_site : State → SiteNo → Bool
-is_site s t = is_among site_eq t s.config.sites
-
 abbrev pub is_group : State → GroupNo → Bool
 is_group s g = is_among group_eq g s.config.groups
 

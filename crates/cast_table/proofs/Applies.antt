@@ -1,17 +1,15 @@
 -- What one event does to the domains of a table.
-use Rattle.std.proofs.Common.{◌≡◌, ◌≢◌, ℕ, zero, suc, ◌<◌, List, [], ◌∷◌, ◌++◌, length, get_or, Some, Result, Ok, Err, slice_set, refl, ap, subst, ◌∙◌, arith}
+use Rattle.std.proofs.Common.{◌≡◌, ℕ, zero, suc, ◌<◌, List, [], ◌∷◌, ◌++◌, length, get_or, Some, Result, Ok, Err, slice_set, refl, ap, subst, ◌∙◌, arith}
 use Rattle.std.specs.Prelude.{slice_get}
 use Rattle.std.proofs.lemmas.List.{append-nil}
 use Rattle.cast_types.specs.declared.names.DomainNo.{DomainNo}
 use Rattle.cast_domain.specs.declared.domain.Domain.{Domain}
 use Rattle.cast_events.specs.declared.event.Event.{Event}
-use Rattle.cast_events.specs.declared.event.Outs.{Outs}
 use Rattle.cast_events.specs.declared.event.Taken.{Taken}
 use Rattle.cast_domain.specs.Records.{number_of}
 use Rattle.cast_events.specs.declared.log.Fault.{Fault}
 use Rattle.cast_events.specs.declared.log.Fault.TheVariants.{NoMemory, Halted, NoDomain}
-use Rattle.cast_table.specs.declared.table.Table.{Table}
-use Rattle.cast_table.specs.Tables.{IsTurn, IsAppliedAt, IsUnchanged, Lent, NotesOne, halted_by, place_named}
+use Rattle.cast_table.specs.Tables.{IsTurn, IsAppliedAt, Lent, NotesOne, halted_by, place_named}
 use Rattle.cast_table.proofs.Places.{named_there, stands_at}
 
 -- what stands at a place, and is written there again, changes nothing
@@ -53,10 +51,3 @@ module _ (number : DomainNo) (place : ℕ) (event : Event) (domains : List Domai
     turn_noted before after noted =
         let named = named_there number domains place old found (stands_at domains place old below read) in
         noted_one b event old new first last turn number named before after noted
-
--- a turn that begins is no refusal
-pub turn_unchanged : (b : Result Taken Fault) (event : Event) (old new : Domain) (first last : Lent) → b ≢ Err NoMemory → IsTurn b event old new first last → (was now : Table) (before after : Outs) → IsUnchanged b was now before after
-turn_unchanged (Ok t) event old new first last begun turn was now before after = tt
-turn_unchanged (Err NoMemory) event old new first last begun turn was now before after = absurd (begun refl)
-turn_unchanged (Err (Halted d)) event old new first last begun turn was now before after = tt
-turn_unchanged (Err NoDomain) event old new first last begun turn was now before after = absurd turn

@@ -28,7 +28,7 @@ use Rattle.cast_world.proofs.Listings.{done_named, keeps_every}
 use Rattle.cast_world.proofs.OrderMoves.{abcast_had, noted_abcast, own_ordered, stand_in}
 use Rattle.cast_world.proofs.OrderTells.{is_next_frozen, knows_done}
 use Rattle.cast_world.proofs.Tokens.{HandOvers}
-use Rattle.cast_world.proofs.Orders.{AllOrdered, Apart, KnowsFirst, Orders, SiteOrdered, done_in}
+use Rattle.cast_world.proofs.Orders.{AllOrdered, Apart, KnowsFirst, Orders, done_in}
 use Rattle.cast_world.proofs.Prefixes.{next_begins, prefix_trans}
 use Rattle.cast_world.proofs.Steps.{Now, own_holds, own_is, sites_at}
 use Rattle.cast_world.proofs.Windows.{AllWindow, Safe}
@@ -70,9 +70,6 @@ module _ (home : SiteNo) (w : Network) (a : SiteNo) where
 
   module _ (t : State) (now : Now home w a t) (choice : Choice) (f : Flushing home w a t choice) (order : Orders) (handed : HandOvers) (x : AllOrdered choice (number t) (at t) order handed) (safe : Safe)
       (y : AllWindow choice (number t) (at t) order safe) (g : GroupNo) (e : End) (ended : EndHolds choice (at t) order handed safe g (t.group g).number e) (decided : (t.group g).number + 1 ≤ number t g) where
-    abbrev own : SiteOrdered order handed t
-    own = own_ordered home w a t now choice f order handed x
-
     abbrev v : ℕ
     v = (t.group g).number
 

@@ -24,9 +24,6 @@ use Rattle.cast_world.specs.Laws.{AllDeliveriesWereSent, AllNamesAreUnique, AllS
 use Rattle.cast_world.specs.Network.{Network, Reaches}
 use Rattle.cast_world.specs.declared.step.Step.{Step}
 
-one_of : {X : Type 0} (y x : X) → Contains (y ∷ []) x → y ≡ x
-one_of y x at = elim (Contains-push_cases [] y x at) [ inl none ↦ absurd (omega (arith, none.1)) | inr same ↦ same ]
-
 -- views are entered one after the other
 module _ (me : Proc) (acts : List Act) (each : Each (ActWell me) acts) (g : GroupNo) (n : ℕ) (cut : CountList) (c : List Act) where
   rising : (y x : List Act) (v : ℕ) → IsIn x g v → acts ≡ x ++ (y ++ Entered g n cut ∷ c) → NeverLeft g y → v < n

@@ -117,8 +117,3 @@ shorter_begins xs ys (inr p) le = (
       let none : p.0 ≡ [] = empty p.0 (omega (arith, whole, parts, le)) in
       ap (λ l. l ++ []) (sym p.1) ∙ append_assoc ys p.0 [] ∙ ap (λ l. ys ++ l) (ap (λ l. l ++ []) none) ∙ append-nil ys),
 )
-
-pub drop_of : {X : Type 0} (n : ℕ) (xs : List X) (x : X) → Contains (drop n xs) x → Contains xs x
-drop_of zero xs x at = at
-drop_of (suc n) [] x at = at
-drop_of (suc n) (y ∷ xs) x at = let r = drop_of n xs x at in (suc r.0, omega (arith, r.1), r.2)

@@ -187,10 +187,6 @@ module _ (me : Proc) (p : Process) (acts : List Act) (fits : Fits me p acts) whe
 
   -- asking to join
   module _ (g : GroupNo) (request : ℕ) (out : is_outside (p.standing g) ≡ true) where
-    asks_here : (h : GroupNo) (b : Bool) → group_eq g h ≡ b → (if b then Joining request (view_of p.time g) else p.standing h) ≡ Member → p.standing h ≡ Member
-    asks_here h true e is = absurd (not_joining request (view_of p.time g) (sym is))
-    asks_here h false e is = is
-
     still_member : (h : GroupNo) (b : Bool) → group_eq g h ≡ b → p.standing h ≡ Member → (if b then Joining request (view_of p.time g) else p.standing h) ≡ Member
     still_member h true e is = absurd (false≢true (sym (ap is_outside (ap p.standing (ap (λ n. record { 0 = n }) (eqb-true g.0 h.0 e)) ∙ is)) ∙ out))
     still_member h false e is = is

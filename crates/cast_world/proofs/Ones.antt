@@ -109,9 +109,6 @@ module _ (at : Sites) (home here : SiteNo) (used : ℕ) (groups : List GroupNo) 
     out_joining h true number heard e = absurd (outside_not_joining number heard e)
     out_joining h false number heard e = e
 
-    pub parted_never : (parted g p).standing g ≡ Member → ⊥
-    parted_never e = outside_not_member (sym (set_here p.standing g Outside g refl) ∙ e)
-
     pub parted_one : OneHolds at home here used groups group k (parted g p) (acts ++ Left g ∷ [])
     parted_one = record {
       fits = leaving_fits me p acts o.fits g;

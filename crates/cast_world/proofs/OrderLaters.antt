@@ -1,8 +1,7 @@
 -- What holds of orders still holds when other sites have moved and the home has decided more.
 use Rattle.std.proofs.Common.{ap, arith, inl, inr, subst, sym, ◌∙◌}
 use Rattle.std.proofs.lemmas.Bool.{false≢true}
-use Rattle.std.specs.Prelude.{Bool, Contains, List, None, Option, Some, false, refl, true, ℕ, ◌≡◌, ◌≤◌, ◌⊎◌}
-use Rattle.cast_clock.specs.Times.{view_of}
+use Rattle.std.specs.Prelude.{Bool, Contains, List, None, Option, Some, false, refl, true, ℕ, ◌≡◌}
 use Rattle.cast_rules.specs.Acts.{Act}
 use Rattle.cast_rules.specs.Acts.Act.{Delivered, Sent}
 use Rattle.cast_message.specs.Bodies.{new_holder}
@@ -20,7 +19,6 @@ use Rattle.cast_world.proofs.Flush.{Choice, Chosen, GroupAgrees, numbers}
 use Rattle.cast_world.proofs.FlushLaters.{Extends}
 use Rattle.cast_world.proofs.FlushSites.{same_proc}
 use Rattle.cast_world.proofs.Invariants.{Ahead, SiteHolds, Sites, WasSent}
-use Rattle.cast_world.proofs.Lists.{contains_split}
 use Rattle.cast_world.proofs.Orders.{Begun, LastHolds, OrderHolds, token_at}
 use Rattle.cast_world.proofs.Tokens.{HandOvers, HasToken}
 
@@ -92,13 +90,3 @@ module _ (at : Sites) (home : SiteNo) (all : (s : SiteNo) → SiteHolds at home 
   one_message x y at_x at_y same =
       unique x.id.proc ((at x.id.proc.site).acts x.id.proc.serial) (each_at x.id.proc) x y at_x
       (subst (λ (p : Proc). Contains ((at p.site).acts p.serial) (Sent y)) (ap (λ (u : Uid). u.proc) (sym same)) at_y) same
-
-  -- the time of who sent or delivered a message has reached its view
-  pub reached : (s : SiteNo) (k : ℕ) (m : Message) → Contains ((at s).acts k) (Sent m) ⊎ Contains ((at s).acts k) (Delivered m) → WasSent at m → m.id.view ≤ view_of ((at s).process k).time m.id.group
-  reached s k m did sent =
-      let parts = contains_split ((at m.id.proc.site).acts m.id.proc.serial) (Sent m) sent in
-      let itself = (each_at m.id.proc parts.0 parts.1 (Sent m) parts.2).itself in
-      elim (((all s).ones k).fits.covered m did m.id itself) [
-        | inl above ↦ omega (arith, above)
-        | inr level ↦ (let same = level.0 in omega (arith, same))
-      ]

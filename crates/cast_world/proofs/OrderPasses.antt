@@ -4,30 +4,26 @@ use Rattle.std.proofs.Common.{ap, arith, inl, inr, subst, sym, ◌∙◌}
 use Rattle.std.proofs.lemmas.Bool.{false_from_ne_true, false≢true}
 use Rattle.std.proofs.lemmas.List.Elements.{Contains-append_left}
 use Rattle.std.specs.Prelude.{◌++◌, ◌<◌, Bool, Contains, None, [], false, if◌then◌else◌, is_some, length, refl, true, unwrap_or, ℕ, ◌∷◌, ◌≡◌, ◌≤◌}
-use Rattle.cast_ready.specs.Ready.{has_delivered}
 use Rattle.cast_rules.specs.Acts.{Act}
-use Rattle.cast_rules.specs.Acts.Act.{Delivered, Entered, Sent}
+use Rattle.cast_rules.specs.Acts.Act.{Entered, Sent}
 use Rattle.cast_rules.specs.Entering.{enters, in_view, is_put_out, passing, putting_out}
 use Rattle.cast_rules.specs.Noted.{abcasts_by}
-use Rattle.cast_rules.specs.Order.{told_by}
 use Rattle.cast_rules.specs.State.{State, local}
-use Rattle.cast_message.specs.Bodies.{kind_of}
 use Rattle.cast_message.specs.Membership.{Membership}
 use Rattle.cast_message.specs.declared.message.Message.{Message}
 use Rattle.cast_types.specs.Counts.{CountList}
-use Rattle.cast_types.specs.Names.{Entry, group_eq, is_atomic}
+use Rattle.cast_types.specs.Names.{group_eq}
 use Rattle.cast_types.specs.Sets.{set_at}
 use Rattle.cast_types.specs.declared.names.GroupNo.{GroupNo}
 use Rattle.cast_types.specs.declared.names.Proc.{Proc}
 use Rattle.cast_types.specs.declared.names.SiteNo.{SiteNo}
 use Rattle.cast_types.specs.declared.names.Standing.TheVariants.{Member}
-use Rattle.cast_types.specs.declared.names.Uid.{Uid}
 use Rattle.cast_view.specs.MemberSide.{MemberSide, holder_of, is_pending, is_process, with_view}
 use Rattle.cast_world.proofs.Facts.{HasDone}
 use Rattle.cast_world.proofs.Flush.{Choice, Chosen, GroupAgrees, numbers}
 use Rattle.cast_world.proofs.FlushLaters.{Extends}
 use Rattle.cast_world.proofs.FlushSteps.{Flushing, own_agrees, passes_up}
-use Rattle.cast_world.proofs.Invariants.{Sites, WasSent}
+use Rattle.cast_world.proofs.Invariants.{Sites}
 use Rattle.cast_world.proofs.Kept.{Comes}
 use Rattle.cast_world.proofs.Laters.{set_group_all}
 use Rattle.cast_world.proofs.Listings.{done_none, no_abcast, parts_of_id}
@@ -35,9 +31,9 @@ use Rattle.cast_world.proofs.Lists.{done_entered, never_nil}
 use Rattle.cast_world.proofs.Local.{cases_group}
 use Rattle.cast_world.proofs.Ones.{set_here, set_other}
 use Rattle.cast_world.proofs.OrderLaters.{named_chosen}
-use Rattle.cast_world.proofs.OrderMoves.{abcast_had, own_ordered, stand_in}
+use Rattle.cast_world.proofs.OrderMoves.{own_ordered}
 use Rattle.cast_world.proofs.OrderSites.{all_part_ordered, one_same, token_parted}
-use Rattle.cast_world.proofs.Orders.{AllOrdered, OneOrdered, Orders, SiteOrdered, Stands, done_in}
+use Rattle.cast_world.proofs.Orders.{AllOrdered, OneOrdered, Orders, SiteOrdered, done_in}
 use Rattle.cast_world.proofs.Steps.{Arrived, Now, own_holds, own_is, sites_at}
 use Rattle.cast_world.proofs.Tokens.{HandOvers, HasToken, first_token, tells, token_entered, token_first, token_in, token_kept}
 use Rattle.cast_world.specs.Agreement.{IsPrefix, is_in}
@@ -53,12 +49,6 @@ module _ (home : SiteNo) (w : Network) (a : SiteNo) where
   module _ (t : State) (now : Now home w a t) (choice : Choice) (f : Flushing home w a t choice) (order : Orders) (handed : HandOvers) (x : AllOrdered choice (number t) (at t) order handed) where
     abbrev own : SiteOrdered order handed t
     own = own_ordered home w a t now choice f order handed x
-
-    abbrev stand : (g : GroupNo) (v : ℕ) (m : Message) (fact : ℕ × Entry) → Contains t.got m → is_in g v m.id ≡ true → Contains (told_by m.body) fact → Stands (order g v) fact
-    stand = stand_in home w a t now choice f order handed x
-
-    abbrev noted : (k : ℕ) (z : Uid) → Contains (t.abcasts k) z → (m : Message) × WasSent (at t) m × (m.id ≡ z) × (is_atomic (kind_of m.body) ≡ true) × Contains (t.acts k) (Delivered m) × (has_delivered (t.process k) z ≡ true)
-    noted = abcast_had home w a t now choice f order handed x
 
     module _ (g : GroupNo) (skipped : Bool) (n : ℕ) (members : Membership) (request : ℕ) (cut : CountList) (comes : Comes (Arrived home w a) t g skipped n members request cut) where
       abbrev u : State

@@ -259,9 +259,6 @@ told_from a (e ∷ ids) c place at f (suc n, lt, is) =
 pub told_stand : (order ids : List Entry) (f : ℕ × Entry) → Contains (enumerate_from (length order + 1) ids) f → Stands (order ++ ids) f
 told_stand order ids f at = subst (λ l. Stands (order ++ l) f) (append-nil ids) (told_from order ids [] (length order + 1) refl f at)
 
-pub stands_later : (order more : List Entry) (f : ℕ × Entry) → Stands order f → Stands (order ++ more) f
-stands_later order more f (a, c, e, at) = (a, c ++ more, ap (λ l. l ++ more) e ∙ append_assoc a (f.1 ∷ c) more, at)
-
 -- each id is told at its place
 pub told_at : (a c : List Entry) (e : Entry) (place : ℕ) → Contains (enumerate_from place (a ++ e ∷ c)) (place + length a, e)
 told_at [] c e place = (0, omega arith, λ i. (same i, e))

@@ -79,12 +79,6 @@ module _ (home : SiteNo) (w : Network) (a : SiteNo) where
   Handing t safe = (k : ℕ) (m : Message) (to : Proc) → Contains (t.acts k) (Sent m) → new_holder m.body ≡ Some to → last_place m.body ≤ safe m.id.group m.id.view
 
   module _ (t : State) (choice : Choice) (order : Orders) (safe : Safe) (y : AllWindow choice (number t) (at t) order safe) where
-    pub own_acked : (q : SiteNo) (z : Uid) → Contains t.acks (q, z) → HasGot (at t q).got z
-    own_acked q z c = y.acked a q z (subst (λ (s : State). Contains s.acks (q, z)) (sym (own_is home w a t)) c)
-
-    pub own_sent : (to : SiteNo) (f : SiteFrame) → Contains t.frames (to, f) → AckTrue t.got f
-    own_sent to f c = subst (λ (s : State). Contains s.frames (to, f) → AckTrue s.got f) (own_is home w a t) (y.sent a to f) c
-
     pub own_rising : Rising t
     own_rising = subst Rising (own_is home w a t) (y.rising a)
 

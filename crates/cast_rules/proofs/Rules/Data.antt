@@ -39,12 +39,6 @@ module _ {S H : Type 0} (d : Site S H) (s : S) (h : H) (from : SiteNo) (m : Mess
   used_member_counts : (is_among proc_eq m.id.proc (members_of (d.group s h)) && (names_member (members_of (d.group s h)) m.body && counts_itself m)) ≡ true
   used_member_counts = (and_parts (list_all (λ c. is_among group_eq c.0 (d.config s).groups) m.times) _ used_formed).1
 
-  pub used_from_its_site : site_eq m.id.proc.site from ≡ true
-  used_from_its_site = (and_parts (site_eq m.id.proc.site from) _ used).0
-
-  pub used_of_another : not (site_eq from (d.here s)) ≡ true
-  used_of_another = (and_parts (not (site_eq from (d.here s))) _ used_apart).0
-
   pub used_current : (m.id.view == (d.group s h).number) ≡ true
   used_current = (and_parts (m.id.view == (d.group s h).number) _ used_current_formed).0
 
@@ -56,10 +50,6 @@ module _ {S H : Type 0} (d : Site S H) (s : S) (h : H) (from : SiteNo) (m : Mess
 
   pub used_counts : counts_itself m ≡ true
   used_counts = (and_parts (names_member (members_of (d.group s h)) m.body) (counts_itself m) (and_parts (is_among proc_eq m.id.proc (members_of (d.group s h))) _ used_member_counts).1).1
-
--- the count of a message that counts itself is at least 1
-counted : (m : Message) → counts_itself m ≡ true → nat_lt 0 m.id.count ≡ true
-counted m counts = (and_parts (nat_lt 0 m.id.count) _ (and_parts _ _ counts).1).0
 
 module _ {R S H K : Type 0} (a : Site R H) (b : Site S K) (fits : R → S → Type 0) (stands : H → K → Type 0) (all : FollowsAll a b fits stands) where
   acknowledge_follows : (r : R) (s : S) → fits r s → (to : SiteNo) (u : Uid) → a.is_stable r u ≡ b.is_stable s u → fits (acknowledge a r to u) (acknowledge b s to u)

@@ -45,12 +45,6 @@ module _ {S H : Type 0} (d : Site S H) (s : S) (h : H) (m : Message) (wanted : i
   wanted_member_counts : (is_among proc_eq m.id.proc (members_of (d.group s h)) && (names_member (members_of (d.group s h)) m.body && counts_itself m)) ≡ true
   wanted_member_counts = (and_parts (list_all (λ c. is_among group_eq c.0 (d.config s).groups) m.times) _ wanted_formed).1
 
-  pub wanted_pending : is_pending (d.group s h) ≡ true
-  wanted_pending = (and_parts (is_pending (d.group s h)) _ wanted).0
-
-  pub wanted_owed : d.is_owed s (message_key Want m.id (d.config s).home) ≡ true
-  wanted_owed = (and_parts (d.is_owed s (message_key Want m.id (d.config s).home)) _ wanted_owed_formed).0
-
   pub wanted_current : (m.id.view == (d.group s h).number) ≡ true
   wanted_current = (and_parts (m.id.view == (d.group s h).number) _ wanted_current_formed).0
 
@@ -59,9 +53,6 @@ module _ {S H : Type 0} (d : Site S H) (s : S) (h : H) (m : Message) (wanted : i
 
   pub wanted_of_member : is_among proc_eq m.id.proc (members_of (d.group s h)) ≡ true
   wanted_of_member = (and_parts (is_among proc_eq m.id.proc (members_of (d.group s h))) _ wanted_member_counts).0
-
-  pub wanted_counts : counts_itself m ≡ true
-  wanted_counts = (and_parts (names_member (members_of (d.group s h)) m.body) (counts_itself m) (and_parts (is_among proc_eq m.id.proc (members_of (d.group s h))) _ wanted_member_counts).1).1
 
 module _ {R S H K : Type 0} (a : Site R H) (b : Site S K) (fits : R → S → Type 0) (stands : H → K → Type 0) (all : FollowsAll a b fits stands) where
   -- Prepare is answered with the same report

@@ -3,7 +3,6 @@
 use Rattle.std.proofs.Common.{◌≡◌, ◌<◌, ℕ, Bool, true, false, List, [], ◌∷◌, Option, Some, None, refl, sym, ap, subst}
 use Rattle.std.specs.Prelude.{⊤, nat_lt, if◌then◌else◌}
 use Rattle.std.specs.List.{fold}
-use Rattle.std.specs.Option.{option_map_or}
 use Rattle.std.proofs.lemmas.Bool.{false≢true}
 use Rattle.cast_types.specs.declared.names.SiteNo.{SiteNo}
 use Rattle.cast_types.specs.declared.names.GroupNo.{GroupNo}
@@ -187,13 +186,6 @@ module _ {R S : Type 0} (fits : R → S → Type 0) where
   each_place stands f g step [] (k ∷ ks) at r s h = absurd at
   each_place stands f g step (x ∷ hs) [] at r s h = absurd at
   each_place stands f g step (x ∷ hs) (k ∷ ks) at r s h = each_place stands f g step hs ks at.1 (f r x) (g s k) (step r s h x k at.0)
-
-  -- the same of what stands at a place, where there is one
-  pub at_place : {H K : Type 0} (stands : H → K → Type 0) (f : H → R) (g : K → S) → ((h : H) (k : K) → stands h k → fits (f h) (g k)) → (o : Option H) (p : Option K) → AtBoth stands o p → (r : R) (s : S) → fits r s → fits (option_map_or f o r) (option_map_or g p s)
-  at_place stands f g there (Some h) (Some k) at r s none = there h k at
-  at_place stands f g there (Some h) None at r s none = absurd at
-  at_place stands f g there None (Some k) at r s none = absurd at
-  at_place stands f g there None None at r s none = none
 
 -- What holds of each state
 

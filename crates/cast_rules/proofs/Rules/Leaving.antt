@@ -79,9 +79,6 @@ left_keeps d holds keeps s l k = (leave_all_follows d d (AlsoHolds holds) SamePl
 pub ended_keeps : {S H : Type 0} (d : Site S H) (holds : S → Type 0) → IsInvariantOfAll d holds → (s : S) → holds s → (k : ℕ) → holds (d.go s k) → holds (end_session d s k)
 ended_keeps d holds keeps s l k went = (ended_follows d d (AlsoHolds holds) SamePlace (follows_itself_in_all d holds keeps) s s (refl, l) k (refl, went)).1
 
-pub closed_keeps : {S H : Type 0} (d : Site S H) (holds : S → Type 0) → IsInvariantOfAll d holds → (s : S) → holds s → (k : ℕ) → d.is_open s k ≡ true → (refusal : Refusal) → holds (close_session d s k refusal)
-closed_keeps d holds keeps s l k given refusal = (close_session_follows d d (AlsoHolds holds) SamePlace (follows_itself_in_all d holds keeps) s s (refl, l) k given refusal).1
-
 -- and after a program is told something
 pub told_keeps : {S H : Type 0} (d : Site S H) (holds : S → Type 0) → IsInvariantOfAll d holds → (s : S) → holds s → (k : ℕ) (p : Push) → holds (tell d s k p)
 told_keeps d holds keeps s l k p = (tell_follows d d (AlsoHolds holds) SamePlace (follows_itself_in_all d holds keeps) s s (refl, l) k p).1

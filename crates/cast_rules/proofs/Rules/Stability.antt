@@ -13,7 +13,7 @@ use Rattle.cast_view.specs.MemberSide.{is_current}
 use Rattle.cast_rules.specs.Rules.Keys.{message_key}
 use Rattle.cast_rules.specs.Rules.Interface.{Site}
 use Rattle.cast_rules.specs.Rules.Stability.{is_used_ack, with_ack, tell_stable, tell_more, on_ack, on_stable}
-use Rattle.cast_rules.proofs.Rules.Follows.{Follows, choose, each, IsInvariant, AlsoHolds, SamePlace, follows_itself, itself_asks}
+use Rattle.cast_rules.proofs.Rules.Follows.{Follows, choose, each}
 
 module _ {R S H K : Type 0} (a : Site R H) (b : Site S K) (fits : R → S → Type 0) (stands : H → K → Type 0) (follows : Follows a b fits stands) where
   -- a choice that changes nothing
@@ -73,11 +73,3 @@ module _ {R S H K : Type 0} (a : Site R H) (b : Site S K) (fits : R → S → Ty
       (λ j. is_current (follows.group r s f h k at j) u.view && site_eq u.proc.site from)
       (λ _. follows.note_stable (a.pay_upto r key) (b.pay_upto s key) (follows.pay_upto r s f key) u)
       (λ _. f)
-
--- an invariant of the moves holds after each of these rules
-module _ {S H : Type 0} (d : Site S H) (holds : S → Type 0) (keeps : IsInvariant d holds) where
-  pub ack_keeps : (s : S) → holds s → (h : H) (from : SiteNo) (u : Uid) → holds (on_ack d s h from u)
-  ack_keeps s l h from u = (ack_follows d d (AlsoHolds holds) SamePlace (follows_itself d holds keeps) s s (refl, l) h h refl from u (λ _. itself_asks d holds keeps s u)).1
-
-  pub stable_keeps : (s : S) → holds s → (h : H) (from : SiteNo) (u : Uid) → holds (on_stable d s h from u)
-  stable_keeps s l h from u = (stable_follows d d (AlsoHolds holds) SamePlace (follows_itself d holds keeps) s s (refl, l) h h refl from u).1
