@@ -2,7 +2,7 @@
 use crate::daemon::serve;
 use cast_config::{Setup, complain, read};
 use cast_device::{Watched, tell};
-use cast_record::add_head;
+use cast_print::add_head;
 use cast_types::{NoMemory, SiteNo};
 use std::alloc::Global;
 use std::io::{BufRead, Write};

@@ -19,7 +19,7 @@ use Rattle.cast_rules.specs.Step.{answered}
 use Rattle.cast_script.specs.declared.words.Reason.{Reason}
 use Rattle.cast_script.specs.declared.script.Script.{Script}
 use Rattle.cast_script.specs.Readings.{script_of}
-use Rattle.cast_print.specs.Texts.{log_text}
+use Rattle.cast_print.specs.Logs.{log_text}
 
 -- lines, each with its line feed
 abbrev pub lines : List (List ℕ) → List ℕ

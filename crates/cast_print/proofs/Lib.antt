@@ -1,1 +1,7 @@
 mod Digits
+pub mod Joined
+pub mod WordBytes
+pub mod Lines
+pub mod FrameBytes
+pub mod Spelled
+pub mod Read

@@ -1,1 +1,4 @@
-pub mod Texts
+pub mod Logs
+pub mod Scripts
+pub mod Printable
+pub mod Laws

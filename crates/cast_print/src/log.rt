@@ -2,7 +2,8 @@ ghost use Rattle.std.specs.Prelude.{◌≡◌, ◌++◌, IfOk, OnOk, codes};
 ghost use Rattle.std.specs.List.{flat_map};
 ghost use Rattle.std.specs.String.{string_bytes};
 ghost use Rattle.hex.specs.Hex.{encode_lower};
-ghost use Rattle.cast_print.specs.Texts.{answer_line, frame_line, given_text, halted_text, kind_text, log_text, member_text, members_text, numbered, payload_text, proc_text, push_line, push_text, session_text, uid_text};
+ghost use Rattle.cast_print.specs.Logs.{answer_line, frame_line, given_text, halted_text, kind_text, log_text, member_text, members_text, numbered, payload_text, push_line, push_text, session_text, uid_text};
+ghost use Rattle.cast_script.specs.Words.{proc_text};
 
 use cast_events::{Fault, Given, Log, Taken};
 use cast_frame::encode_site;
@@ -188,7 +189,7 @@ fn print_procs(text: &mut String, procs: &[Proc]) -> Result<(), NoMemory>
 }
 
 /// Adds a process, as `1.1`: its site and its serial there.
-pub fn print_proc(text: &mut String, process: Proc) -> Result<(), NoMemory>
+pub(crate) fn print_proc(text: &mut String, process: Proc) -> Result<(), NoMemory>
     ensures { OnOk result (string_bytes text.new ≡ string_bytes text.old ++ proc_text process) }
 {
     let site = process.site.0;
@@ -219,7 +220,7 @@ fn print_kind(text: &mut String, kind: CastKind) -> Result<(), NoMemory>
 }
 
 /// Adds bytes in lower-case hexadecimal, `-` where there are none.
-pub fn print_payload(alloc: Global, text: &mut String, bytes: &[u8]) -> Result<(), NoMemory>
+pub(crate) fn print_payload(alloc: Global, text: &mut String, bytes: &[u8]) -> Result<(), NoMemory>
     ensures { OnOk result (string_bytes text.new ≡ string_bytes text.old ++ payload_text bytes.now) }
 {
     if bytes.is_empty() {
@@ -231,7 +232,7 @@ pub fn print_payload(alloc: Global, text: &mut String, bytes: &[u8]) -> Result<(
 
 /// Adds bytes in lower-case hexadecimal. Little memory is taken at a time, which allocators keep for each thread: threads that print much
 /// do not wait for each other then.
-pub fn print_bytes(alloc: Global, text: &mut String, bytes: &[u8]) -> Result<(), NoMemory>
+pub(crate) fn print_bytes(alloc: Global, text: &mut String, bytes: &[u8]) -> Result<(), NoMemory>
     ensures { OnOk result (string_bytes text.new ≡ string_bytes text.old ++ encode_lower bytes.now) }
 {
     let mut rest = bytes;

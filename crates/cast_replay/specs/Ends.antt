@@ -14,7 +14,7 @@ use Rattle.cast_device.specs.Writing.{IsTold}
 use Rattle.cast_script.specs.declared.script.ScriptFault.{ScriptFault}
 use Rattle.cast_script.specs.declared.script.ScriptFault.TheVariants as script
 use Rattle.cast_script.specs.Reasons.{reason_text}
-use Rattle.cast_print.specs.Texts.{line_feed}
+use Rattle.cast_print.specs.Logs.{line_feed}
 use Rattle.cast_replay.specs.declared.run.RunFault.{RunFault}
 use Rattle.cast_replay.specs.declared.run.RunFault.TheVariants.{Unreadable, BadLine, NoMemory}
 use Rattle.cast_replay.specs.Shown.{Shows}

@@ -4,7 +4,7 @@ use Rattle.cast_events.specs.declared.log.Log.{Log}
 use Rattle.cast_isolation.specs.Replays.{IsReplay}
 use Rattle.cast_script.specs.declared.script.Script.{Script}
 use Rattle.cast_script.specs.Readings.{script_of}
-use Rattle.cast_print.specs.Texts.{log_text}
+use Rattle.cast_print.specs.Logs.{log_text}
 
 -- a text shows what comes of the script that the bytes are read as
 pub record Shows (bytes : List ℕ) (text : List ℕ) : Type 0 where

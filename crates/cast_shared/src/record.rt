@@ -6,7 +6,7 @@ use crate::table::SharedTable;
 use cast_edge::Report;
 use cast_events::{Config, Entry, Event, Recording};
 use cast_message::{Body, Command, Request, SiteFrame};
-use cast_record::{add_event, add_head};
+use cast_print::{add_event, add_head};
 use cast_types::NoMemory;
 use std::alloc::Global;
 use std::io::Write;

@@ -1,4 +1,4 @@
-use cast_record::print_script;
+use cast_print::print_script;
 use cast_script::{Script, parse};
 use cast_types::Refusal;
 use std::alloc::{AllocError, Global};

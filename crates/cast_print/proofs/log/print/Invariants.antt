@@ -1,7 +1,7 @@
 use Rattle.std.proofs.Common.{◌≡◌, ◌++◌, drop}
 use Rattle.std.specs.List.{flat_map}
 use Rattle.std.specs.String.{string_bytes}
-use Rattle.cast_print.specs.Texts.{given_text, log_text}
+use Rattle.cast_print.specs.Logs.{given_text, log_text}
 use Rattle.cast_print.proofs.log.print.Given as goal
 
 -- what is written, and what is left

@@ -1,6 +1,6 @@
 use Rattle.std.proofs.Common.{◌≡◌, ◌+◌, ◌++◌, drop}
 use Rattle.std.specs.String.{string_bytes}
-use Rattle.cast_print.specs.Texts.{answer_line, numbered}
+use Rattle.cast_print.specs.Logs.{answer_line, numbered}
 use Rattle.cast_print.proofs.log.print_answers.Given as goal
 
 -- what is written, and what is left

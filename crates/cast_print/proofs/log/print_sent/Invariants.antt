@@ -1,7 +1,7 @@
 use Rattle.std.proofs.Common.{◌≡◌, ◌++◌, drop}
 use Rattle.std.specs.List.{flat_map}
 use Rattle.std.specs.String.{string_bytes}
-use Rattle.cast_print.specs.Texts.{frame_line}
+use Rattle.cast_print.specs.Logs.{frame_line}
 use Rattle.cast_print.proofs.log.print_sent.Given as goal
 
 -- what is written, and what is left

@@ -1,7 +1,7 @@
 use Rattle.std.proofs.Common.{◌≡◌, ◌++◌, drop}
 use Rattle.std.specs.List.{flat_map}
 use Rattle.std.specs.String.{string_bytes}
-use Rattle.cast_print.specs.Texts.{push_line, session_text}
+use Rattle.cast_print.specs.Logs.{push_line, session_text}
 use Rattle.cast_print.proofs.log.print_session.Given as goal
 
 -- what is written, and what is left

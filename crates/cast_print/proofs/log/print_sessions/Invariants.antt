@@ -1,6 +1,6 @@
 use Rattle.std.proofs.Common.{◌≡◌, ◌+◌, ◌++◌, drop}
 use Rattle.std.specs.String.{string_bytes}
-use Rattle.cast_print.specs.Texts.{session_text, numbered}
+use Rattle.cast_print.specs.Logs.{session_text, numbered}
 use Rattle.cast_print.proofs.log.print_sessions.Given as goal
 
 -- what is written, and what is left

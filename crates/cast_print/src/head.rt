@@ -1,6 +1,6 @@
 ghost use Rattle.std.specs.Prelude.{◌≡◌, ◌++◌, OnOk, OnErr, map};
 ghost use Rattle.std.specs.String.{string_bytes};
-ghost use Rattle.cast_record.specs.Texts.{domain_text, head_text, numbers_text};
+ghost use Rattle.cast_print.specs.Scripts.{domain_text, head_text, numbers_text};
 
 use cast_events::{Config, DomainConfig};
 use cast_quota::Quotas;

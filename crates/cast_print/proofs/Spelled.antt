@@ -33,13 +33,13 @@ use Rattle.cast_script.specs.Lines.{AreNumbers, IsDomainAt, SpellsDomain, Spells
 use Rattle.cast_script.specs.Scripts.{SpellsParts, SpellsScript, used_lines_of}
 use Rattle.cast_script.specs.declared.script.Script.{Script}
 use Rattle.cast_script.proofs.Spelled.{spelled_is_read}
-use Rattle.cast_print.specs.Texts.{payload_text}
-use Rattle.cast_record.specs.Texts.{domain_text, domain_words, event_text, event_words, line_text, list_texts, numbers_text, request_words, script_text, site_words}
-use Rattle.cast_record.specs.Printable.{IsPrintable, IsPrintableRequest}
-use Rattle.cast_record.specs.Laws.{PrintedIsRead}
-use Rattle.cast_record.proofs.FrameBytes.{frame_bytes}
-use Rattle.cast_record.proofs.WordBytes.{IsWord, frame_digits, hex_word, is_word_byte, number_word, numbers_again, numbers_word, payload_word, plain, some_digits}
-use Rattle.cast_record.proofs.Lines.{AreWords, ascii_lines, joined, lines_again, words_again}
+use Rattle.cast_print.specs.Logs.{payload_text}
+use Rattle.cast_print.specs.Scripts.{domain_text, domain_words, event_text, event_words, line_text, list_texts, numbers_text, request_words, script_text, site_words}
+use Rattle.cast_print.specs.Printable.{IsPrintable, IsPrintableRequest}
+use Rattle.cast_print.specs.Laws.{PrintedIsRead}
+use Rattle.cast_print.proofs.FrameBytes.{frame_bytes}
+use Rattle.cast_print.proofs.WordBytes.{IsWord, frame_digits, hex_word, is_word_byte, number_word, numbers_again, numbers_word, payload_word, plain, some_digits}
+use Rattle.cast_print.proofs.Lines.{AreWords, ascii_lines, joined, lines_again, words_again}
 
 -- ---- words
 

@@ -17,9 +17,9 @@ use Rattle.cast_message.specs.declared.site.SiteFrame.{SiteFrame}
 use Rattle.cast_field.specs.Spelling.{short}
 use Rattle.cast_frame.specs.Spelling.{spelled_site}
 use Rattle.cast_script.specs.Words.{parted}
-use Rattle.cast_print.specs.Texts.{payload_text}
-use Rattle.cast_record.specs.Texts.{numbers_text}
-use Rattle.cast_record.proofs.Joined.{Lacks, joined_all, parted_joined}
+use Rattle.cast_print.specs.Logs.{payload_text}
+use Rattle.cast_print.specs.Scripts.{numbers_text}
+use Rattle.cast_print.proofs.Joined.{Lacks, joined_all, parted_joined}
 
 -- behind the space, the line feed and the number sign, and ASCII
 abbrev pub is_word_byte : ℕ → Bool

@@ -8,9 +8,9 @@ use Rattle.std.proofs.lemmas.Str.{IsAscii-append}
 use Rattle.std.proofs.lemmas.Str.Ascii.{IsAscii-cons, IsAscii-from_all, IsAscii-nil}
 use Rattle.cast_script.specs.Lines.{words_of}
 use Rattle.cast_script.specs.Scripts.{is_used, used_lines_of}
-use Rattle.cast_record.specs.Texts.{line_text}
-use Rattle.cast_record.proofs.Joined.{Lacks, joined_all, parted_first, parted_joined}
-use Rattle.cast_record.proofs.WordBytes.{IsWord, is_word_byte, word_byte_is, word_lacks}
+use Rattle.cast_print.specs.Scripts.{line_text}
+use Rattle.cast_print.proofs.Joined.{Lacks, joined_all, parted_first, parted_joined}
+use Rattle.cast_print.proofs.WordBytes.{IsWord, is_word_byte, word_byte_is, word_lacks}
 
 -- words of which the first is not empty
 abbrev pub AreWords : List (List ℕ) → Type 0

@@ -25,9 +25,9 @@ use Rattle.cast_script.specs.Lines.{SpellsEvent, SpellsRequest, words_of}
 use Rattle.cast_script.specs.Scripts.{SpellsParts, SpellsScript, used_lines_of}
 use Rattle.cast_script.specs.declared.script.Script.{Script}
 use Rattle.cast_script.proofs.Spelled.{given_has_domains, read_is_spelled}
-use Rattle.cast_record.specs.Printable.{IsByteBody, IsByteFrame, IsPrintable, IsPrintableRequest}
-use Rattle.cast_record.specs.Laws.{ReadIsPrintable}
-use Rattle.cast_record.proofs.FrameBytes.{no_bytes}
+use Rattle.cast_print.specs.Printable.{IsByteBody, IsByteFrame, IsPrintable, IsPrintableRequest}
+use Rattle.cast_print.specs.Laws.{ReadIsPrintable}
+use Rattle.cast_print.proofs.FrameBytes.{no_bytes}
 
 -- ---- bytes
 

@@ -16,7 +16,7 @@ use Rattle.cast_events.specs.declared.event.Event.{Event}
 use Rattle.cast_events.specs.declared.event.Event.TheVariants as event
 use Rattle.cast_script.specs.Words.{place_texts, proc_text, quota_name_text, quota_texts}
 use Rattle.cast_script.specs.Lines.{cast_text, request_texts}
-use Rattle.cast_print.specs.Texts.{line_feed, payload_text}
+use Rattle.cast_print.specs.Logs.{line_feed, payload_text}
 
 -- a line of these words
 abbrev pub line_text : List (List ℕ) → List ℕ

@@ -7,8 +7,8 @@ use Rattle.cast_events.specs.declared.event.Event.{Event}
 use Rattle.cast_script.specs.declared.script.Script.{Script}
 use Rattle.cast_script.specs.Scripts.{HasDomains}
 use Rattle.cast_script.specs.Readings.{script_of}
-use Rattle.cast_record.specs.Texts.{events_text, script_text}
-use Rattle.cast_record.specs.Printable.{IsPrintable}
+use Rattle.cast_print.specs.Scripts.{events_text, script_text}
+use Rattle.cast_print.specs.Printable.{IsPrintable}
 
 -- what is printed is ASCII, and is read as what was printed
 abbrev pub PrintedIsRead : Type 0

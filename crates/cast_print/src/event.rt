@@ -2,13 +2,13 @@ ghost use Rattle.std.specs.Prelude.{◌≡◌, ◌++◌, OnOk, OnErr};
 ghost use Rattle.std.specs.String.{string_bytes};
 ghost use Rattle.cast_script.specs.Words.{quota_name_text};
 ghost use Rattle.cast_script.specs.Lines.{cast_text};
-ghost use Rattle.cast_record.specs.Texts.{event_text, line_text, request_words};
+ghost use Rattle.cast_print.specs.Scripts.{event_text, line_text, request_words};
 ghost use Rattle.cast_events.specs.declared.event.Event.TheVariants as event;
 
+use crate::log::{print_bytes, print_payload, print_proc};
 use cast_events::Event;
 use cast_frame::encode_site;
 use cast_message::{CastKind, Command, Request, SiteFrame};
-use cast_print::{print_bytes, print_payload, print_proc};
 use cast_quota::QuotaName;
 use cast_types::{DomainNo, NoMemory, SiteNo};
 use std::alloc::Global;

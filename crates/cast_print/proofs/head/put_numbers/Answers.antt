@@ -1,6 +1,6 @@
 use Rattle.std.proofs.Common.{refl}
-use Rattle.cast_record.proofs.Joined.{numbers_written}
-use Rattle.cast_record.proofs.head.put_numbers.Goals as goal
+use Rattle.cast_print.proofs.Joined.{numbers_written}
+use Rattle.cast_print.proofs.head.put_numbers.Goals as goal
 
 pub returns : goal.returns
 returns c =

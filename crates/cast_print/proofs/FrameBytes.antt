@@ -37,7 +37,7 @@ use Rattle.cast_field.proofs.Orders.{sequence_parts}
 use Rattle.cast_field.proofs.Parts.{stamp_parts}
 use Rattle.cast_frame.specs.Spelling.{change_code, frame_code, full_code, is_handing, spelled_fields, spelled_site, version_code}
 use Rattle.cast_frame.specs.Spelled.{IsFrame, IsSpelled}
-use Rattle.cast_record.specs.Printable.{IsByteBody, IsByteFrame}
+use Rattle.cast_print.specs.Printable.{IsByteBody, IsByteFrame}
 
 abbrev IsByte : ℕ → Type 0
 IsByte b = b < 256

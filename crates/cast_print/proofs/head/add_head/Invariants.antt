@@ -1,8 +1,8 @@
 use Rattle.std.proofs.Common.{◌≡◌, ◌++◌, drop}
 use Rattle.std.specs.List.{flat_map}
 use Rattle.std.specs.String.{string_bytes}
-use Rattle.cast_record.specs.Texts.{domain_text, head_text}
-use Rattle.cast_record.proofs.head.add_head.Given as goal
+use Rattle.cast_print.specs.Scripts.{domain_text, head_text}
+use Rattle.cast_print.proofs.head.add_head.Given as goal
 
 -- what is written, and what is left
 abbrev pub invariant-loop-domain : goal.invariant-loop-domain

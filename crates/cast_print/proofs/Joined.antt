@@ -7,7 +7,7 @@ use Rattle.std.proofs.lemmas.List.{append-nil, drop_all, take_all}
 use Rattle.std.proofs.lemmas.List.Elements.{All-append, All-cons, All-nil}
 use Rattle.std.proofs.lemmas.List.Splits.{slice_split_at, slice_split_none}
 use Rattle.cast_script.specs.Words.{parted}
-use Rattle.cast_record.specs.Texts.{numbers_text}
+use Rattle.cast_print.specs.Scripts.{numbers_text}
 
 -- the byte c is nowhere in a list
 abbrev pub Lacks : ℕ → List ℕ → Type 0

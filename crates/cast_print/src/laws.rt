@@ -1,4 +1,4 @@
-ghost use Rattle.cast_record.specs.Laws.{PartsJoin, PrintedIsRead, ReadIsPrintable};
+ghost use Rattle.cast_print.specs.Laws.{PartsJoin, PrintedIsRead, ReadIsPrintable};
 
 /// What is printed is read back as the configuration and the events that were printed.
 pub fn printed_is_read()

@@ -1,6 +1,6 @@
 ghost use Rattle.std.specs.Prelude.{◌≡◌, IfOk};
 ghost use Rattle.std.specs.String.{string_bytes};
-ghost use Rattle.cast_record.specs.Texts.{script_text};
+ghost use Rattle.cast_print.specs.Scripts.{script_text};
 
 use crate::event::add_event;
 use crate::head::add_head;

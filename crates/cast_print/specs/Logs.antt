@@ -22,6 +22,7 @@ use Rattle.cast_events.specs.declared.log.Fault.{Fault}
 use Rattle.cast_events.specs.declared.log.Fault.TheVariants as fault
 use Rattle.cast_events.specs.declared.log.Given.{Given}
 use Rattle.cast_events.specs.declared.log.Log.{Log}
+use Rattle.cast_script.specs.Words.{proc_text}
 
 -- the texts of a list's items, which are numbered from n on
 abbrev pub numbered : {X : Type 0} → (ℕ → X → List ℕ) → ℕ → List X → List ℕ
@@ -30,10 +31,6 @@ numbered f n (x ∷ xs) = f n x ++ numbered f (n + 1) xs
 
 abbrev pub line_feed : List ℕ
 line_feed = 10 ∷ []
-
--- as in `1.1`
-abbrev pub proc_text : Proc → List ℕ
-proc_text p = decimal p.site.0 ++ (codes "." ++ decimal p.serial)
 
 -- as in `1/1/1.1/1`
 abbrev pub uid_text : Uid → List ℕ

@@ -1,6 +1,0 @@
-pub mod Joined
-pub mod WordBytes
-pub mod Lines
-pub mod FrameBytes
-pub mod Spelled
-pub mod Read
