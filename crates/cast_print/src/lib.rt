@@ -1,7 +1,11 @@
 //! The printed log of a daemon: what it answered, pushed and sent.
 //!
-//! Promised: `print` returns exactly the text of the log. `print_proc`, `print_bytes` and
-//! `print_payload` add exactly that of a process and of bytes (`specs/Texts.antt`).
+//! `print_proc`, `print_bytes` and `print_payload` add exactly the text of a process and of bytes
+//! (`specs/Texts.antt`).
+//!
+//! # What is proved
+//!
+//! - The printed text is the log's: `print`.
 #![tactic(auto)]
 
 mod log;

@@ -1,8 +1,10 @@
 //! The text of a script: a configuration, and what happens to a daemon that has it.
 //!
-//! Promised: `add_head`, `add_event` and `print_script` write exactly the texts that the
-//! definitions in `specs/Texts.antt` give. `cast_script` reads what is printed as the same
-//! configuration and the same events; what it reads can be printed, also in parts (`laws`).
+//! # What is proved
+//!
+//! - Lines of a script are added as defined, or none: `add_head`, `add_event` (`ok`, `err`). A
+//!   printed script (`print_script`) is read back as it was; what is read can be printed, also in
+//!   parts: `cast_record::laws::printed_is_read`, `read_is_printable`, `parts_join`.
 #![tactic(auto)]
 
 mod event;
