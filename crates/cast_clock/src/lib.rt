@@ -2,7 +2,7 @@
 //!
 //! The rule is that of Birman, Schiper and Stephenson, "Lightweight Causal and Atomic Group
 //! Multicast", ACM TOCS 9(3), 1991. The view beside the counts is this project's own: a later view
-//! outranks an earlier one.
+//! outranks an earlier one. A call that is refused memory changes nothing.
 //!
 //! # What is proved
 //!

@@ -1,7 +1,7 @@
 //! What a daemon is told, and what comes of it: configuration, events, answers, sessions, logs, and
 //! what a trace keeps of an event and a daemon tells of itself.
 //!
-//! A `Moment` never goes back.
+//! An `append` that runs out of memory adds nothing. A `Moment` never goes back.
 //!
 //! # What is proved
 //!
