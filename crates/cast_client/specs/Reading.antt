@@ -1,5 +1,5 @@
--- Reading a frame between a program and its daemon from the front of a stream: the frame and how long it is, or how
--- many bytes are wanting, or the first fault.
+-- Reading a frame between a program and its daemon from the front of a stream.
+-- What is read is the frame and how long it is, or how many bytes are wanting, or the first fault.
 use Rattle.std.specs.Prelude.{ℕ, ◌-◌, ◌==◌, nat_lt, if◌then◌else◌, List, [], length, take, drop, Option, Some, None, Result, Ok, Err}
 use Rattle.std.specs.Int.{w32}
 use Rattle.cast_types.specs.declared.refusal.Refusal.{Refusal}

@@ -1,5 +1,5 @@
--- The frames between a program and its daemon that have a spelling: every number is in its range, and the whole frame is
--- not too long.
+-- The frames between a program and its daemon that have a spelling.
+-- Every number is in its range, and the whole frame is not too long.
 use Rattle.std.specs.Prelude.{ℕ, ◌≡◌, ◌≤◌, ◌+◌, ◌-◌, ◌⊎◌, nat_lt, if◌then◌else◌, List, ◌++◌, length, Ok}
 use Rattle.cast_message.specs.declared.client.Request.{Request}
 use Rattle.cast_message.specs.declared.client.Request.TheVariants.{Join, Leave, Cast, Pass}

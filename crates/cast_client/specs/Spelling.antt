@@ -1,4 +1,5 @@
--- The one spelling of each frame between a program and its daemon. All numbers have their high byte first.
+-- The one spelling of each frame between a program and its daemon.
+-- All numbers have their high byte first.
 use Rattle.std.specs.Prelude.{ℕ, ◌+◌, List, ◌++◌, length}
 use Rattle.cast_types.specs.Refusals.{refusal_code}
 use Rattle.cast_message.specs.declared.client.CastKind.{CastKind}

@@ -1,10 +1,14 @@
 //! The bytes of the frames between a program and its daemon.
 //!
-//! Promised: `encode_request`, `encode_push` and `encode_client` write the one spelling of a
-//! frame, of 5 to 20,000 bytes; `add_push` adds it behind other bytes. `decode_client` looks at
-//! the front of a stream. It returns the frame there with its length, how many bytes are missing,
-//! or the first fault. No spelling is the beginning of another, and more bytes change neither a
-//! frame that was read nor a fault (`laws`).
+//! # What is proved
+//!
+//! - The front of a stream is decoded exactly: a frame and its length, how many bytes are missing,
+//!   or the first fault: `decode_client` (`found`, `only`, `more`, `exact`).
+//! - A frame whose numbers are in range has one spelling, of 5 to 20,000 bytes: `encode_request`,
+//!   `encode_push`, `encode_client`, and `add_push` behind other bytes; `laws::client_fits`.
+//! - It is read back whatever follows; no spelling begins another; a part asks for the rest; more
+//!   bytes change neither a frame nor a fault:
+//!   `laws::{client_is_read, client_spellings_differ, part_wants_the_rest, more_comes}`.
 #![tactic(auto)]
 
 pub mod front;

@@ -1,4 +1,5 @@
--- What the join, the order, a raised count and a view that begins mean, group by group and process by process.
+-- What the join, the order, a raised count and a view that begins mean.
+-- They mean it group by group and process by process.
 use Rattle.std.specs.Prelude.{◌≡◌, ◌≢◌, ℕ, ◌+◌, max, Bool, ◌&&◌, IsTrue, ◌↔◌, ◌⊎◌}
 use Rattle.std.specs.List.{list_all}
 use Rattle.std.specs.FinMap.Entries.{is_sorted}

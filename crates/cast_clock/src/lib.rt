@@ -1,12 +1,17 @@
 //! Vector times: per group a view and, in that view, a count of messages per process.
 //!
 //! The rule is that of Birman, Schiper and Stephenson, "Lightweight Causal and Atomic Group
-//! Multicast", ACM TOCS 9(3), 1991. The view beside the counts is this project's own: a later
-//! view outranks an earlier one.
+//! Multicast", ACM TOCS 9(3), 1991. The view beside the counts is this project's own: a later view
+//! outranks an earlier one. A call that is refused memory changes nothing.
 //!
-//! Promised: `merge` gives the pointwise join, and changes nothing if a group would get more than
-//! 64 counts. `at_most` is the pointwise order, and `bump` raises one count. A call that is
-//! refused memory changes nothing.
+//! # What is proved
+//!
+//! - Look-ups, `bump`, `enter`, `merge`, `has_room_for`, `at_most`, `stamp`, `copy` of `Times` are
+//!   the definition's. `bump` and `merge` refuse a 65th count of a group and change nothing then
+//!   (`fits`, `too_many`, `err`).
+//! - The join is pointwise and the least time above both; the order is pointwise; a bump raises one
+//!   count alone: `laws::{join_is_pointwise, join_is_least, order_is_pointwise}`,
+//!   `laws::{bump_raises_one, enter_begins_one, times_stay_times}`.
 #![tactic(auto)]
 
 mod clocks;

@@ -1,4 +1,5 @@
--- Faults of a document: the name of the field, what is said of the cause, and how an answer is what reading gives.
+-- Faults of a document: the name of the field, what is said of the cause.
+-- Also how an answer is what reading gives.
 use Rattle.std.specs.Prelude.{◌≡◌, ℕ, Bool, true, false, if◌then◌else◌, List, ◌++◌, codes, Result, Ok, Err}
 use Rattle.cast_config.specs.declared.fault.Field.{Field}
 use Rattle.cast_config.specs.declared.fault.Field.TheVariants as field

@@ -1,4 +1,5 @@
--- What a field of a table says: a boolean, a number within limits, a text, a table, a list of numbers.
+-- What a field of a table says.
+-- It says a boolean, a number within limits, a text, a table, a list of numbers.
 use Rattle.std.specs.Prelude.{ℕ, ℤ, pos, negsuc, Bool, false, ◌&&◌, ◌==◌, nat_lt, nat_le, if◌then◌else◌, List, [], ◌∷◌, length, option_map, Option, Some, None, Result, Ok, Err}
 use Rattle.std.specs.Ordering.{nat_cmp}
 use Rattle.toml.specs.Data.{Data, Items, no_items, item, Members, as_array, as_bool, as_integer, as_str, as_table, get_member}

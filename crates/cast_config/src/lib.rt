@@ -1,8 +1,12 @@
 //! The configuration: a TOML document, and the set-up of one site that it gives.
 //!
-//! Promised: `read` returns the set-up that the document gives a site, or its first fault with
-//! the field. It tests each number against its range, and that no two sites and no two domains
-//! share a number. `complain` says what a fault is.
+//! `read` tests each number against its range, and that no two sites and no two domains share a
+//! number. A fault comes with its field.
+//!
+//! # What is proved
+//!
+//! - A text gives a site exactly its set-up, or the first fault: `cast_config::read` (`exact`),
+//!   which is said with its status: `complain`.
 #![tactic(auto)]
 
 mod domains;

@@ -1,5 +1,5 @@
--- The texts of the console's answers: of what a table shows, of a trace, and of what came of an event. Lines are parted by
--- line feeds, without a last one.
+-- The texts of the console's answers: of a table, of a trace, of what came of an event.
+-- Lines are parted by line feeds, without a last one.
 use Rattle.std.specs.Prelude.{ℕ, ◌-◌, List, [], ◌∷◌, ◌++◌, codes, Bool, if◌then◌else◌, length, map, Option, Some, None, unwrap_or, Result, Ok, Err}
 use Rattle.std.specs.List.{filter_map, flat_map, join_by, range_with_len}
 use Rattle.std.specs.Option.{option_map}

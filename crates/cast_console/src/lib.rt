@@ -1,9 +1,12 @@
 //! The console: one line in, one answer out.
 //!
-//! Promised: `parse` reads a line exactly, or reports its first fault. The answer says exactly
-//! what the table shows, what the daemon tells beside it, or what came of the line's event
-//! (`answer`). Only an event changes
-//! anything. Not promised: that there is memory for the text.
+//! Not promised: that there is memory for the text.
+//!
+//! # What is proved
+//!
+//! - A line is read exactly: `cast_console::parse`. The text answered is exactly that of the line,
+//!   an event is served under number 0 and its outcome handed on, and other lines change nothing:
+//!   `cast_console::answer` (`text`, `done`, `same`).
 #![tactic(auto)]
 
 mod answers;

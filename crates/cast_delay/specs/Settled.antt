@@ -1,4 +1,5 @@
--- What need not be looked at when it is asked what is ready: messages that no process here waits for any more.
+-- What need not be looked at when it is asked what is ready.
+-- That is each message that no process here waits for any more.
 use Rattle.std.specs.Prelude.{◌≡◌, ℕ, ◌≤◌, Bool, true, not, ◌||◌, ◌==◌, nat_le, if◌then◌else◌, List, length, take, Some, None}
 use Rattle.std.specs.List.{list_all}
 use Rattle.cast_types.specs.declared.names.GroupNo.{GroupNo}

@@ -1,9 +1,12 @@
 //! Readers and writers that note the failures of their calls.
 //!
-//! Promised: a `Watched` passes each call on and notes exactly whether one failed, how many calls
-//! of `read` were made, and how many calls of `write` in a row were interrupted. `write_whole`
-//! writes all bytes, or reports a fault exactly if a call failed or `PATIENCE` calls in a row
-//! were interrupted. `tell` writes several texts.
+//! # What is proved
+//!
+//! - Notes of a device's calls are exact: `Watched` (`failed`, `calls`, `interrupted`, `passed`);
+//!   only `begin` clears them.
+//! - A text is written whole, or a beginning where the writer fails: `write_whole`, `tell`. A
+//!   writer's fault is answered exactly where a call failed, took no byte, or 2^32 in a row were
+//!   interrupted: `write_whole` (`failed`).
 #![tactic(auto)]
 
 mod watched;

@@ -1,4 +1,5 @@
--- What a call changes of the records, as it tells: where it answers that something changed, something did.
+-- What a call changes of the records, as it tells.
+-- Where it answers that something changed, something did.
 use Rattle.std.specs.Prelude.{ℕ, Bool, false, not, ◌&&◌, ◌||◌, is_some, List, [], ◌∷◌, Some, None}
 use Rattle.std.specs.List.{list_any}
 use Rattle.cast_types.specs.declared.names.SiteNo.{SiteNo}

@@ -1,4 +1,5 @@
--- What contracts see of a domain's sessions: how many serials were given, and those that are not gone, in the order of their serials.
+-- What contracts see of a domain's sessions.
+-- That is how many serials were given, and those that are not gone, in the order of their serials.
 use Rattle.std.specs.Prelude.{ℕ, ◌+◌, Bool, not, ◌==◌, nat_le, if◌then◌else◌, List, [], ◌∷◌, ◌++◌, filter}
 use Rattle.std.specs.List.{find, list_all}
 use Rattle.std.specs.Option.{option_map_or}

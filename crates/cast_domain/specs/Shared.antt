@@ -1,4 +1,5 @@
--- What all domains of a daemon share, as one domain sees it: its own part, and what is left for the others.
+-- What all domains of a daemon share, as one domain sees it.
+-- It sees its own part, and what is left for the others.
 use Rattle.std.specs.Prelude.{◌≡◌, ℕ, ◌+◌, not, ◌==◌, if◌then◌else◌, List, [], ◌∷◌, ◌++◌, filter, drop}
 use Rattle.cast_types.specs.declared.names.DomainNo.{DomainNo}
 use Rattle.cast_types.specs.declared.names.GroupNo.{GroupNo}

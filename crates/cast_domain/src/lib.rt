@@ -3,6 +3,12 @@
 //! Each call does what its rule of `Calls`, or of `cast_rules`, says of the records (`made`). The
 //! lemmas say that records which stand for a history (`Fits`) still do afterwards. The rest of the
 //! code is in `cast_handlers`, `cast_rest`, `cast_commands` and, with the step, in `cast_step`.
+//!
+//! # What is proved
+//!
+//! - A new domain runs and stands for the opening state where its groups rise: `Domain::new`
+//!   (`placed`, `running`, `begins`); `Shared::new`.
+//! - A copy has equal records: `Domain::copy`, and the parts' `copy`.
 #![tactic(auto)]
 
 pub mod asking;

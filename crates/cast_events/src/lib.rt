@@ -1,9 +1,11 @@
 //! What a daemon is told, and what comes of it: configuration, events, answers, sessions, logs, and
 //! what a trace keeps of an event and a daemon tells of itself.
 //!
-//! Promised: `Event::domain` is the domain that an event names. `send`, `push` and `append` add
-//! to the lists of `Outs` in order; an `append` that runs out of memory adds nothing. A `Moment`
-//! never goes back.
+//! An `append` that runs out of memory adds nothing. A `Moment` never goes back.
+//!
+//! # What is proved
+//!
+//! - `Event::domain`, `Outs::{send, append}`, `Outs::push`, `Status::is_open` are exact.
 #![tactic(auto)]
 
 pub mod asked;

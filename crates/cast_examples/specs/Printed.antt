@@ -1,4 +1,5 @@
--- What a script prints, computed from its text: it is read, each domain runs by the definitions, and the log is written.
+-- What a script prints, computed from its text.
+-- It is read, each domain runs by the definitions, and the log is written.
 use Rattle.std.specs.Prelude.{ℕ, ◌==◌, Bool, true, false, if◌then◌else◌, List, [], ◌∷◌, ◌++◌, map, Option, Some, None, Result, Ok, Err}
 use Rattle.std.specs.List.{find, list_all}
 use Rattle.cast_types.specs.declared.names.DomainNo.{DomainNo}

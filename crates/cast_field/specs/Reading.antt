@@ -1,4 +1,4 @@
--- Reading the fields of a frame from left to right: a value and the bytes after it, or the first fault.
+-- Reading the fields of a frame: a value and the bytes after it, or the first fault from the left.
 use Rattle.std.specs.Prelude.{◌≡◌, ◌≢◌, ℕ, zero, suc, ◌-◌, Bool, true, false, ◌&&◌, ◌==◌, nat_lt, nat_le, if◌then◌else◌, List, [], ◌∷◌, length, take, drop, slice_get, Option, Some, None, Result, Ok, Err}
 use Rattle.std.specs.Int.{Width, w16, w32, byte_len, from_be_bytes}
 use Rattle.std.specs.Borrow.{Bor}

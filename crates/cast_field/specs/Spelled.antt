@@ -1,4 +1,5 @@
--- The fields that have a spelling: every number is in its range, and every list is sorted and no longer than it may be.
+-- The fields that have a spelling: numbers in their ranges, and sorted lists.
+-- No list is longer than it may be.
 use Rattle.std.specs.Prelude.{ℕ, ◌≤◌, List, length, Option, Some, None, IsTrue}
 use Rattle.std.specs.List.{AllByRecursion}
 use Rattle.cast_types.specs.declared.names.GroupNo.{GroupNo}

@@ -1,8 +1,10 @@
 //! The bytes of the fields of frames, read and written one by one.
 //!
-//! Promised: each call of `writing` appends the one spelling of its field. Each call of `reading`
-//! takes a field from the front of the bytes and returns the rest, or the first fault from the
-//! left (`FrameFault`).
+//! # What is proved
+//!
+//! - Each field is read exactly, or its first fault from the left is found; each is written as its
+//!   one spelling: the calls of `reading` and `writing`. Each fault has its number:
+//!   `FrameFault::number`.
 #![tactic(auto)]
 
 pub mod fault;

@@ -1,4 +1,4 @@
--- What the home decides from all reports beside the members: the order that the ABCASTs of the old view end with.
+-- The order that the ABCASTs of the old view end with, as the home decides it from all reports.
 use Rattle.std.specs.Prelude.{ℕ, ◌+◌, nat_lt, if◌then◌else◌, List, [], ◌++◌, length, take, map, filter}
 use Rattle.std.specs.List.{fold, flat_map}
 use Rattle.cast_types.specs.declared.limits.TheConstants.{MAX_PLACED, MAX_ORDER}

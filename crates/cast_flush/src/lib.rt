@@ -5,8 +5,11 @@
 //! pass to the next view deliver the same messages, as in Birman, Schiper and Stephenson,
 //! "Lightweight Causal and Atomic Group Multicast", ACM TOCS 9(3), 1991.
 //!
-//! Promised: each function returns what its definition says, and the definitions say what the
-//! rules say in words (`laws`).
+//! # What is proved
+//!
+//! - The cut, what is wanted from whom, and the order that ends a view are the definition's:
+//!   `cut_from`, `wanted_ids`, `wants_of`, `order_from`;
+//!   `laws::{cut_is_the_rule_in_words, needed_is_the_rule_in_words, order_is_the_rule_in_words}`.
 #![tactic(auto)]
 
 mod decisions;

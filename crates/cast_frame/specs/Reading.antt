@@ -1,4 +1,5 @@
--- Reading a frame between sites from left to right: its header and the fields of its type, or the first fault.
+-- Reading a frame between sites from left to right.
+-- What is read is its header and the fields of its type, or the first fault.
 use Rattle.std.specs.Prelude.{ℕ, Bool, true, false, not, ◌||◌, ◌==◌, nat_lt, if◌then◌else◌, List, length, Result, Ok, Err}
 use Rattle.std.specs.Int.{w16, w32}
 use Rattle.cast_types.specs.declared.names.DomainNo.{DomainNo}

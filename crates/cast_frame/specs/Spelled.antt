@@ -1,4 +1,5 @@
--- The frames that have a spelling: every number is in its range, and every list is sorted and no longer than it may be.
+-- The frames that have a spelling: numbers in their ranges, and sorted lists.
+-- No list is longer than it may be.
 use Rattle.std.specs.Prelude.{ℕ, ◌≤◌, List, length}
 use Rattle.cast_types.specs.declared.names.DomainNo.{DomainNo}
 use Rattle.cast_types.specs.declared.names.SiteNo.{SiteNo}

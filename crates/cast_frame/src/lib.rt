@@ -1,9 +1,12 @@
-//! The bytes of the frames between sites.
+//! The bytes of the frames between sites. A frame whose message hands over the token has version 2,
+//! every other frame version 1.
 //!
-//! Promised: `encode_site` writes the one spelling of a frame, and `decode_site` reads a frame or
-//! reports the first fault from the left. Unless memory runs out, it reads exactly what is
-//! spelled so. Different frames have different spellings, of at most 60,000 bytes (`laws`). A
-//! frame whose message hands over the token has version 2, every other frame version 1.
+//! # What is proved
+//!
+//! - Bytes are decoded exactly where they spell a frame, else to the first fault: `decode_site`
+//!   (`found`, `only`, `exact`). A frame has one spelling: `encode_site`.
+//! - A frame whose numbers are in range is read back from its spelling, shares it with no other,
+//!   and has at most 60,000 bytes: `laws::{spelled_is_read, spellings_differ, spelled_fits}`.
 #![tactic(auto)]
 
 mod header;

@@ -1,4 +1,5 @@
--- What a replay gives: for each domain, what a daemon gives that serves it alone, up to where want of memory halted it.
+-- What a replay gives: for each domain, what a daemon gives that serves it alone.
+-- It gives that up to where want of memory halted the domain.
 use Rattle.std.specs.Prelude.{◌≡◌, ◌==◌, ℕ, ◌+◌, ◌<◌, max, Bool, true, false, if◌then◌else◌, List, [], ◌∷◌, ◌++◌, map, filter, take, slice_get, Option, Some, None, is_some, Result, Ok, Err, ◌↔◌}
 use Rattle.std.specs.Option.{option_map_or}
 use Rattle.std.specs.List.{AllZip, find, range_with_len}

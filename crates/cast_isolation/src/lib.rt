@@ -1,8 +1,13 @@
 //! Whole replays: a list of events applied to a daemon that has just started.
 //!
-//! Promised: whatever the events, each domain answers, sends and pushes what a daemon does that
-//! serves it alone and hears only its events, until it runs out of memory (`replay`). So its
-//! configuration and its own events decide what it gives (`laws::own_events_decide`).
+//! # What is proved
+//!
+//! - `replay` (`replayed`): [promise
+//!   4](../../../docs/PROOFS.md#4-isolation-and-causal-delivery-the-headline); a domain halts at an
+//!   event of its own alone. Each event has one answer, "no domain" exactly where none is
+//!   configured (`all`, `no_domain`).
+//! - Two replays that agree on a domain's configuration and own events, and halt it in neither,
+//!   give it the same: `laws::own_events_decide`.
 #![tactic(auto)]
 
 pub mod laws;

@@ -1,4 +1,5 @@
--- The kind of a message is that of its body, and so is the process to which it hands over the token of its view.
+-- The kind of a message is that of its body.
+-- So is the process to which it hands over the token of its view.
 use Rattle.std.specs.Prelude.{Bool, Option, None, is_some}
 use Rattle.cast_types.specs.declared.names.Proc.{Proc}
 use Rattle.cast_types.specs.declared.names.Kind.{Kind}

@@ -1,9 +1,10 @@
-//! Messages, frames and commands as values.
+//! Messages, frames and commands as values. A copy is an equal value.
 //!
-//! Promised by the types: a payload has at most 16,384 bytes. Members rise, with the holder
-//! among them. A tail of an order has at most 576 ids. A placement has 1 to 64 ids, or none if it
-//! hands over the token. The ids of kept messages rise and are at most 2,048. A copy is an equal
-//! value.
+//! # What is proved
+//!
+//! - Invariants: a `Payload` has at most 16,384 bytes; members of a `Membership` rise, the holder
+//!   among them; a `Tail` has at most 576 ids; a `Placement` at most 64, and none only where it
+//!   hands the token over; `KeptIds` rise and are at most 2,048.
 #![tactic(auto)]
 
 pub mod client;

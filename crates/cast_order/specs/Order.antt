@@ -1,4 +1,5 @@
--- The total order of a view's ABCASTs, by all that set-order messages told of it, and how it is listed.
+-- The total order of a view's ABCASTs, and how it is listed.
+-- It is known by all that set-order messages told of it.
 use Rattle.std.specs.Prelude.{◌≡◌, ℕ, zero, suc, ◌+◌, ◌-◌, ◌<◌, ◌≤◌, max, Bool, not, ◌==◌, nat_le, List, [], ◌∷◌, ◌++◌, length, take, drop, filter, slice_get, Option, Some, None, unwrap_or}
 use Rattle.std.specs.List.{find, enumerate_from}
 use Rattle.std.specs.Option.{option_map}

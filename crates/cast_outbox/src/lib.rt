@@ -1,8 +1,10 @@
 //! The outboxes of sessions: what was pushed to them and not taken yet, for all domains.
 //!
-//! Promised: an outbox is one list in order of pushes. A call changes one outbox, or those of one
-//! domain, and no other. A `push` to a full outbox appends instead that the program is too slow.
-//! A call that is refused memory changes nothing.
+//! # What is proved
+//!
+//! - An outbox is one list; a push to a full one instead adds that the program is too slow. Other
+//!   domains stay, and a refused call changes nothing:
+//!   `Outboxes::{new, open, push, take, len, at, close, drop_domain}` (`others`, `err`).
 #![tactic(auto)]
 
 mod outbox;

@@ -1,4 +1,4 @@
--- What contracts see of a table that is kept beside its trace, and what holds of it whenever nobody is changing it.
+-- What contracts see of a table beside its trace, and what holds whenever nobody is changing it.
 use Rattle.std.specs.Prelude.{◌≡◌, ℕ, ◌+◌, ◌==◌, nat_le, Bool, true, false, not, ◌&&◌, List, [], ◌∷◌, length, map, Option, All}
 use Rattle.std.specs.List.{AllZip}
 use Rattle.cast_types.specs.declared.names.DomainNo.{DomainNo}

@@ -1,4 +1,5 @@
--- What it is that an event is served: it is applied to the table, and stands at the end of the trace with its answer.
+-- What it is that an event is served.
+-- It is applied to the table, and stands at the end of the trace with its answer.
 use Rattle.std.specs.Prelude.{◌≡◌, ◌⊎◌, ℕ, ◌+◌, ◌==◌, Bool, true, false, not, if◌then◌else◌, [], ◌∷◌, ◌++◌, length, Result, Ok, Err}
 use Rattle.cast_types.specs.declared.refusal.Refusal.TheVariants as refusal
 use Rattle.cast_events.specs.declared.event.Event.{Event}

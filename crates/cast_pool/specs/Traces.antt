@@ -1,4 +1,5 @@
--- What a trace tells of each domain: its own events, one after another, are steps of the history that it stands for.
+-- What a trace tells of each domain.
+-- Its own events, one after another, are steps of the history that it stands for.
 use Rattle.std.specs.Prelude.{◌≡◌, Bool, true, false, List, [], ◌∷◌, Option, Some, None}
 use Rattle.std.specs.List.{list_any}
 use Rattle.cast_types.specs.declared.names.DomainNo.{DomainNo}

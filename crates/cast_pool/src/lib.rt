@@ -1,12 +1,23 @@
 //! The table that workers share under a lock, the trace of its events, and the workers.
 //!
-//! Promised: whenever the lock is held, the trace leads from what the base stands for to what the
-//! table stands for (`Kept`). Only `Kept::serve_one` adds to the trace. At 4,096 events it copies
-//! the table as the new base and begins the trace anew. Each worker counts its events and the
-//! table counts all; the two are equal once all shares are joined (`Kept::total`). `work` sends
-//! one answer for each job that it takes, in order.
-//!
 //! Not promised: who gets the lock first, that a job or an answer arrives.
+//!
+//! # What is proved
+//!
+//! - `Kept`: [promise 3](../../../docs/PROOFS.md#3-one-tenant-one-lock). A served event is applied,
+//!   ends the trace and counts once; a trace of 4,096 events is trimmed first. Showing a domain, an
+//!   event of no domain, no memory to begin with, and no number left change nothing:
+//!   `Kept::serve_one` (`number`, `done`, `parts`).
+//! - A trim copies the table to the base and empties the trace; out of memory it changes nothing:
+//!   `Kept::trim` (`ok`, `err`). `Kept::cut` does so too, and hands on the events of the trace in
+//!   their order (`ok`, `err`). `Kept::let_go` trims only where a job halted a domain; after a job,
+//!   and only if that may be: `Kept::complete`, `work`. Shares add up: `Worked::{split, join}`. A
+//!   datagram is decoded to its frame or fault: `decode`; what a job is can be read: `Job::task`.
+//! - For each `Raw` taken, `work` sends one `Done`, in order, with its number and what came of it,
+//!   until no more can come (`answered`, `over`).
+//! - Only module `kept` can make a `Job` or `Done` or change a `Kept`: their fields are private and
+//!   none is `Clone`. `tools/sealed`, which `./check` runs, sees the compiler refuse code that
+//!   does.
 #![tactic(auto)]
 
 pub mod configured;

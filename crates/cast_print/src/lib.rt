@@ -3,10 +3,12 @@
 //! A log is what a daemon answered, pushed and sent. A script is a configuration, and what happens
 //! to a daemon that has it.
 //!
-//! Promised: `print` returns exactly the text of the log (`specs/Logs.antt`). `add_head`,
-//! `add_event` and `print_script` write exactly the texts that the definitions in
-//! `specs/Scripts.antt` give. `cast_script` reads what is printed as the same configuration and the
-//! same events; what it reads can be printed, also in parts (`laws`).
+//! # What is proved
+//!
+//! - The printed text is the log's: `print`.
+//! - Lines of a script are added as defined, or none: `add_head`, `add_event` (`ok`, `err`). A
+//!   printed script (`print_script`) is read back as it was; what is read can be printed, also in
+//!   parts: `laws::{printed_is_read, read_is_printable, parts_join}`.
 #![tactic(auto)]
 
 mod event;

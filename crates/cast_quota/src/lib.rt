@@ -1,7 +1,11 @@
 //! What a domain may use of its daemon.
 //!
-//! Promised: the tests of `Quotas` are those of the definitions. `set` changes one quota exactly
-//! within its range, and otherwise refuses and changes nothing. No call takes memory.
+//! No call takes memory.
+//!
+//! # What is proved
+//!
+//! - Room is tested as the rule says: `Quotas::{check_open, check_cast, check_order}`. A quota is
+//!   set exactly within its range: `Quotas::set` (`ok`, `err`).
 #![tactic(auto)]
 
 pub mod limits;

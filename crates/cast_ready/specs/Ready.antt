@@ -1,4 +1,5 @@
--- When a received message may be delivered to a process: after all that happened before it, and an ABCAST in its turn.
+-- When a received message may be delivered to a process.
+-- It may be after all that happened before it, and an ABCAST in its turn.
 use Rattle.std.specs.Prelude.{ℕ, Bool, true, false, not, ◌&&◌, ◌||◌, ◌==◌, nat_lt, nat_le, List, map, filter, Option, Some, None}
 use Rattle.std.specs.List.{list_all, flat_map, find, range_with_len}
 use Rattle.std.specs.Option.{option_map_or}

@@ -1,10 +1,14 @@
 //! The replay of a script: from the bytes of its file to the text of its log and the exit status.
 //!
-//! Promised: the printed text is that of a log in which each domain behaves as a daemon that
-//! serves it alone, and a text that is no script is refused for its first faulty line
-//! (`printed_log`). The program writes that, and ends with the status for it (`run_script`,
-//! `replay_read`). A record is replayed as the script that its files are (`replay_part`); which
-//! lines these are is not promised.
+//! A record is replayed as the script that its files are (`replay_part`); which lines these are is
+//! not promised.
+//!
+//! # What is proved
+//!
+//! - `printed_log` (`ends`): [promise
+//!   4](../../../docs/PROOFS.md#4-isolation-and-causal-delivery-the-headline), or why there is no
+//!   log. The program writes that text and ends with 0, or says exactly why not with 3, 4 or 5:
+//!   `run_script`, `replay_read` (`ended`, `done`, `failed`); `complain`, `no_memory`.
 #![tactic(auto)]
 
 mod meter;

@@ -1,4 +1,5 @@
--- A run is one: events say what a domain that is served alone answers, sends and pushes, and where it ends. A public law.
+-- A run is one: events say what a domain served alone answers, sends and pushes.
+-- They say where it ends, too. A public law.
 use Rattle.std.specs.Prelude.{◌≡◌, ℕ, List}
 use Rattle.cast_types.specs.declared.names.SiteNo.{SiteNo}
 use Rattle.cast_message.specs.declared.site.SiteFrame.{SiteFrame}

@@ -1,4 +1,4 @@
--- What the rules of messages come to for a history.
+-- What the rules of messages come to for a history: sending and delivering.
 use Rattle.std.specs.Prelude.{ℕ}
 use Rattle.cast_types.specs.declared.names.GroupNo.{GroupNo}
 use Rattle.cast_message.specs.declared.message.Body.{Body}

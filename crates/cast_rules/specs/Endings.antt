@@ -1,4 +1,4 @@
--- The rest after an event comes to an end: what each change of a pass lowers, and the laws that follow.
+-- The rest after an event ends: what each change of a pass lowers, and the laws that follow.
 use Rattle.std.specs.Prelude.{◌≡◌, ℕ, ◌+◌, ◌*◌, ◌<◌, ◌⊎◌, Bool, not, ◌&&◌, if◌then◌else◌, List, [], ◌∷◌, length, filter, Some, None}
 use Rattle.std.specs.List.{list_any, find}
 use Rattle.cast_types.specs.declared.names.GroupNo.{GroupNo}

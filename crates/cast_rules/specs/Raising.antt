@@ -1,5 +1,5 @@
--- A member's count can always be raised, unless it is the last one: a time counts only members of the view, and a view
--- has few.
+-- A member's count can always be raised, unless it is the last one.
+-- A time counts only members of the view, and a view has few.
 use Rattle.std.specs.Prelude.{◌≡◌, ℕ, ◌≤◌, ◌<◌, true, false, List, length, Contains, nat_lt, ◌&&◌}
 use Rattle.std.specs.List.{list_all, AllByRecursion}
 use Rattle.cast_types.specs.declared.names.SiteNo.{SiteNo}

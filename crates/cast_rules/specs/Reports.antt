@@ -1,4 +1,4 @@
--- What a site has of a group's view, as it reports it where the view is flushed, and what it lacks of the view that ends.
+-- What a site has of a group's view that is flushed, as it reports it, and what it lacks of it.
 use Rattle.std.specs.Prelude.{Bool, not, ◌&&◌, ◌||◌, min, List, [], ◌++◌, map, filter, take}
 use Rattle.std.specs.List.{list_all, list_any, flat_map}
 use Rattle.std.specs.Option.{option_map_or}

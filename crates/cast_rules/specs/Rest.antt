@@ -1,4 +1,5 @@
--- What a state does of itself after each event, until nothing changes: the rules of rest for a history.
+-- What a state does of itself after each event: release, deliveries, passes, until nothing changes.
+-- These are the rules of rest for a history.
 use Rattle.std.specs.Prelude.{ℕ, Bool}
 use Rattle.cast_types.specs.declared.names.GroupNo.{GroupNo}
 use Rattle.cast_types.specs.declared.names.Uid.{Uid}

@@ -1,4 +1,5 @@
--- What each event does to a history before it comes to rest, and what it is answered: the rules of events for a history.
+-- What each event does to a history before it comes to rest, and what it is answered.
+-- These are the rules of events for a history.
 use Rattle.std.specs.Prelude.{ℕ, ◌+◌}
 use Rattle.cast_message.specs.declared.client.Push.TheVariants as push
 use Rattle.cast_events.specs.Session.{first_session, first_entries}

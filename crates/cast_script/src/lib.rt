@@ -1,8 +1,12 @@
 //! Scripts, which say how a daemon is configured and what happens to it.
 //!
-//! Promised: `parse` reads a text as the one script that its lines spell within the limits, or
-//! reports the first fault of the first line that has one (`laws`). The functions of `words` and
-//! `domain` read a word, and the words that describe a domain, the same way.
+//! The functions of `words` and `domain` read a word, and the words that describe a domain, as
+//! `parse` does.
+//!
+//! # What is proved
+//!
+//! - A text is read exactly as its script, or its first faulty line: `parse` (`exact`);
+//!   `cast_script::laws::scripts_are_read`.
 #![tactic(auto)]
 
 pub mod domain;

@@ -1,4 +1,5 @@
--- The ledger keeps its meaning: what changes it changes what it means in the same way; and what it means.
+-- The ledger keeps its meaning, and what it means.
+-- What changes it changes what it means in the same way.
 use Rattle.std.specs.Prelude.{◌≡◌, ◌≢◌, ◌<◌, ℕ, Bool, true, false, List, [], ◌∷◌, ◌++◌}
 use Rattle.cast_types.specs.declared.names.SiteNo.{SiteNo}
 use Rattle.cast_types.specs.declared.names.GroupNo.{GroupNo}

@@ -1,4 +1,5 @@
--- How a store keeps messages: each in a slot, and for each domain the receipts of its messages, in order, which name the slots.
+-- How a store keeps messages: each in a slot, and receipts that name the slots.
+-- It has for each domain the receipts of its messages, in order.
 use Rattle.std.specs.Prelude.{◌≡◌, ◌≢◌, ℕ, ◌+◌, ◌≤◌, ◌==◌, ◌&&◌, IsTrue, Bool, true, false, not, cond, List, [], ◌∷◌, ◌++◌, get_or, replicate, Option, Some, None, Contains, filter, filter_map}
 use Rattle.std.specs.List.{find, list_any}
 use Rattle.std.specs.Option.{option_map, option_map_or, unwrap_or}

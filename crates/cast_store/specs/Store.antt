@@ -1,4 +1,5 @@
--- What contracts see of a store: for each domain that it keeps messages for, these in order of receipt.
+-- What contracts see of a store.
+-- For each domain that it keeps messages for, these in order of receipt.
 use Rattle.std.specs.Prelude.{ℕ, Bool, not, ◌&&◌, ◌==◌, List, [], Option, filter}
 use Rattle.std.specs.List.{find}
 use Rattle.std.specs.Option.{option_map_or}

@@ -1,4 +1,5 @@
--- The frames that are due at each moment, beside a map for each domain that has the moment at which the frame of each key is due.
+-- The frames that are due at each moment, beside a map by their keys.
+-- The map is one for each domain, and has the moment at which the frame of each key is due.
 use Rattle.std.specs.Prelude.{◌≡◌, ◌≢◌, ℕ, Bool, true, false, cond, ◌&&◌, ◌==◌, nat_le, if◌then◌else◌, List, map, Option, None, Some, IsTrue}
 use Rattle.std.specs.List.{list_any}
 use Rattle.std.specs.Option.{option_map, option_map_or}

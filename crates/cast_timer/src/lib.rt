@@ -1,10 +1,14 @@
 //! The frames that each domain owes to other sites, and when each is sent again.
 //!
-//! Promised: a domain's owed frames are one list, ordered by due moment and then by key. One map
-//! holds the frames of all domains by their moments, and a call for one domain leaves what all
-//! others owe. A frame is owed until it is paid: alone, with those of lower counts, or with all of
-//! a view that ended. A call that is refused memory changes nothing, but `renew_due` may have
-//! moved some frames. Moments are milliseconds, at most 2^62 + 60,000 in use.
+//! One map holds the frames of all domains by their moments. A frame is paid alone, with those of
+//! lower counts, or with all of a view that ended. A refused `renew_due` may have moved some
+//! frames. Moments are milliseconds, at most 2^62 + 60,000 in use.
+//!
+//! # What is proved
+//!
+//! - Owed frames are one list by due moment and key, no key twice. Each call is exact and leaves
+//!   other domains alone; a refused `owe` changes nothing: `Timers` (`others`, `err`);
+//!   `laws::owed_until_paid`.
 #![tactic(auto)]
 
 mod frames;

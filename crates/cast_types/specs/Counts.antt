@@ -1,4 +1,5 @@
--- Counts of messages: a count for each process, in order of processes. A process that is absent has count 0.
+-- Counts of messages: a count for each process, in order of processes.
+-- A process that is absent has count 0.
 use Rattle.std.specs.Prelude.{ℕ, Bool, ◌&&◌, nat_lt, nat_le, List, length, unwrap_or}
 use Rattle.std.specs.List.{list_all}
 use Rattle.std.specs.FinMap.Entries.{find, is_sorted}

@@ -1,10 +1,15 @@
 //! Names, limits, refusals, and the small containers that all other crates use.
 //!
-//! Promised: names of each sort have a total order by their numbers. A refusal and its number
-//! determine each other. `List` and `SortedMap` behave as lists, of items and of entries. `Counts`
-//! holds at most 64 counts of at least 1, in rising order of processes. `Stamp` holds 1 to 32
-//! clocks of views from 1 on, in rising order of groups. Each limit has the value that `laws`
-//! gives.
+//! # What is proved
+//!
+//! - Names of each sort have a total order that tells them apart: `laws::names_are_ordered`.
+//! - Refusals and their numbers correspond: `Refusal::number`, `Refusal::from_number`.
+//! - Each limit has the documented value: `laws::limits_are`.
+//! - Containers behave as lists; a refused growth changes nothing where a clause `err` says so:
+//!   `List`, `SortedMap`, `sorted::{find, put, insert}`, `Counts`, `Stamp`, `Clock::copy`,
+//!   `clock::copy_clocks`.
+//! - Invariants: `Counts` are at most 64, each at least 1, and rise; a `Stamp` has 1 to 32 clocks,
+//!   of views from 1 on, and rises.
 #![tactic(auto)]
 
 pub mod clock;

@@ -1,4 +1,4 @@
--- Whom the home decides to be the members of the next view, and what comes to a site again, in words.
+-- Whom the home makes members of the next view, and what comes to a site again, in words.
 use Rattle.std.specs.Prelude.{◌≡◌, ℕ, ◌≤◌, not, ◌&&◌, ◌||◌}
 use Rattle.cast_types.specs.declared.names.Proc.{Proc}
 use Rattle.cast_types.specs.Names.{proc_eq}

@@ -1,5 +1,5 @@
--- A group at one site: the last view that the site knows of, how far a flush of it has come here, and the requests of the
--- site's processes to the home.
+-- A group at one site: its last known view, how far a flush of it has come, and requests.
+-- The requests are those of the site's processes to the home.
 use Rattle.std.specs.Prelude.{ℕ, ◌+◌, max, Bool, true, false, not, ◌&&◌, ◌||◌, ◌==◌, nat_lt, nat_le, if◌then◌else◌, List, [], ◌∷◌, ◌++◌, length, map, filter, drop, Option, Some, None}
 use Rattle.std.specs.List.{fold}
 use Rattle.cast_types.specs.declared.limits.TheConstants.{MAX_NUMBER}

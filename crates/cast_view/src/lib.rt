@@ -2,11 +2,16 @@
 //!
 //! A view ends by a flush, after Birman, Schiper and Stephenson, "Lightweight Causal and Atomic
 //! Group Multicast", ACM TOCS 9(3), 1991. That one site, the home, runs it is this project's own.
+//! If memory is refused, a `MemberSide` is unchanged, and a `HomeSide` is of no further use.
 //!
-//! Promised: each call of `HomeSide` and `MemberSide` does exactly what its definition says. A
-//! view has at most 64 members: those that stay and those that join, and nobody else. What the
-//! home repeats changes nothing at a site (`laws`). If memory is refused, a `MemberSide` is
-//! unchanged, and a `HomeSide` is of no further use.
+//! # What is proved
+//!
+//! - Each call on a group at the home and at a site is the definition's: `HomeSide`, `MemberSide`.
+//!   A decided view has at most 64 members. `HomeSide::reckon` changes nothing that is seen, as
+//!   `Delay::look` of `cast_delay`.
+//! - The next view has the members that stay, the joins not at suspected sites, and nobody else:
+//!   `laws::members_are_the_rule_in_words`.
+//! - A repeated Prepare, Install or Out changes nothing: `laws::what_comes_again_changes_nothing`.
 #![tactic(auto)]
 
 mod flush;

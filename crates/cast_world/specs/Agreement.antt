@@ -1,4 +1,5 @@
--- How those who share a view agree: who passes from it to the next one, who is within it, and what processes delivered of it, in order.
+-- How those who share a view agree: who passes to the next, who is within it, what is delivered.
+-- What processes delivered of the view is said in order.
 use Rattle.std.specs.List.{flat_map, list_any}
 use Rattle.std.specs.Prelude.{◌&&◌, ◌+◌, ◌++◌, ◌==◌, Bool, Contains, List, false, filter, ℕ, ◌∷◌, ◌≡◌}
 use Rattle.cast_rules.specs.Acts.{Act}

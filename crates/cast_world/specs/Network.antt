@@ -1,5 +1,5 @@
--- Daemons of one domain at several sites, and every frame ever sent. A frame that no step takes is lost; steps may take one again, and
--- in any order.
+-- Daemons of one domain at several sites, and every frame ever sent.
+-- A frame that no step takes is lost; steps may take one again, and in any order.
 use Rattle.std.specs.Option.{option_map_or}
 use Rattle.std.specs.Prelude.{◌&&◌, ◌++◌, ◌==◌, Bool, List, None, Option, Some, [], false, if◌then◌else◌, map, slice_get, true, ℕ, ◌∷◌, ◌≡◌}
 use Rattle.cast_rules.specs.Run.{IsStep, step_in}

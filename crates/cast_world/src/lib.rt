@@ -1,23 +1,34 @@
 //! Daemons of one domain at several sites and the network between them: laws of every list of
 //! steps.
 //!
-//! A step is an event at a site, or a frame that was sent arrives at its site. Frames may be
-//! lost, repeated, delayed and reordered. Groups may overlap, joins be in progress, sites be
-//! suspected wrongly, and members be put out.
+//! A step is an event at a site, or a frame that was sent arrives at its site. Frames may be lost,
+//! repeated, delayed and reordered. Groups may overlap, joins be in progress, sites be suspected
+//! wrongly, and members be put out.
 //!
-//! Promised of every list of steps:
+//! # What is proved
 //!
-//! - No process delivers a message before one that happened before it and is due to it
-//!   (`laws::causal_delivery`).
-//! - Processes that pass from one view to the next delivered the same messages of the first, and
-//!   its ABCASTs in the same order. Until an Install of the next view arrives, one of two members
-//!   has delivered a prefix of the ABCASTs that the other has (`laws::views_agree`).
-//!
-//! A `World` runs daemons by a list of steps, and the laws hold of the deliveries that it reports
-//! (`laws::answers_agree`).
-//!
-//! Promised of every list of events of one domain, with any frames in the name of any site: it
-//! keeps few messages (`laws::what_is_kept_is_bounded`).
+//! - `laws::causal_delivery` (`acts`, `listed`): [promise
+//!   4](../../../docs/PROOFS.md#4-isolation-and-causal-delivery-the-headline). `laws::views_agree`:
+//!   [promise 5](../../../docs/PROOFS.md#5-views-agree). What daemons tell obeys both:
+//!   `World::{new, run, delivered}`, `laws::answers_agree`.
+//! - What a process delivered and what its program is pushed agree with its acts:
+//!   `laws::lists_are_acts` (`delivered`, `abcasts`); `laws::pushes_are_acts`.
+//! - A stamp covers all that an earlier one covers, and that one does not cover the later message:
+//!   `laws::stamps_rise`. View numbers in times and stamps were decided at the home before:
+//!   `laws::views_are_decided`. A joining process enters a view above the one that it had heard of:
+//!   `laws::joins_go_forward`.
+//! - No process sends two messages of one name; what is delivered was sent by its sender:
+//!   `laws::{names_are_unique, deliveries_were_sent}`.
+//! - Whoever forges frames, a domain keeps few messages: `laws::what_is_kept_is_bounded`. After any
+//!   events, with any frames in the name of any site, those that no waiting Install covers are at
+//!   most twice the greatest `held` that was in force. All are of the views that their groups have,
+//!   and an order has at most 4,000,000,000 places. Where the parts of frames are as their types
+//!   say, no message is kept twice, and all that are kept are at most twice that `held` and the
+//!   messages that the cuts of waiting Installs name. Only the type of its counts bounds how many a
+//!   forged cut names.
+//! - A process that passes to the next view delivered exactly the cut: `laws::passes_with_cut`. The
+//!   places before those that an Install lists are known alike at each site with a member:
+//!   `laws::starts_are_known`.
 #![tactic(auto)]
 
 mod daemon;

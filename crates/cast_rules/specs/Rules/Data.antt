@@ -1,4 +1,4 @@
--- The rules of messages that come from other sites.
+-- The rules of messages from other sites: which are well formed and used; Acks; Out for old views.
 use Rattle.std.specs.Prelude.{Bool, true, List, Some, None, not, ◌&&◌, ◌==◌, nat_lt, if◌then◌else◌}
 use Rattle.std.specs.List.{list_all, list_any}
 use Rattle.cast_types.specs.declared.names.SiteNo.{SiteNo}

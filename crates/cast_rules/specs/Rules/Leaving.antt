@@ -1,4 +1,5 @@
--- How processes leave their groups, and how sessions end: a program is too slow to take what it is told, says what is no frame, or is gone.
+-- How processes leave their groups, and how sessions end.
+-- A program is too slow to take what it is told, says what is no frame, or is gone.
 use Rattle.std.specs.Prelude.{ℕ, ◌==◌, if◌then◌else◌, Option, Some, None}
 use Rattle.std.specs.List.{fold}
 use Rattle.cast_types.specs.declared.names.GroupNo.{GroupNo}

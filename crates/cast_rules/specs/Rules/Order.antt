@@ -1,4 +1,5 @@
--- The rules of set-order messages: who holds the token of a group's view gives ABCASTs their places.
+-- The rules of set-order messages: who holds the token gives ABCASTs their places.
+-- It is the token of a group's view.
 use Rattle.std.specs.Prelude.{ℕ, Bool, not, ◌&&◌, if◌then◌else◌}
 use Rattle.std.specs.List.{fold}
 use Rattle.std.specs.Option.{option_map_or}

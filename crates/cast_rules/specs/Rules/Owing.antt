@@ -1,4 +1,5 @@
--- The rules of frames that are owed: a site sends them at once, and again whenever they are due, until they are answered.
+-- The rules of frames that are owed.
+-- A site sends them at once, and again whenever they are due, until they are answered.
 use Rattle.std.specs.Prelude.{ℕ, if◌then◌else◌, Option, Some, None}
 use Rattle.std.specs.List.{fold}
 use Rattle.std.specs.Option.{option_map, option_map_or, option_and_then}

@@ -1,5 +1,5 @@
--- The rules of what a domain does of itself after each event, until nothing changes: its processes deliver, holders set orders, Installs are
--- completed, and the home decides views.
+-- The rules of what a domain does of itself after each event, until nothing changes.
+-- Its processes deliver, holders set orders, Installs are completed, and the home decides views.
 use Rattle.std.specs.Prelude.{ℕ, Option, Some, None}
 use Rattle.std.specs.List.{fold}
 use Rattle.cast_types.specs.declared.names.Uid.{Uid}

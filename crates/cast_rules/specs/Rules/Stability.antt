@@ -1,4 +1,5 @@
--- The rules of stability: a site learns by acknowledgements which messages of its own processes are stable, and tells the other sites.
+-- The rules of stability: what Acks and Stables do.
+-- A site learns by acknowledgements which messages of its own processes are stable, and tells the other sites.
 use Rattle.std.specs.Prelude.{ℕ, Bool, ◌&&◌, nat_lt, nat_le, if◌then◌else◌}
 use Rattle.std.specs.List.{fold}
 use Rattle.cast_types.specs.declared.names.SiteNo.{SiteNo}

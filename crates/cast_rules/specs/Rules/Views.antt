@@ -1,4 +1,5 @@
--- The rules of views: a site installs what its home decided, and tells the home; and it is told where it has no part in a view any more.
+-- The rules of views: a site installs what its home decided, and tells the home.
+-- And it is told where it has no part in a view any more.
 use Rattle.std.specs.Prelude.{ℕ, Bool, true, false, if◌then◌else◌, [], None}
 use Rattle.std.specs.List.{fold}
 use Rattle.cast_types.specs.declared.names.SiteNo.{SiteNo}
