@@ -1,8 +1,8 @@
 -- What writes in a row append.
-use Rattle.std.proofs.Common.{◌≡◌, ℕ, ◌-◌, List, [], ◌∷◌, ◌++◌, length, take, drop, Option, Some, None, Result, Ok, Err, refl, sym, ap, ◌∙◌, append_assoc, arith}
-use Rattle.std.proofs.lemmas.List.{append-nil, take-append-drop, take_rest}
+use Rattle.std.proofs.Common.{◌≡◌, ℕ, ◌-◌, List, ◌++◌, length, take, drop, Option, Some, None, Result, Ok, Err, sym, ap, ◌∙◌, append_assoc}
+use Rattle.std.proofs.lemmas.List.{take-append-drop, take_rest}
 use Rattle.std.specs.Result.{IsErr}
-use Rattle.std.specs.Io.KnownBytes.{Appends, Keeps}
+use Rattle.std.specs.Io.KnownBytes.{Appends}
 use Rattle.cast_device.specs.Writing.{WrotePart, Writes}
 
 pub appends_more : (a b c : Option (List ℕ)) (xs ys : List ℕ) → Appends a b xs → Appends b c ys → Appends a c (xs ++ ys)
@@ -11,31 +11,11 @@ appends_more (Some x) None c xs ys p q = absurd p
 appends_more (Some x) (Some y) None xs ys p q = absurd q
 appends_more (Some x) (Some y) (Some z) xs ys p q = q ∙ (ap (λ (l : List ℕ). l ++ ys) p ∙ append_assoc x xs ys)
 
-pub appends_nothing : (a : Option (List ℕ)) → Appends a a []
-appends_nothing None = tt
-appends_nothing (Some x) = sym (append-nil x)
-
--- known bytes that stay have nothing more
-pub keeps_is : (a b : Option (List ℕ)) → Keeps a b → Appends a b []
-keeps_is None b p = tt
-keeps_is (Some x) None p = absurd p
-keeps_is (Some x) (Some y) p = p ∙ sym (append-nil x)
-
 -- the writer has the bytes up to the rest more
 pub record Wrote (old new : Option (List ℕ)) (bytes rest : List ℕ) : Type 0 where
   pub out : List ℕ
   pub parts : bytes ≡ out ++ rest
   pub appended : Appends old new out
-
-pub wrote_none : (a : Option (List ℕ)) (bytes : List ℕ) → Wrote a a bytes bytes
-wrote_none a bytes = record { out = []; parts = refl; appended = appends_nothing a }
-
-pub wrote_part : {a b : Option (List ℕ)} {bytes rest : List ℕ} → Wrote a b bytes rest → WrotePart a b bytes
-wrote_part {rest = rest} w = record { out = w.out; front = (rest, w.parts); appended = w.appended }
-
-pub wrote_all : {a b : Option (List ℕ)} {bytes : List ℕ} (rest : List ℕ) → Wrote a b bytes rest → length rest ≡ 0 → Appends a b bytes
-wrote_all [] w e = rw (w.parts, append-nil) w.appended
-wrote_all (x ∷ rest) w e = absurd (omega arith)
 
 module _ {a b c : Option (List ℕ)} {bytes : List ℕ} where
   -- n bytes more, where the rest is the slice behind them
@@ -48,10 +28,6 @@ module _ {a b c : Option (List ℕ)} {bytes : List ℕ} where
         parts = w.parts ∙ (ap (λ (l : List ℕ). w.out ++ l) (sym joined) ∙ sym (append_assoc w.out (take n rest) (drop n rest)));
         appended = appends_more a b c w.out (take n rest) w.appended more;
       })
-
-  pub wrote_kept : {rest : List ℕ} → Wrote a b bytes rest → Keeps b c → Wrote a c bytes rest
-  wrote_kept w keeps =
-      record { out = w.out ++ []; parts = rw append-nil w.parts; appended = appends_more a b c w.out [] w.appended (keeps_is b c keeps) }
 
   -- a piece is written whole
   pub wrote_piece : {rest : List ℕ} (piece : List ℕ) → Wrote a b bytes (piece ++ rest) → Appends b c piece → Wrote a c bytes rest

@@ -19,10 +19,6 @@ use Rattle.cast_index.specs.declared.entry.Entry.{Entry}
 use Rattle.cast_index.specs.Index.{entry_cmp, is_pair, has, is_behind, lowest_past}
 use Rattle.cast_index.specs.contracts.entry.EntryOrd.TheImpl as entry
 
--- the derived order is that of the definitions
-pub entry_order : (a b : Entry) → entry.cmp-value.it a b ≡ entry_cmp a b
-entry_order a b = refl
-
 pub entry_total : IsTotalOrder entry_cmp
 entry_total = then_total (on_total (λ e. e.id) uid_total) (on_total (λ e. e.number) nat_cmp_total)
 

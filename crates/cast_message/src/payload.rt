@@ -45,15 +45,6 @@ impl Payload {
         self.bytes.as_slice()
     }
 
-    /// The bytes. Takes no memory.
-    pub fn into_bytes(self) -> Bytes
-        ensures value { result ≡ self }
-        ensures bound { length self ≤ 16384 }
-    {
-        let Payload { bytes } = self;
-        bytes
-    }
-
     /// How many bytes there are, at most 16,384.
     pub fn len(&self) -> usize
         ensures value { result ≡ length self.now }

@@ -1,11 +1,8 @@
 -- Lists of entries: what a test finds and keeps, and what is among them.
-use Rattle.std.proofs.Common.{◌≡◌, ℕ, zero, suc, ◌+◌, ◌-◌, ◌≤◌, Bool, true, false, cond, not, List, [], ◌∷◌, ◌++◌, length, take, drop, Option, Some, None, refl, sym, ap, subst, ◌∙◌, inl, inr, arith}
+use Rattle.std.proofs.Common.{◌≡◌, ℕ, zero, suc, ◌+◌, ◌-◌, ◌≤◌, Bool, true, false, cond, not, List, [], ◌∷◌, ◌++◌, length, take, drop, Option, Some, None, refl, ap, subst, ◌∙◌, inl, inr, arith}
 use Rattle.std.specs.List.{find, filter, list_all}
 use Rattle.std.specs.Option.{option_or}
-use Rattle.std.proofs.lemmas.Bool.{cases_Bool, false≢true, false_from_ne_true, and_parts, and_from, or_cases, or_left, or_right}
-use Rattle.cast_types.specs.Names.{Entry, entry_eq}
-use Rattle.cast_types.specs.Sets.{is_among}
-use Rattle.cast_types.proofs.Orders.{same_entry, entry_itself}
+use Rattle.std.proofs.lemmas.Bool.{cases_Bool, and_parts, and_from}
 
 pub or_none : {A : Type 0} (o : Option A) → option_or o None ≡ o
 or_none None = refl
@@ -14,56 +11,6 @@ or_none (Some x) = refl
 pub or_again : {A : Type 0} (a b c : Option A) → option_or (option_or a b) c ≡ option_or a (option_or b c)
 or_again None b c = refl
 or_again (Some x) b c = refl
-
--- an entry and one of a list that lacks it differ
-pub differ : (x y : Entry) (xs : List Entry) → is_among entry_eq x xs ≡ false → is_among entry_eq y xs ≡ true → entry_eq y x ≡ false
-differ x y xs lacks has = false_from_ne_true (entry_eq y x) (λ same. false≢true (sym lacks ∙ sym (ap (λ z. is_among entry_eq z xs) (same_entry y x same)) ∙ has))
-
-pub differ_back : (x y : Entry) → entry_eq x y ≡ false → entry_eq y x ≡ false
-differ_back x y other = false_from_ne_true (entry_eq y x) (λ same. false≢true (sym other ∙ ap (λ z. entry_eq x z) (same_entry y x same) ∙ entry_itself x))
-
-pub among_first : (e : Entry) (xs : List Entry) → is_among entry_eq e (e ∷ xs) ≡ true
-among_first e xs = or_left (entry_eq e e) (is_among entry_eq e xs) (entry_itself e)
-
--- what a test keeps is of the list, and passes
-pub kept_among : (p : Entry → Bool) (xs : List Entry) (e : Entry) → is_among entry_eq e (filter p xs) ≡ true → (is_among entry_eq e xs ≡ true) × (p e ≡ true)
-kept_among p [] e has = absurd (false≢true has)
-kept_among p (x ∷ xs) e has = elim (cases_Bool (p x)) [
-  | inl stays ↦ elim (or_cases (entry_eq e x) (is_among entry_eq e (filter p xs)) (subst (λ b. is_among entry_eq e (cond b (x ∷ filter p xs) (filter p xs)) ≡ true) stays has)) [
-    | inl here ↦ (or_left (entry_eq e x) (is_among entry_eq e xs) here, ap p (same_entry e x here) ∙ stays)
-    | inr later ↦ let rest = kept_among p xs e later in (or_right (entry_eq e x) (is_among entry_eq e xs) rest.0, rest.1)
-  ]
-  | inr goes ↦
-      let rest = kept_among p xs e (subst (λ b. is_among entry_eq e (cond b (x ∷ filter p xs) (filter p xs)) ≡ true) goes has) in
-      (or_right (entry_eq e x) (is_among entry_eq e xs) rest.0, rest.1)
-]
-
--- the first of a list are of it
-pub taken_among : (k : ℕ) (xs : List Entry) (e : Entry) → is_among entry_eq e (take k xs) ≡ true → is_among entry_eq e xs ≡ true
-taken_among zero xs e has = absurd (false≢true has)
-taken_among (suc k) [] e has = absurd (false≢true has)
-taken_among (suc k) (x ∷ xs) e has = elim (or_cases (entry_eq e x) (is_among entry_eq e (take k xs)) has) [
-  | inl here ↦ or_left (entry_eq e x) (is_among entry_eq e xs) here
-  | inr later ↦ or_right (entry_eq e x) (is_among entry_eq e xs) (taken_among k xs e later)
-]
-
--- tests that agree on a list keep the same of it
-pub filter_alike : (s t : Entry → Bool) (xs : List Entry) → ((e : Entry) → is_among entry_eq e xs ≡ true → s e ≡ t e) → filter s xs ≡ filter t xs
-filter_alike s t [] same = refl
-filter_alike s t (x ∷ xs) same =
-    let here = same x (among_first x xs) in
-    let later = filter_alike s t xs (λ e has. same e (or_right (entry_eq e x) (is_among entry_eq e xs) has)) in
-    λ i. cond (here i) (x ∷ later i) (later i)
-
--- the stronger of two tests keeps the same of what the weaker keeps
-pub filter_within : {A : Type 0} (s t : A → Bool) → ((x : A) → s x ≡ true → t x ≡ true) → (xs : List A) → filter s (filter t xs) ≡ filter s xs
-filter_within s t follows [] = refl
-filter_within s t follows (x ∷ xs) = elim (cases_Bool (t x)) [
-  | inl stays ↦ rw stays (ap (λ rest. cond (s x) (x ∷ rest) rest) (filter_within s t follows xs))
-  | inr goes ↦
-      let out : s x ≡ false = false_from_ne_true (s x) (λ h. false≢true (sym goes ∙ follows x h)) in
-      rw (goes, out) (filter_within s t follows xs)
-]
 
 -- a search is not changed where only what it passes over is taken out
 pub find_kept : {A : Type 0} (t keep : A → Bool) → ((x : A) → keep x ≡ false → t x ≡ false) → (xs : List A) → find t (filter keep xs) ≡ find t xs

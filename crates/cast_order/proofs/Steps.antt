@@ -2,13 +2,13 @@
 use Rattle.std.proofs.Common.{◌≡◌, ℕ, suc, ◌+◌, ◌-◌, ◌<◌, min, true, ◌&&◌, List, [], ◌∷◌, ◌++◌, length, drop, append_assoc, Option, Some, None, sym, ap, ◌∙◌, arith}
 use Rattle.std.specs.Prelude.{nat_le}
 use Rattle.std.proofs.lemmas.Bool.{and_from, le-leb}
-use Rattle.std.proofs.lemmas.List.{append-nil, length-take, length-drop}
+use Rattle.std.proofs.lemmas.List.{append-nil, length-take}
 use Rattle.cast_types.specs.declared.limits.TheConstants.{MAX_PLACED, MAX_POSITION}
 use Rattle.cast_types.specs.declared.names.Proc.{Proc}
 use Rattle.cast_types.specs.Names.{Entry}
 use Rattle.cast_message.specs.Placement.{is_placement}
 use Rattle.cast_order.specs.Order.{Facts, id_at, order_from, ids_to_list}
-use Rattle.cast_order.specs.Log.{Log, length_of, place_of, next_in, waiting_of, tail_start_in, tail_ids_in}
+use Rattle.cast_order.specs.Log.{Log, length_of, waiting_of, tail_start_in, tail_ids_in}
 use Rattle.cast_order.proofs.Lists.{drop_on}
 use Rattle.cast_order.proofs.Told.{order_next, order_ends}
 
@@ -41,9 +41,3 @@ may_set waiting known first ids some room at are =
     and_from (nat_le 1 first && nat_le first MAX_POSITION) (nat_le 1 (length ids) && nat_le (length ids) MAX_PLACED)
     (and_from (nat_le 1 first) (nat_le first MAX_POSITION) (le-leb 1 first (omega arith)) (le-leb first MAX_POSITION (omega arith)))
     (and_from (nat_le 1 (length ids)) (nat_le (length ids) MAX_PLACED) (le-leb 1 (length ids) (omega arith)) (le-leb (length ids) MAX_PLACED (omega arith)))
-
--- how many ids a process has not passed
-pub left_in : (l : Log) (p : Proc) → length_of l - place_of l p ≡ length (next_in l p)
-left_in l p =
-    let rest = length-drop (place_of l p - l.base) l.window in
-    omega (arith, rest)

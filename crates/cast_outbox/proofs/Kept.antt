@@ -1,7 +1,6 @@
 -- What the slab and the map of names are, and what is seen of them, after an outbox is changed, added or removed.
 use Rattle.std.proofs.Common.{◌≡◌, ◌≢◌, ℕ, zero, suc, ◌+◌, Bool, true, false, not, cond, List, [], ◌∷◌, map, filter, get_or, Option, Some, None, refl, sym, ap, subst, ◌∙◌, inl, inr, true≢false}
 use Rattle.std.specs.Prelude.{◌==◌}
-use Rattle.std.specs.List.{AllZip}
 use Rattle.std.specs.Borrow.{MutBor}
 use Rattle.std.proofs.lemmas.Bool.{cases_Bool, eqb-true, eq-eqb, false_from_ne_true}
 use Rattle.std.specs.Option.{option_map_or}
@@ -9,7 +8,7 @@ use Rattle.std.specs.Prelude.{Result, Ok, Err, OnErr}
 use Rattle.std.specs.Map.{lookup}
 use Rattle.cast_types.specs.declared.names.DomainNo.{DomainNo}
 use Rattle.cast_message.specs.declared.client.Push.{Push}
-use Rattle.slab.specs.Slab.{Slab, Updates, IsSlotClone, CalledAt, RetainsFrom, get as slot_at}
+use Rattle.slab.specs.Slab.{Slab, Updates, CalledAt, RetainsFrom, get as slot_at}
 use Rattle.indexmap.specs.IndexMap.{IndexMap, UpdatesBy}
 use Rattle.cast_outbox.specs.Pending.{Pending}
 use Rattle.cast_outbox.specs.Outboxes.{outboxes_in, changed_at, entries_in, key_in, slot_named, name_eq, name_of, pending, with_entries, only, Named, IsNamed, Added}
@@ -84,20 +83,7 @@ pub on_err_both : {X E P Q R : Type 0} (r : Result X E) → (P → Q → R) → 
 on_err_both (Ok x) f p q = tt
 on_err_both (Err y) f p q = f p q
 
--- Copies and what is left of them
-
--- items that are each equal
-pub all_same : {X : Type 0} (E : X → X → Type 0) → ((x y : X) → E x y → y ≡ x) → (xs ys : List X) → AllZip E xs ys → ys ≡ xs
-all_same E same [] [] all = refl
-all_same E same [] (y ∷ ys) all = absurd all
-all_same E same (x ∷ xs) [] all = absurd all
-all_same E same (x ∷ xs) (y ∷ ys) all = λ i. same x y all.0 i ∷ all_same E same xs ys all.1 i
-
--- slots of a slab that is a clone
-pub slot_same : (a b : Option Pending) → IsSlotClone (λ x y. y ≡ x) a b → b ≡ a
-slot_same None b is = is
-slot_same (Some x) (Some y) is = ap Some is
-slot_same (Some x) None is = absurd is
+-- What is left of slots
 
 -- what a slab's `retain` leaves, where the closure keeps no state and leaves each value as it was
 module _ {T F : Type 0} (step : F → ℕ → MutBor T → Bool → MutBor T → F → Type 0) (test : T → Bool) (f : F)

@@ -70,10 +70,6 @@ abbrev pub past_in : Message → GroupNo → List Uid
 past_in m h =
     filter (λ u. not (uid_eq m.id u)) (map (named h (view_of m.times h)) (covered (clock_of m.times h).counts))
 
--- the causal past: all ids that a message's time covers, but for its own
-abbrev pub past : Message → List Uid
-past m = flat_map (λ c. past_in m c.0) m.times
-
 abbrev pub has_delivered : Process → Uid → Bool
 has_delivered p u = is_among uid_eq u p.delivered
 

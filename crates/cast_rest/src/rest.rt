@@ -146,7 +146,8 @@ fn deliver_first(domain: &mut Domain, serial: u32, lent: &mut Lent<'_>) -> Resul
 }
 
 // Lets go of what is free after a delivery. Where nothing was free before it, those are messages of one source, but where the
-// outbox was full: the session was closed then, and its process left all groups.
+// outbox was full: the session may have been closed then, and its process have left all groups. Nothing is pushed of a set-order
+// message.
 fn let_go_delivered(domain: &mut Domain, full: bool, source: Source, lent: &mut Lent<'_>)
     ensures stays { KeepsBeside domain.old lent.old domain.new lent.new }
     ensures made { (full ≡ false → AreNotFreeBut source (records_in domain.old lent.old)) → Makes (let_go records resting_records) domain.old lent.old domain.new lent.new }

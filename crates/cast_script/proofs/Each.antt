@@ -13,11 +13,6 @@ regroup : {A E : Type 0} (front : List A) (y : A) (read : Result (List A) E) →
 regroup front y (Ok ys) = ap (λ zs. Ok zs) (sym (append_assoc front (y ∷ []) ys))
 regroup front y (Err e) = refl
 
--- nothing was read before
-pub none_front : {A E : Type 0} (read : Result (List A) E) → with_front [] read ≡ read
-none_front (Ok xs) = refl
-none_front (Err e) = refl
-
 pub goes_on : {X A B E : Type 0} (f : X → A) (read : A → Result B E) (front : List B) (xs : List X) (i : ℕ) (d : X) (y : B) (total : Result (List B) E) → i < length xs → read (f (get_or xs i d)) ≡ Ok y
     → with_front front (each read (map f (drop i xs))) ≡ total → with_front (front ++ y ∷ []) (each read (map f (drop (i + 1) xs))) ≡ total
 unfolding each

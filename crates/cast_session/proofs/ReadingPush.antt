@@ -18,7 +18,7 @@ use Rattle.cast_session.specs.declared.client.PushFault.TheVariants as faults
 use Rattle.cast_session.specs.Known.{Between}
 use Rattle.cast_session.specs.Turns.{Turned}
 use Rattle.cast_session.specs.Pushes.{push_at, push_or_fault, IsCut, ReadsPush}
-use Rattle.cast_session.proofs.Pumping.{consumes_more, consumes_nothing}
+use Rattle.cast_session.proofs.Pumping.{consumes_more}
 
 -- ---- by what stands at the front
 
@@ -61,16 +61,10 @@ short_at (b ∷ bytes) n e some = at_front (b ∷ bytes) (Ok (read.More n)) e
 pub record Awaiting (before now : Option (List ℕ)) (kept : List ℕ) : Type 0 where
   pub consumed : Consumes before now kept
 
-pub begun : (a : Option (List ℕ)) (kept : List ℕ) → kept ≡ [] → Awaiting a a kept
-begun a kept none = record { consumed = rw none (consumes_nothing a) }
-
 pub ends_at_last_turn : {a b : Option (List ℕ)} {old : List ℕ} {n : ℕ} → Awaiting a b old → client_of old ≡ Ok (read.More n) → Between a b (ReadsPush (Err faults.ReadFault))
 ends_at_last_turn {a} {b} {old} {n} p e = from_read a b old (ReadsPush (Err faults.ReadFault)) p.consumed (λ left. (old, refl, (n, e)))
 
 module _ {a b c : Option (List ℕ)} {old kept : List ℕ} where
-  pub went_on : Awaiting a b old → Turned b c old kept turn.Part → Awaiting a c kept
-  went_on p turned = record { consumed = rw turned.is (consumes_more a b c old turned.came p.consumed turned.consumed) }
-
   pub ends_at_push : {push : Push} → Awaiting a b old → Turned b c old kept (turn.Frame (client.Push push)) → Between a c (ReadsPush (Ok (Some push)))
   ends_at_push {push} p turned =
       let all = old ++ turned.came in

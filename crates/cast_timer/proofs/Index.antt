@@ -99,13 +99,6 @@ kept_alike keep other (p ∷ ps) alike =
     later true b h = refl
     later false b h = h
 
-all_stay : (os : List Owed) → filter (λ _. true) os ≡ os
-all_stay [] = refl
-all_stay (o ∷ os) = ap (λ rest. o ∷ rest) (all_stay os)
-
-pub kept_all : (keep : Owed → Bool) (os : List Owed) → ((o : Owed) → has os o ≡ true → keep o ≡ true) → filter keep os ≡ os
-kept_all keep os stay = kept_alike keep (λ _. true) os stay ∙ all_stay os
-
 -- What keeps a map and the frames together
 
 differs : (a b : ℕ) → a ≡ b → (b == a) ≡ true
@@ -218,17 +211,6 @@ index_renewed due os index x next is =
 pub moved : (key : OwedKey) (w : Option ℕ) (old new : List (OwedKey × ℕ)) → ((q : OwedKey) → lookup (is_at (keys.cmp-value.it q)) new ≡ cond (is_at (keys.cmp-value.it key) q) w (lookup (is_at (keys.cmp-value.it q)) old)) → (q : OwedKey) → due_of new q ≡ cond (key_eq key q) w (due_of old q)
 moved key w old new is q =
     sym (looked_up q new) ∙ is q ∙ (λ i. cond (key_tests key q i) w (looked_up q old i))
-
--- a key that is not owed is not paid
-pub paid_unowed : (key : OwedKey) (os : List Owed) → is_owed os key ≡ false → paid (key_eq key) os ≡ os
-paid_unowed key [] none = refl
-paid_unowed key (o ∷ os) none = elim (cases_Bool (key_eq o.key key)) [
-  | inl this ↦ absurd (false≢true (sym none ∙ ap (λ b. b || is_owed os key) this))
-  | inr other ↦
-      let apart : key_eq key o.key ≡ false = false_from_ne_true (key_eq key o.key) (λ h. false≢true (sym other ∙ ap (key_eq o.key) (same_key key o.key h) ∙ key_itself o.key)) in
-      ap (λ b. cond (not b) (o ∷ paid (key_eq key) os) (paid (key_eq key) os)) apart
-      ∙ ap (λ rest. o ∷ rest) (paid_unowed key os (sym (ap (λ b. b || is_owed os key) other) ∙ none))
-]
 
 -- What a map has where keys that pass a test are taken out
 pub looked_kept : (test : OwedKey → Bool) (dues : List (OwedKey × ℕ)) (q : OwedKey) → due_of (filter (λ e. not (test e.0)) dues) q ≡ cond (test q) None (due_of dues q)

@@ -249,9 +249,6 @@ pub key_moved : (k : OwedKey) (b : Bool) (old new : List OwedKey) → ((j : Owed
 key_moved k b old new is j = sym (contained j new) ∙ is j ∙ (λ i. cond (key_tests k j i) b (contained j old i))
 
 module _ (p : Moment) (old new : List Row) (s : Option (BTreeSet OwedKey)) (moved : (q : Moment) → row_at new q ≡ cond (moment_eq p q) s (row_at old q)) where
-  keys_in : Option (BTreeSet OwedKey) → List OwedKey
-  keys_in o = option_map_or (λ s. s.keys) o []
-
   pub shaped_moved : IsStrictlySortedBy moments.cmp-value.it (keys_of new) → is_rising key_cmp (option_map_or (λ s. s.keys) s []) ≡ true → IsShaped old → IsShaped new
   shaped_moved sorted rising shaped = record {
     moments = moments_rise new sorted;

@@ -121,9 +121,6 @@ module _ (rows : List Row) (d : DomainNo) (shaped : IsShaped rows) where
       not_free o there (free o.due (leb-true from o.due parts.0) (leb-true o.due now parts.1))))
 
   module _ (from now t : ℕ) (next : IsNext rows d from now t) where
-    later : List Owed
-    later = frames_between (t + 1) now (owed_in rows d)
-
     before_later : (k : OwedKey) (os : List Owed) → before (record { due = t; key = k }) (frames_between (t + 1) now os) ≡ true
     before_later k [] = refl
     before_later k (o ∷ os) = elim (cases_Bool (is_between (t + 1) now o)) [

@@ -114,9 +114,6 @@ module _ {K : Type 0} {R : K → K → Ordering} where
   pub tie_other : CmpEqualImpliesEq R → (x y : K) → (x ≡ y → ⊥) → eq_by_cmp R x y ≡ false
   tie_other exact x y differ = false_from_ne_true (eq_by_cmp R x y) (λ e. differ (tie_same exact x y e))
 
--- names are one or differ
+-- groups are one or differ
 pub group_cases : (g h : GroupNo) → (g ≡ h) ⊎ (g ≡ h → ⊥)
 group_cases g h = elim (cases_Bool (eq_by_cmp group_cmp g h)) [ inl same ↦ inl (tie_same group_exact g h same) | inr other ↦ inr (λ e. false≢true (sym other ∙ tie_self group_total g h e)) ]
-
-pub proc_cases : (p q : Proc) → (p ≡ q) ⊎ (p ≡ q → ⊥)
-proc_cases p q = elim (cases_Bool (eq_by_cmp proc_cmp p q)) [ inl same ↦ inl (tie_same proc_exact p q same) | inr other ↦ inr (λ e. false≢true (sym other ∙ tie_self proc_total p q e)) ]

@@ -50,11 +50,6 @@ entry_eq a b = proc_eq a.0 b.0 && (a.1 == b.1)
 abbrev pub uid_eq : Uid → Uid → Bool
 uid_eq a b = group_eq a.group b.group && ((a.view == b.view) && (proc_eq a.proc b.proc && (a.count == b.count)))
 
-abbrev pub is_causal : Kind → Bool
-is_causal Causal = true
-is_causal Atomic = false
-is_causal Order = false
-
 abbrev pub is_atomic : Kind → Bool
 is_atomic Causal = false
 is_atomic Atomic = true
