@@ -14,7 +14,7 @@ use Rattle.cast_types.specs.declared.clock.Clock.{Clock}
 use Rattle.cast_types.specs.Names.{proc_cmp, group_cmp}
 use Rattle.cast_types.specs.Counts.{CountList, count_of, is_counts}
 use Rattle.cast_types.specs.Stamps.{ClockList}
-use Rattle.cast_clock.specs.Times.{first_clock, clock_of, view_of, count_in, bumped, join}
+use Rattle.cast_clock.specs.Times.{first_clock, clock_of, view_of, count_in, with_bump, join}
 use Rattle.cast_clock.specs.Laws.{BumpRaises, BumpLeavesCounts, BumpLeavesViews, EnterBegins, EnterLeaves, JoinIsTime, BumpIsTime, EnterIsTime}
 use Rattle.cast_clock.proofs.Entries.{equal_is, as_T, from_T, and_true, each_found}
 use Rattle.cast_clock.proofs.Joins.{clock_of-join}
@@ -54,13 +54,13 @@ bump_raises t g p = ap (λ c. count_of c.counts p) (clock_put t g _) ∙ count_p
 pub bump_leaves_counts : BumpLeavesCounts
 bump_leaves_counts t g h p q (inl other) = ap (λ c. count_of c.counts q) (clock_put_other t g h _ other)
 bump_leaves_counts t g h p q (inr other) = elim (group_cases h g) [
-  | inl same ↦ subst (λ k. count_in (bumped t g p) k q ≡ count_in t k q) (sym same) (ap (λ c. count_of c.counts q) (clock_put t g _) ∙ count_put_other (clock_of t g).counts p q _ other)
+  | inl same ↦ subst (λ k. count_in (with_bump t g p) k q ≡ count_in t k q) (sym same) (ap (λ c. count_of c.counts q) (clock_put t g _) ∙ count_put_other (clock_of t g).counts p q _ other)
   | inr differ ↦ ap (λ c. count_of c.counts q) (clock_put_other t g h _ differ)
 ]
 
 pub bump_leaves_views : BumpLeavesViews
 bump_leaves_views t g h p = elim (group_cases h g) [
-  | inl same ↦ subst (λ k. view_of (bumped t g p) k ≡ view_of t k) (sym same) (ap (λ c. c.view) (clock_put t g _))
+  | inl same ↦ subst (λ k. view_of (with_bump t g p) k ≡ view_of t k) (sym same) (ap (λ c. c.view) (clock_put t g _))
   | inr differ ↦ ap (λ c. c.view) (clock_put_other t g h _ differ)
 ]
 

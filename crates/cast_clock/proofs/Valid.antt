@@ -12,7 +12,7 @@ use Rattle.cast_types.specs.Names.{proc_cmp, group_cmp}
 use Rattle.cast_types.specs.Sets.{at_order}
 use Rattle.cast_types.specs.Counts.{CountList, count_of, is_counts}
 use Rattle.cast_types.specs.Stamps.{ClockList, is_stamp}
-use Rattle.cast_clock.specs.Times.{first_clock, clock_of, count_in, join_counts, join_clocks, clock_has_room, has_room, is_time, bumped}
+use Rattle.cast_clock.specs.Times.{first_clock, clock_of, count_in, join_counts, join_clocks, clock_has_room, has_room, is_time, with_bump}
 use Rattle.cast_clock.proofs.Entries.{as_T, from_T, and_both, and_true, list_all-put, found_or}
 use Rattle.cast_types.proofs.Orders.{proc_total, group_total, group_exact}
 
@@ -99,7 +99,7 @@ roomy (e ∷ t) h =
 pub has_room-time : (t : ClockList) → IsTrue (is_time t) → has_room t ≡ true
 has_room-time t h = roomy t (and_both _ _ h).1
 
-pub has_room-bumped : (t : ClockList) (g : GroupNo) (p : Proc) → IsTrue (is_time t) → has_room (bumped t g p) ≡ nat_le (length (put proc_cmp p (count_in t g p + 1) (clock_of t g).counts)) 64
+pub has_room-bumped : (t : ClockList) (g : GroupNo) (p : Proc) → IsTrue (is_time t) → has_room (with_bump t g p) ≡ nat_le (length (put proc_cmp p (count_in t g p + 1) (clock_of t g).counts)) 64
 has_room-bumped t g p h = list_all-put group_cmp (λ c. clock_has_room c) g _ t (has_room-time t h)
 
 -- ---- one count more
@@ -126,7 +126,7 @@ raised t g p k n is counted =
     let here : n ≡ count_in t g p = counted ∙ ap (λ x. count_of x.counts p) is in
     λ i. put proc_cmp p (here i + 1) (is i).counts
 
-pub bumped_fits : (t : ClockList) (g : GroupNo) (p : Proc) (k : Clock) (n : ℕ) (b : Bool) → IsTrue (is_time t) → k ≡ clock_of t g → n ≡ count_of k.counts p → b ≡ nat_le (length (put proc_cmp p (n + 1) k.counts)) 64 → has_room (bumped t g p) ≡ b
+pub bumped_fits : (t : ClockList) (g : GroupNo) (p : Proc) (k : Clock) (n : ℕ) (b : Bool) → IsTrue (is_time t) → k ≡ clock_of t g → n ≡ count_of k.counts p → b ≡ nat_le (length (put proc_cmp p (n + 1) k.counts)) 64 → has_room (with_bump t g p) ≡ b
 bumped_fits t g p k n b h is counted tested =
     has_room-bumped t g p h ∙ sym (tested ∙ ap (λ x. nat_le (length x) 64) (raised t g p k n is counted))
 

@@ -8,7 +8,7 @@ use Rattle.cast_types.specs.declared.names.Proc.{Proc}
 use Rattle.cast_types.specs.Names.{group_cmp, proc_cmp}
 use Rattle.cast_types.specs.Counts.{CountList, count_of}
 use Rattle.cast_types.specs.Stamps.{ClockList}
-use Rattle.cast_clock.specs.Times.{first_clock, clock_of, view_of, count_in, at_most, IsAtMost, join_counts, join_clocks, join, has_room, is_time, bumped, entering}
+use Rattle.cast_clock.specs.Times.{first_clock, clock_of, view_of, count_in, at_most, IsAtMost, join_counts, join_clocks, join, has_room, is_time, with_bump, entering}
 
 -- groups in rising order, and the processes of each
 abbrev pub is_in_order : ClockList → Bool
@@ -48,15 +48,15 @@ JoinIsLeast = (s t u : ClockList) → IsTrue (is_in_order s) → IsTrue (is_in_o
 
 -- one count is one more
 abbrev pub BumpRaises : Type 0
-BumpRaises = (t : ClockList) (g : GroupNo) (p : Proc) → count_in (bumped t g p) g p ≡ count_in t g p + 1
+BumpRaises = (t : ClockList) (g : GroupNo) (p : Proc) → count_in (with_bump t g p) g p ≡ count_in t g p + 1
 
 -- and no other count changes, and no view
 abbrev pub BumpLeavesCounts : Type 0
 BumpLeavesCounts = (t : ClockList) (g h : GroupNo) (p q : Proc) → (h ≢ g) ⊎ (q ≢ p) →
-    count_in (bumped t g p) h q ≡ count_in t h q
+    count_in (with_bump t g p) h q ≡ count_in t h q
 
 abbrev pub BumpLeavesViews : Type 0
-BumpLeavesViews = (t : ClockList) (g h : GroupNo) (p : Proc) → view_of (bumped t g p) h ≡ view_of t h
+BumpLeavesViews = (t : ClockList) (g h : GroupNo) (p : Proc) → view_of (with_bump t g p) h ≡ view_of t h
 
 -- the group is at the start of the view
 abbrev pub EnterBegins : Type 0
@@ -72,8 +72,8 @@ JoinIsTime = (s t : ClockList) → IsTrue (is_time s) → IsTrue (is_time t) →
     IsTrue (is_time (join s t))
 
 abbrev pub BumpIsTime : Type 0
-BumpIsTime = (t : ClockList) (g : GroupNo) (p : Proc) → IsTrue (is_time t) → IsTrue (has_room (bumped t g p)) →
-    IsTrue (is_time (bumped t g p))
+BumpIsTime = (t : ClockList) (g : GroupNo) (p : Proc) → IsTrue (is_time t) → IsTrue (has_room (with_bump t g p)) →
+    IsTrue (is_time (with_bump t g p))
 
 abbrev pub EnterIsTime : Type 0
 EnterIsTime = (t : ClockList) (g : GroupNo) (view : ℕ) → IsTrue (is_time t) → IsTrue (is_time (entering t g view))

@@ -70,8 +70,8 @@ abbrev pub is_time : ClockList → Bool
 is_time t = is_sorted group_cmp t && list_all (λ e. is_counts e.1.counts) t
 
 -- the time with p's count in g raised by one
-abbrev pub bumped : ClockList → GroupNo → Proc → ClockList
-bumped t g p =
+abbrev pub with_bump : ClockList → GroupNo → Proc → ClockList
+with_bump t g p =
     put group_cmp g (record { view = view_of t g; counts = put proc_cmp p (count_in t g p + 1) (clock_of t g).counts }) t
 
 -- the time of one that enters a view

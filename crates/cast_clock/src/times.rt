@@ -4,7 +4,7 @@ ghost use Rattle.std.specs.FinMap.Entries.{find, is_sorted};
 ghost use Rattle.cast_types.specs.declared.names.GroupNo.{GroupNo};
 ghost use Rattle.cast_types.specs.Names.{group_cmp};
 ghost use Rattle.cast_types.specs.Stamps.{is_stamp};
-ghost use Rattle.cast_clock.specs.Times.{no_time, view_of, count_in, bumped, entering, join, has_room, at_most, is_time, clock_of, IsAtMost};
+ghost use Rattle.cast_clock.specs.Times.{no_time, view_of, count_in, with_bump, entering, join, has_room, at_most, is_time, clock_of, IsAtMost};
 
 use crate::clocks::{
     all_at_most, all_fit, all_viewed, clock_among, counts_among, news, put_all, view_among,
@@ -81,9 +81,9 @@ impl Times {
     /// An error changes nothing.
     pub fn bump(&mut self, group: GroupNo, process: Proc) -> Result<(), ClockFault>
         requires { count_in self.old group process < 4294967295 }
-        ensures ok { OnOk result (self.new ≡ bumped self.old group process) }
-        ensures fits { OnOk result (has_room (bumped self.old group process) ≡ true) }
-        ensures too_many { result ≡ Err ClockFault.TooMany → has_room (bumped self.old group process) ≡ false }
+        ensures ok { OnOk result (self.new ≡ with_bump self.old group process) }
+        ensures fits { OnOk result (has_room (with_bump self.old group process) ≡ true) }
+        ensures too_many { result ≡ Err ClockFault.TooMany → has_room (with_bump self.old group process) ≡ false }
         ensures err { OnErr result (self.new ≡ self.old) }
     {
         let mut clock = clock_among(*self.clocks.allocator(), &self.clocks, group)?;

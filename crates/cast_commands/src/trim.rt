@@ -1,5 +1,5 @@
 ghost use Rattle.std.specs.Prelude.{◌≡◌, ◌==◌, ◌<◌, true, None, vec_len, ◌&&◌, ◌||◌, not, Some, position};
-ghost use Rattle.cast_types.specs.Names.{named};
+ghost use Rattle.cast_types.specs.Names.{uid_in};
 ghost use Rattle.cast_domain.specs.Trims.{is_kept_among, count_first, is_counted_of, is_over_of, is_past_of, trim_all_in, trim_in};
 ghost use Rattle.cast_domain.specs.Records.{Keeps, MakesAlone, own_records};
 ghost use Rattle.cast_domain.specs.Calls.{record_at, is_awaited_of, is_received_of};
@@ -90,7 +90,7 @@ fn is_counted(domain: &Domain, group: &GroupRecord, process: Proc, count: u32) -
 
 /// The name of a message of the view of a group.
 pub(crate) fn message_id(group: &GroupRecord, proc: Proc, count: u32) -> Uid
-    ensures { result ≡ named group.now.name group.now.here.number (proc, count) }
+    ensures { result ≡ uid_in group.now.name group.now.here.number (proc, count) }
 {
     Uid {
         group: group.name,

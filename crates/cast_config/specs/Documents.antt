@@ -140,12 +140,12 @@ document_gives own members = do
   tables_give own members site_tables domain_tables
 
 -- the document that a text is
-abbrev pub parsed : Option Members → Result Members ConfigFault
-parsed None = Err (fault field.Text NotToml)
-parsed (Some members) = Ok members
+abbrev pub document_or_fault : Option Members → Result Members ConfigFault
+document_or_fault None = Err (fault field.Text NotToml)
+document_or_fault (Some members) = Ok members
 
 -- what a text gives a site
 unfoldable pub setup_of : SiteNo → List ℕ → Result Setup ConfigFault
 setup_of own text = do
-  members ← parsed (parse_document text)
+  members ← document_or_fault (parse_document text)
   document_gives own members

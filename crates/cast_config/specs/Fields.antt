@@ -20,13 +20,13 @@ abbrev pub at_field : Field → Members → Option Data
 at_field f members = get_member (field_text f) members
 
 -- what is found, where something has to be there
-abbrev pub found : Field → Option Data → Result Data ConfigFault
-found f None = Err (fault f Missing)
-found f (Some d) = Ok d
+abbrev pub value_or_fault : Field → Option Data → Result Data ConfigFault
+value_or_fault f None = Err (fault f Missing)
+value_or_fault f (Some d) = Ok d
 
 -- what stands at a field that a table has to have
 unfoldable pub needed : Field → Members → Result Data ConfigFault
-needed f members = found f (at_field f members)
+needed f members = value_or_fault f (at_field f members)
 
 -- a number within limits
 unfoldable pub within : Field → ℕ → ℕ → ℤ → Result ℕ ConfigFault

@@ -4,7 +4,7 @@ ghost use Rattle.toml.specs.Parse.{parse_document};
 ghost use Rattle.cast_script.specs.WordReadings.{each};
 ghost use Rattle.cast_config.specs.Faults.{Gives, GivesAs};
 ghost use Rattle.cast_config.specs.Fields.{table_of};
-ghost use Rattle.cast_config.specs.Documents.{configs_of, document_gives, given, parsed, setup_of, sockets_of, tables_at, tables_give};
+ghost use Rattle.cast_config.specs.Documents.{configs_of, document_gives, given, document_or_fault, setup_of, sockets_of, tables_at, tables_give};
 
 use crate::domains::{DomainEntry, domains_of, own_domains};
 use crate::fault::{Cause, ConfigFault, Field};
@@ -71,7 +71,7 @@ fn tables_at<'a>(
 
 // The document that a text is.
 fn document(alloc: Global, text: &str) -> Result<Table, ConfigFault>
-    ensures { GivesAs (λ table. table_view table) result (parsed (parse_document text.now)) }
+    ensures { GivesAs (λ table. table_view table) result (document_or_fault (parse_document text.now)) }
 {
     match toml::table_from_str(alloc, text) {
         Ok(table) => Ok(table),

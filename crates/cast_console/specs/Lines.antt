@@ -1,7 +1,7 @@
 -- What a line of the console is, or its first fault.
 use Rattle.std.specs.Prelude.{◌≡◌, ℕ, List, [], ◌∷◌, codes, Option, Some, None, Result, Ok, Err}
 use Rattle.cast_types.specs.declared.names.DomainNo.{DomainNo}
-use Rattle.cast_script.specs.Words.{parted}
+use Rattle.cast_script.specs.Words.{parts_at}
 use Rattle.cast_script.specs.WordReadings.{◌>>=◌, domain_of, named_among, number_within, quota_name_of, site_of}
 use Rattle.cast_script.specs.declared.words.Reason.{Reason}
 use Rattle.cast_script.specs.declared.words.Reason.TheVariants as reason
@@ -33,14 +33,14 @@ IsSeen view (Ok x) read = read ≡ Ok (view x)
 IsSeen view (Err e) read = read ≡ Err e
 
 -- a word, read
-abbrev pub read : {A : Type 0} → Result A Reason → Result A LineFault
-read (Ok x) = Ok x
-read (Err e) = Err (fault_of e)
+abbrev pub or_line_fault : {A : Type 0} → Result A Reason → Result A LineFault
+or_line_fault (Ok x) = Ok x
+or_line_fault (Err e) = Err (fault_of e)
 
 -- the words of a text, parted by one space each, where there is a text
 abbrev pub words_of : Option (List ℕ) → List (List ℕ)
 words_of None = []
-words_of (Some text) = parted 32 text
+words_of (Some text) = parts_at 32 text
 
 -- so many words
 
@@ -77,7 +77,7 @@ abbrev pub heads : List Head
 heads = head.Domains ∷ head.Show ∷ head.Groups ∷ head.Suspect ∷ head.Quota ∷ head.Retire ∷ head.Trace ∷ head.Datagrams ∷ head.Record ∷ head.Stop ∷ []
 
 unfoldable pub head_of : List ℕ → Result Head LineFault
-head_of word = read (named_among head_text heads word)
+head_of word = or_line_fault (named_among head_text heads word)
 
 -- the words behind the first
 
@@ -89,22 +89,22 @@ bare said ws = do
 unfoldable pub of_domain : (DomainNo → Line) → List (List ℕ) → Result Line LineFault
 of_domain said ws = do
   w ← one_of ws
-  d ← read (domain_of w)
+  d ← or_line_fault (domain_of w)
   Ok (said d)
 
 unfoldable pub suspect : List (List ℕ) → Result Line LineFault
 suspect ws = do
   w ← two_of ws
-  d ← read (domain_of w.0)
-  s ← read (site_of w.1)
+  d ← or_line_fault (domain_of w.0)
+  s ← or_line_fault (site_of w.1)
   Ok (line.Suspect d s)
 
 unfoldable pub quota : List (List ℕ) → Result Line LineFault
 quota ws = do
   w ← three_of ws
-  d ← read (domain_of w.0)
-  n ← read (quota_name_of w.1)
-  v ← read (number_within 0 4294967295 w.2)
+  d ← or_line_fault (domain_of w.0)
+  n ← or_line_fault (quota_name_of w.1)
+  v ← or_line_fault (number_within 0 4294967295 w.2)
   Ok (line.Quota d n v)
 
 abbrev pub behind : Head → List (List ℕ) → Result Line LineFault
@@ -119,13 +119,13 @@ behind head.Datagrams ws = bare line.Datagrams ws
 behind head.Record ws = bare line.Record ws
 behind head.Stop ws = bare line.Stop ws
 
-abbrev pub spelled : List (List ℕ) → Result Line LineFault
-spelled [] = Err Empty
-spelled (first ∷ ws) = do
+abbrev pub line_of_words : List (List ℕ) → Result Line LineFault
+line_of_words [] = Err Empty
+line_of_words (first ∷ ws) = do
   h ← head_of first
   behind h ws
 
 -- what a line is
 unfoldable pub line_of : List ℕ → Result Line LineFault
 line_of [] = Err Empty
-line_of (c ∷ cs) = spelled (parted 32 (c ∷ cs))
+line_of (c ∷ cs) = line_of_words (parts_at 32 (c ∷ cs))

@@ -1,6 +1,6 @@
 ghost use Rattle.std.specs.Prelude.{◌≡◌, ◌∷◌};
 ghost use Rattle.std.specs.Option.{option_copied};
-ghost use Rattle.cast_script.specs.Words.{parted};
+ghost use Rattle.cast_script.specs.Words.{parts_at};
 ghost use Rattle.cast_console.specs.Lines.{IsSeen, bare, behind, fault_number, fault_of, head_of, line_of, none_of, of_domain, one_of, quota, suspect, three_of, two_of, words_of};
 
 use cast_events::QuotaName;
@@ -109,7 +109,7 @@ fn head_of(word: &str) -> Result<Head, LineFault>
 
 // The first word of a text, and what stands behind the space after it.
 fn cut(text: &str) -> (&str, Option<&str>)
-    ensures { parted 32 text.now ≡ result.0.now ∷ words_of (option_copied result.1) }
+    ensures { parts_at 32 text.now ≡ result.0.now ∷ words_of (option_copied result.1) }
 {
     match text.split_once(' ') {
         Some((word, rest)) => (word, Some(rest)),

@@ -22,15 +22,15 @@ use Rattle.cast_ready.specs.declared.row.ProcessUpdate.TheVariants as fact
 use Rattle.cast_ready.specs.declared.gate.Gate.{Gate}
 use Rattle.cast_ready.specs.Ready.{Process, is_open_to, is_member, has_delivered}
 use Rattle.cast_types.specs.Sources.{source_cmp, source_of}
-use Rattle.cast_ready.specs.Rows.{gate_in, standing_in, done_in, needed, has_past, row_allows, all_allow, is_causally_ready_row, delivered_row, told_row}
-use Rattle.cast_delay.specs.Fits.{HasNotEnded, RowFits, IsSound, told, delivering}
+use Rattle.cast_ready.specs.Rows.{gate_in, standing_in, done_in, needed_count, has_past, row_allows, all_allow, is_causally_ready_row, delivered_row, told_row}
+use Rattle.cast_delay.specs.Fits.{HasNotEnded, RowFits, IsSound, tell_process, delivering}
 use Rattle.cast_delay.proofs.ListLemmas.{list_any-append}
 use Rattle.cast_delay.proofs.Counted.{needed_own, within_entry}
 use Rattle.cast_delay.proofs.Finds.{put_at_group}
 use Rattle.cast_types.proofs.Sources.{source_total, source_exact}
 
 -- a row takes in a fact as the process does
-pub told_fits : (gate : GroupNo → Gate) (p : Process) (row : Row) → RowFits gate p row → (f : ProcessUpdate) → RowFits gate (told f p) (told_row f row)
+pub told_fits : (gate : GroupNo → Gate) (p : Process) (row : Row) → RowFits gate p row → (f : ProcessUpdate) → RowFits gate (tell_process f p) (told_row f row)
 told_fits gate p row fits (fact.Standing g s) = record {
   standing = λ h. put_at_group row.standings g h s Outside ∙ ap (λ old. if group_eq g h then s else old) (fits.standing h);
   in_order = sorted-put group_cmp group_total g s row.standings fits.in_order;
@@ -94,12 +94,12 @@ module _ (gates : List (GroupNo × Gate)) (row : Row) (id : Uid) (times : ClockL
       let g = id.group in
       let v = view_of times g in
       let counts = (clock_of times g).counts in
-      let found = found_or proc_exact (λ q n. nat_le (needed id g v (q, n)) (done_in row g v q)) 0
-      (λ q. le-leb (needed id g v (q, 0)) (done_in row g v q) (omega (arith, within_entry id g v (q, 0)))) counts own_past id.proc in
-      let own : nat_le (needed id g id.view (id.proc, id.count)) (done_in row g id.view id.proc) ≡ true =
-      subst (λ w. nat_le (needed id g w (id.proc, id.count)) (done_in row g w id.proc) ≡ true) view
-      (subst (λ n. nat_le (needed id g v (id.proc, n)) (done_in row g v id.proc) ≡ true) count found) in
-      omega (arith, leb-true (needed id g id.view (id.proc, id.count)) (done_in row g id.view id.proc) own, needed_own id g id.view (id.proc, id.count) (uid_itself id))
+      let found = found_or proc_exact (λ q n. nat_le (needed_count id g v (q, n)) (done_in row g v q)) 0
+      (λ q. le-leb (needed_count id g v (q, 0)) (done_in row g v q) (omega (arith, within_entry id g v (q, 0)))) counts own_past id.proc in
+      let own : nat_le (needed_count id g id.view (id.proc, id.count)) (done_in row g id.view id.proc) ≡ true =
+      subst (λ w. nat_le (needed_count id g w (id.proc, id.count)) (done_in row g w id.proc) ≡ true) view
+      (subst (λ n. nat_le (needed_count id g v (id.proc, n)) (done_in row g v id.proc) ≡ true) count found) in
+      omega (arith, leb-true (needed_count id g id.view (id.proc, id.count)) (done_in row g id.view id.proc) own, needed_own id g id.view (id.proc, id.count) (uid_itself id))
 
 module _ (gate : GroupNo → Gate) (p : Process) (row : Row) (fits : RowFits gate p row) (m : Message) (sound : IsSound m) (gates : List (GroupNo × Gate)) (ready : RowReady gates row m.id m.times) where
   -- what was delivered of the message's sender

@@ -26,7 +26,7 @@ use Rattle.cast_ready.specs.declared.row.Row.{Row}
 use Rattle.cast_ready.specs.declared.offered.Offered.{Offered}
 use Rattle.cast_delay.specs.declared.looked.Looked.{Looked}
 use Rattle.cast_ready.specs.Ready.{is_member}
-use Rattle.cast_ready.specs.Rows.{gate_in, standing_in, done_in, needed, has_past, row_allows, is_causally_ready_row, awaits_row, awaits_now, is_after, holds_back}
+use Rattle.cast_ready.specs.Rows.{gate_in, standing_in, done_in, needed_count, has_past, row_allows, is_causally_ready_row, awaits_row, awaits_now, is_after, holds_back}
 use Rattle.cast_delay.specs.Queue.{offered_under}
 use Rattle.cast_delay.specs.Offers.{key_of, none_of}
 use Rattle.cast_delay.specs.Waits.{is_awake, IsKnown, IsWithin, IsWaking, IsUnseen, IsUnseenBy, AreKnown, Adds}
@@ -72,7 +72,7 @@ module _ (gates : List (GroupNo × Gate)) (row : Row) where
       let v = view_of o.times g in
       let n = (gate_in gates g).number in
       let counts = (clock_of o.times g).counts in
-      let behind : Count → Bool = λ e. proc_eq e.0 u.proc && nat_le u.count (needed o.id g u.view e) in
+      let behind : Count → Bool = λ e. proc_eq e.0 u.proc && nat_le u.count (needed_count o.id g u.view e) in
       let parts = and_parts (is_after o u) (awaits_now gates row u) held in
       let after = and_parts (v == u.view) (list_any behind counts) parts.0 in
       let now = and_parts (awaits_row row u) (u.view == n) parts.1 in
@@ -85,15 +85,15 @@ module _ (gates : List (GroupNo × Gate)) (row : Row) where
         | inr rest ↦
             let past = (and_parts (v == n) (has_past row o.id g v counts) rest).1 in
             let e = any_member behind counts after.1 in
-            let tests = and_parts (proc_eq e.0.0 u.proc) (nat_le u.count (needed o.id g u.view e.0)) e.2 in
-            let enough = all_each (λ d. nat_le (needed o.id g v d) (done_in row g v d.0)) counts past e.0 e.1 in
+            let tests = and_parts (proc_eq e.0.0 u.proc) (nat_le u.count (needed_count o.id g u.view e.0)) e.2 in
+            let enough = all_each (λ d. nat_le (needed_count o.id g v d) (done_in row g v d.0)) counts past e.0 e.1 in
             let done : done_in row g v e.0.0 ≡ done_in row g u.view u.proc = λ i. done_in row g (view i) (same_proc e.0.0 u.proc tests.0 i) in
             omega (
               arith,
-              leb-true (needed o.id g v e.0) (done_in row g v e.0.0) enough,
-              leb-true u.count (needed o.id g u.view e.0) tests.1,
+              leb-true (needed_count o.id g v e.0) (done_in row g v e.0.0) enough,
+              leb-true u.count (needed_count o.id g u.view e.0) tests.1,
               ltb-true (done_in row g u.view u.proc) u.count awaited.1,
-              ap (λ w. needed o.id g w e.0) view,
+              ap (λ w. needed_count o.id g w e.0) view,
               done,
             )
       ]

@@ -14,7 +14,7 @@ use Rattle.cast_types.specs.declared.names.Key.{Key}
 use Rattle.cast_types.specs.declared.names.Uid.{Uid}
 use Rattle.cast_types.specs.declared.names.Standing.{Standing}
 use Rattle.cast_types.specs.declared.names.Standing.TheVariants.{Outside}
-use Rattle.cast_types.specs.Names.{Entry, group_cmp, group_eq, proc_eq, uid_eq, named, entry_of}
+use Rattle.cast_types.specs.Names.{Entry, group_cmp, group_eq, proc_eq, uid_eq, uid_in, entry_of}
 use Rattle.cast_types.specs.Sets.{is_among, set_at}
 use Rattle.cast_types.specs.Counts.{CountList}
 use Rattle.cast_types.specs.Sources.{source}
@@ -34,7 +34,7 @@ use Rattle.cast_ready.specs.Ready.{Process, open_gate, frozen_gate, pending_gate
 use Rattle.cast_ready.specs.DeliveredCounts.{DeliveredCounts, raised_at, counts_in}
 use Rattle.cast_ready.specs.Rows.{gate_in, standing_in, is_causally_ready_row, is_ready_row, has_delivered_in, passed_by, awaits_row, delivered_row, told_row, new_row}
 use Rattle.cast_delay.specs.Queue.{Queue, row_of, but_row, change_row, first_for, offered_under, next_key, candidate_for, candidate_in, delivered_in, passed_in, but_offered, is_awaited, HasOneRowEach, after_delivery, reached_after, queue_viewing, queue_delivering}
-use Rattle.cast_delay.specs.Fits.{IsSound, HasNotEnded, RowFits, StandsFor, HasNotBegun, Reaches, offer_of, Fits, FirstReady, HasTurns, IsAwaited, set_process, told, delivering, FactFits}
+use Rattle.cast_delay.specs.Fits.{IsSound, HasNotEnded, RowFits, StandsFor, HasNotBegun, Reaches, offer_of, Fits, FirstReady, HasTurns, IsAwaited, set_process, tell_process, delivering, FactFits}
 use Rattle.cast_delay.specs.Laws.{NewFits}
 use Rattle.cast_delay.specs.Says.{SaysReached, SaysCandidate}
 use Rattle.cast_delay.proofs.RowMeaning.{row_means, awaits_means, delivered_means}
@@ -178,7 +178,7 @@ module _ (groups : List GroupNo) (gate : GroupNo → Gate) (processes : Proc →
         | false ↦ fits.groups_known x g
       ]
 
-  known_told : (p : Proc) (f : ProcessUpdate) → FactFits groups f → (g : GroupNo) → is_outside ((told f (processes p)).standing g) ≡ false → is_among group_eq g groups ≡ true
+  known_told : (p : Proc) (f : ProcessUpdate) → FactFits groups f → (g : GroupNo) → is_outside ((tell_process f (processes p)).standing g) ≡ false → is_among group_eq g groups ≡ true
   known_told p (fact.Standing h s) ok g = elim (cases_Bool (group_eq h g)) [
     | inl same ↦ λ inside. subst (λ k. is_among group_eq k groups ≡ true) (same_group h g same) (ok (ap (λ b. is_outside (if b then s else (processes p).standing g)) (sym same) ∙ inside))
     | inr other ↦ λ inside. fits.groups_known p g (ap (λ b. is_outside (if b then s else (processes p).standing g)) (sym other) ∙ inside)
@@ -204,26 +204,26 @@ module _ (groups : List GroupNo) (gate : GroupNo → Gate) (processes : Proc →
       ∙ delivered_by p row at id stands
 
   -- a process has passed the ids that it delivered, up to the first that it did not
-  passed_as : (p : Proc) (row : Row) → row_of q.rows p ≡ Some row → (g : GroupNo) (view : ℕ) → HasNotEnded gate g view → (ids : List Entry) → passed_by row g view ids ≡ unwrap_or (list.position (λ e. not (has_delivered (processes p) (named g view e))) ids) (length ids)
-  passed_as p row at g view stands ids = λ i. unwrap_or (list.position (λ e. not (delivered_by p row at (named g view e) stands i)) ids) (length ids)
+  passed_as : (p : Proc) (row : Row) → row_of q.rows p ≡ Some row → (g : GroupNo) (view : ℕ) → HasNotEnded gate g view → (ids : List Entry) → passed_by row g view ids ≡ unwrap_or (list.position (λ e. not (has_delivered (processes p) (uid_in g view e))) ids) (length ids)
+  passed_as p row at g view stands ids = λ i. unwrap_or (list.position (λ e. not (delivered_by p row at (uid_in g view e) stands i)) ids) (length ids)
 
-  pub passed_rules : (p : Proc) (g : GroupNo) (view : ℕ) (ids : List Entry) → IsSome (row_of q.rows p) → HasNotEnded gate g view → passed_in q p g view ids ≡ unwrap_or (list.position (λ e. not (has_delivered (processes p) (named g view e))) ids) (length ids)
+  pub passed_rules : (p : Proc) (g : GroupNo) (view : ℕ) (ids : List Entry) → IsSome (row_of q.rows p) → HasNotEnded gate g view → passed_in q p g view ids ≡ unwrap_or (list.position (λ e. not (has_delivered (processes p) (uid_in g view e))) ids) (length ids)
   passed_rules p g view ids admitted stands =
       let (row, at) = some_row (row_of q.rows p) admitted in
       ap (λ (o : Option Row). option_map_or (λ r. passed_by r g view ids) o 0) at
       ∙ passed_as p row at g view stands ids
 
   -- the ids that it has passed it delivered
-  pub passed_delivered : (p : Proc) (g : GroupNo) (view : ℕ) (ids : List Entry) → IsSome (row_of q.rows p) → HasNotEnded gate g view → list.find (λ e. not (has_delivered (processes p) (named g view e))) (take (passed_in q p g view ids) ids) ≡ None
+  pub passed_delivered : (p : Proc) (g : GroupNo) (view : ℕ) (ids : List Entry) → IsSome (row_of q.rows p) → HasNotEnded gate g view → list.find (λ e. not (has_delivered (processes p) (uid_in g view e))) (take (passed_in q p g view ids) ids) ≡ None
   passed_delivered p g view ids admitted stands =
-      let missing : Entry → Bool = λ e. not (has_delivered (processes p) (named g view e)) in
+      let missing : Entry → Bool = λ e. not (has_delivered (processes p) (uid_in g view e)) in
       ap (λ n. list.find missing (take n ids)) (passed_rules p g view ids admitted stands ∙ position_or_len_found missing ids)
       ∙ none_before missing ids
 
   -- and what stands there is the first that it did not
-  pub passed_next : (p : Proc) (g : GroupNo) (view : ℕ) (ids : List Entry) → IsSome (row_of q.rows p) → HasNotEnded gate g view → list.find (λ e. not (has_delivered (processes p) (named g view e))) ids ≡ slice_get ids (passed_in q p g view ids)
+  pub passed_next : (p : Proc) (g : GroupNo) (view : ℕ) (ids : List Entry) → IsSome (row_of q.rows p) → HasNotEnded gate g view → list.find (λ e. not (has_delivered (processes p) (uid_in g view e))) ids ≡ slice_get ids (passed_in q p g view ids)
   passed_next p g view ids admitted stands =
-      let missing : Entry → Bool = λ e. not (has_delivered (processes p) (named g view e)) in
+      let missing : Entry → Bool = λ e. not (has_delivered (processes p) (uid_in g view e)) in
       find_at missing ids
       ∙ ap (λ n. slice_get ids n) (sym (passed_rules p g view ids admitted stands ∙ position_or_len_found missing ids))
 
@@ -249,31 +249,31 @@ module _ (groups : List GroupNo) (gate : GroupNo → Gate) (processes : Proc →
           found_any (λ r. awaits_row r id) (λ r. proc_eq r.process p) q.rows row at (awaited_by p row at id stands from_one ∙ waits)
 
   -- a fact changes nothing of what processes delivered
-  told_delivered : (f : ProcessUpdate) (v : Process) → (told f v).delivered ≡ v.delivered
+  told_delivered : (f : ProcessUpdate) (v : Process) → (tell_process f v).delivered ≡ v.delivered
   told_delivered (fact.Standing h s) v = refl
   told_delivered (fact.Time time) v = refl
 
-  told_same : (p : Proc) (f : ProcessUpdate) (x : Proc) (u : Uid) → has_delivered (set_process processes p (told f (processes p)) x) u ≡ has_delivered (processes x) u
+  told_same : (p : Proc) (f : ProcessUpdate) (x : Proc) (u : Uid) → has_delivered (set_process processes p (tell_process f (processes p)) x) u ≡ has_delivered (processes x) u
   told_same p f x u = elim (cases_Bool (proc_eq p x)) [
     | inl same ↦
-        ap (λ b. has_delivered (if b then told f (processes p) else processes x) u) same
+        ap (λ b. has_delivered (if b then tell_process f (processes p) else processes x) u) same
         ∙ ap (λ d. is_among uid_eq u d) (told_delivered f (processes p))
         ∙ ap (λ y. has_delivered (processes y) u) (same_proc p x same)
-    | inr other ↦ ap (λ b. has_delivered (if b then told f (processes p) else processes x) u) other
+    | inr other ↦ ap (λ b. has_delivered (if b then tell_process f (processes p) else processes x) u) other
   ]
 
   -- a fact is taken in as the process takes it in
-  pub tell_fits : (p : Proc) (f : ProcessUpdate) → IsSome (row_of q.rows p) → FactFits groups f → Fits groups gate (set_process processes p (told f (processes p))) received (record q { rows = change_row p (told_row f) q.rows })
+  pub tell_fits : (p : Proc) (f : ProcessUpdate) → IsSome (row_of q.rows p) → FactFits groups f → Fits groups gate (set_process processes p (tell_process f (processes p))) received (record q { rows = change_row p (told_row f) q.rows })
   tell_fits p f admitted ok =
       let (row, at) = some_row (row_of q.rows p) admitted in
       record {
         gates = fits.gates;
-        rows = rows_changed p (told_row f) (told_keeps f) gate processes (told f (processes p)) q.rows row at (told_fits gate (processes p) row (row_at p row at) f) fits.rows;
-        groups_known = known_still p (told f (processes p)) (known_told p f ok);
+        rows = rows_changed p (told_row f) (told_keeps f) gate processes (tell_process f (processes p)) q.rows row at (told_fits gate (processes p) row (row_at p row at) f) fits.rows;
+        groups_known = known_still p (tell_process f (processes p)) (known_told p f ok);
         offered = fits.offered;
         named = fits.named;
         sound = fits.sound;
-        reached = reaches_same gate processes q.reached fits.reached (set_process processes p (told f (processes p)))
+        reached = reaches_same gate processes q.reached fits.reached (set_process processes p (tell_process f (processes p)))
             (λ x u has. told_same p f x u ∙ has) (λ x u has. sym (told_same p f x u) ∙ has);
       }
 
@@ -450,7 +450,7 @@ new_fits groups = record {
 pub next_means : (turns : List (GroupNo × Turn)) (q : Queue) (p : Proc) (k : Option Key) → k ≡ next_key turns q p → (groups : List GroupNo) (gate : GroupNo → Gate) (processes : Proc → Process) (received : List Received) → Fits groups gate processes received q → (turn : GroupNo → Turn) → HasTurns (processes p) turns turn → FirstReady groups gate turn (processes p) received k
 next_means turns q p k is groups gate processes received fits turn agree = subst (λ x. FirstReady groups gate turn (processes p) received x) (sym is) (next_rules groups gate processes received q fits p turns turn agree)
 
-pub passed_is : (q : Queue) (p : Proc) (g : GroupNo) (view : ℕ) (ids : List Entry) (n : ℕ) → n ≡ passed_in q p g view ids → (groups : List GroupNo) (gate : GroupNo → Gate) (processes : Proc → Process) (received : List Received) → Fits groups gate processes received q → IsSome (row_of q.rows p) → HasNotEnded gate g view → n ≡ unwrap_or (list.position (λ e. not (has_delivered (processes p) (named g view e))) ids) (length ids)
+pub passed_is : (q : Queue) (p : Proc) (g : GroupNo) (view : ℕ) (ids : List Entry) (n : ℕ) → n ≡ passed_in q p g view ids → (groups : List GroupNo) (gate : GroupNo → Gate) (processes : Proc → Process) (received : List Received) → Fits groups gate processes received q → IsSome (row_of q.rows p) → HasNotEnded gate g view → n ≡ unwrap_or (list.position (λ e. not (has_delivered (processes p) (uid_in g view e))) ids) (length ids)
 passed_is q p g view ids n is groups gate processes received fits admitted stands = is ∙ passed_rules groups gate processes received q fits p g view ids admitted stands
 
 pub awaited_means : (q : Queue) (id : Uid) (b : Bool) → b ≡ is_awaited q.rows id → (groups : List GroupNo) (gate : GroupNo → Gate) (processes : Proc → Process) (received : List Received) → Fits groups gate processes received q → HasNotEnded gate id.group id.view → 0 < id.count → HasOneRowEach q.rows → (b ≡ true) ↔ IsAwaited processes id

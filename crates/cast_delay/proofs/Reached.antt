@@ -10,7 +10,7 @@ use Rattle.cast_types.specs.declared.names.Proc.{Proc}
 use Rattle.cast_types.specs.declared.names.Uid.{Uid}
 use Rattle.cast_types.specs.declared.source.Source.{Source}
 use Rattle.cast_types.specs.Sources.{source, source_cmp, is_ended, but_ended}
-use Rattle.cast_types.specs.Names.{Entry, group_eq, named}
+use Rattle.cast_types.specs.Names.{Entry, group_eq, uid_in}
 use Rattle.cast_types.proofs.Contains.{contains_here, contains_later}
 use Rattle.cast_types.proofs.Orders.{same_group, group_itself, tie_self, tie_same}
 use Rattle.cast_types.proofs.Sources.{source_total, source_exact}
@@ -131,8 +131,8 @@ module _ (gate : GroupNo → Gate) (processes : Proc → Process) (reached : Del
   }
 
   module _ (others : Proc → Process) (still : (p : Proc) (u : Uid) → has_delivered (processes p) u ≡ true → has_delivered (others p) u ≡ true) where
-    each_still : (x : Source × ℕ) → Contains reached x → (p : Proc) × (has_delivered (others p) (named x.0.group x.0.view (x.0.process, x.1)) ≡ true)
-    each_still x in_it = let (p, has) = r.each x in_it in (p, still p (named x.0.group x.0.view (x.0.process, x.1)) has)
+    each_still : (x : Source × ℕ) → Contains reached x → (p : Proc) × (has_delivered (others p) (uid_in x.0.group x.0.view (x.0.process, x.1)) ≡ true)
+    each_still x in_it = let (p, has) = r.each x in_it in (p, still p (uid_in x.0.group x.0.view (x.0.process, x.1)) has)
 
     -- where processes have delivered the same
     pub reaches_same : ((p : Proc) (u : Uid) → has_delivered (others p) u ≡ true → has_delivered (processes p) u ≡ true) → Reaches gate others reached
@@ -151,29 +151,29 @@ module _ (gate : GroupNo → Gate) (processes : Proc → Process) (reached : Del
           | inr this ↦ subst (λ w. w.count ≤ count_at (raised_at (source id.group id.view id.proc) id.count reached) (source w.group w.view w.proc)) (sym this) (raised_own reached (source id.group id.view id.proc) id.count)
         ]
 
-        put_one : (p : Proc) × (has_delivered (others p) (named id.group id.view (id.proc, max (count_at reached (source id.group id.view id.proc)) id.count)) ≡ true)
+        put_one : (p : Proc) × (has_delivered (others p) (uid_in id.group id.view (id.proc, max (count_at reached (source id.group id.view id.proc)) id.count)) ≡ true)
         put_one = elim (cases_lt (count_at reached (source id.group id.view id.proc)) id.count) [
           | inl less ↦
               let is : id.count ≡ max (count_at reached (source id.group id.view id.proc)) id.count = omega (arith, less) in
-              (q, subst (λ n. has_delivered (others q) (named id.group id.view (id.proc, n)) ≡ true) is own)
+              (q, subst (λ n. has_delivered (others q) (uid_in id.group id.view (id.proc, n)) ≡ true) is own)
           | inr more ↦
               let is : count_at reached (source id.group id.view id.proc) ≡ max (count_at reached (source id.group id.view id.proc)) id.count = omega (arith, more) in
               let there = counted_there reached (source id.group id.view id.proc) (omega (arith, from_one, more)) in
               let (p, has) = each_still (source id.group id.view id.proc, count_at reached (source id.group id.view id.proc)) there in
-              (p, subst (λ n. has_delivered (others p) (named id.group id.view (id.proc, n)) ≡ true) is has)
+              (p, subst (λ n. has_delivered (others p) (uid_in id.group id.view (id.proc, n)) ≡ true) is has)
         ]
 
-        each_now : (x : Source × ℕ) → Contains (raised_at (source id.group id.view id.proc) id.count reached) x → (p : Proc) × (has_delivered (others p) (named x.0.group x.0.view (x.0.process, x.1)) ≡ true)
+        each_now : (x : Source × ℕ) → Contains (raised_at (source id.group id.view id.proc) id.count reached) x → (p : Proc) × (has_delivered (others p) (uid_in x.0.group x.0.view (x.0.process, x.1)) ≡ true)
         each_now x in_it = elim (put_parts source_exact (source id.group id.view id.proc) (max (count_at reached (source id.group id.view id.proc)) id.count) reached x in_it) [
-          | inl this ↦ subst (λ (y : Source × ℕ). (p : Proc) × (has_delivered (others p) (named y.0.group y.0.view (y.0.process, y.1)) ≡ true)) this put_one
+          | inl this ↦ subst (λ (y : Source × ℕ). (p : Proc) × (has_delivered (others p) (uid_in y.0.group y.0.view (y.0.process, y.1)) ≡ true)) this put_one
           | inr other ↦ each_still x other
         ]
 
   -- the counts of a view that has not ended
-  pub reached_most : (g : GroupNo) (view : ℕ) → HasNotEnded gate g view → (p : Proc) (e : Entry) → 0 < e.1 → has_delivered (processes p) (named g view e) ≡ true → (n : ℕ) × Contains (counts_in g view reached) (e.0, n) × (e.1 ≤ n)
+  pub reached_most : (g : GroupNo) (view : ℕ) → HasNotEnded gate g view → (p : Proc) (e : Entry) → 0 < e.1 → has_delivered (processes p) (uid_in g view e) ≡ true → (n : ℕ) × Contains (counts_in g view reached) (e.0, n) × (e.1 ≤ n)
   reached_most g view stands p e from_one has =
       let n = count_at reached (source g view e.0) in
-      let most : e.1 ≤ n = r.most p (named g view e) stands has in
+      let most : e.1 ≤ n = r.most p (uid_in g view e) stands has in
       let there = counted_there reached (source g view e.0) (omega (arith, most, from_one)) in
       let test : Source × ℕ → Bool = λ x. group_eq x.0.group g && (x.0.view == view) in
       let kept = kept_back test reached (source g view e.0, n) there (and_from (group_eq g g) (view == view) (group_itself g) (eq-eqb view view refl)) in (
@@ -182,13 +182,13 @@ module _ (gate : GroupNo → Gate) (processes : Proc → Process) (reached : Del
         most,
       )
 
-  pub reached_each : (g : GroupNo) (view : ℕ) (e : Entry) → Contains (counts_in g view reached) e → (p : Proc) × (has_delivered (processes p) (named g view e) ≡ true)
+  pub reached_each : (g : GroupNo) (view : ℕ) (e : Entry) → Contains (counts_in g view reached) e → (p : Proc) × (has_delivered (processes p) (uid_in g view e) ≡ true)
   reached_each g view e in_it =
       let test : Source × ℕ → Bool = λ x. group_eq x.0.group g && (x.0.view == view) in
       let (x, (kept, is)) = mapped_parts (λ (y : Source × ℕ). (y.0.process, y.1)) (filter test reached) e in_it in
       let parts = kept_parts test reached x kept in
       let tests = and_parts (group_eq x.0.group g) (x.0.view == view) parts.1 in
       let (p, has) = r.each x parts.0 in
-      let same : named x.0.group x.0.view (x.0.process, x.1) ≡ named g view e =
-      λ i. named (same_group x.0.group g tests.0 i) (eqb-true x.0.view view tests.1 i) (is i) in
+      let same : uid_in x.0.group x.0.view (x.0.process, x.1) ≡ uid_in g view e =
+      λ i. uid_in (same_group x.0.group g tests.0 i) (eqb-true x.0.view view tests.1 i) (is i) in
       (p, subst (λ u. has_delivered (processes p) u ≡ true) same has)

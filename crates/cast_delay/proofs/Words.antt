@@ -10,7 +10,7 @@ use Rattle.cast_types.specs.declared.names.Standing.{Standing}
 use Rattle.cast_types.specs.declared.names.Standing.TheVariants.{Outside, Joining, Member}
 use Rattle.cast_types.specs.declared.names.Kind.{Kind}
 use Rattle.cast_types.specs.declared.names.Kind.TheVariants.{Causal, Atomic, Order}
-use Rattle.cast_types.specs.Names.{Entry, group_cmp, proc_cmp, uid_eq, named, entry_of, is_atomic}
+use Rattle.cast_types.specs.Names.{Entry, group_cmp, proc_cmp, uid_eq, uid_in, entry_of, is_atomic}
 use Rattle.cast_types.specs.Sets.{is_among}
 use Rattle.cast_types.specs.Counts.{CountList, count_of}
 use Rattle.cast_types.proofs.Orders.{group_exact, proc_total, proc_exact, same_uid, uid_itself, same_entry, entry_itself}
@@ -84,9 +84,9 @@ module _ (p : Process) (m : Message) (ordered : IsTrue (is_in_order m.times)) wh
   past_there h all u before =
       let v = view_of m.times h in
       let counts = (clock_of m.times h).counts in
-      let found = found_or proc_exact (λ q n. list_all (λ k. passes (named h v (q, k))) (range_with_len 1 n)) 0 (λ q. refl) counts (sym (past_spelled p m.id h v counts) ∙ all) u.proc in
-      let here = range_holds (λ k. passes (named h v (u.proc, k))) (count_of counts u.proc) 1 found u.count (omega (arith, before.from_one)) (omega (arith, before.covered)) in
-      let same : named h v (u.proc, u.count) ≡ u = λ i. record { group = sym before.group i; view = sym before.view i; proc = u.proc; count = u.count } in
+      let found = found_or proc_exact (λ q n. list_all (λ k. passes (uid_in h v (q, k))) (range_with_len 1 n)) 0 (λ q. refl) counts (sym (past_spelled p m.id h v counts) ∙ all) u.proc in
+      let here = range_holds (λ k. passes (uid_in h v (u.proc, k))) (count_of counts u.proc) 1 found u.count (omega (arith, before.from_one)) (omega (arith, before.covered)) in
+      let same : uid_in h v (u.proc, u.count) ≡ u = λ i. record { group = sym before.group i; view = sym before.view i; proc = u.proc; count = u.count } in
       elim (or_cases (uid_eq m.id u) (has_delivered p u) (subst (λ w. passes w ≡ true) same here)) [
         | inl own ↦ absurd (before.other (sym (same_uid m.id u own)))
         | inr done ↦ delivered_in p.delivered u done
@@ -97,9 +97,9 @@ module _ (p : Process) (m : Message) (ordered : IsTrue (is_in_order m.times)) wh
       let v = view_of m.times h in
       let counts = (clock_of m.times h).counts in
       past_spelled p m.id h v counts
-      ∙ each_found proc_total (λ q n. list_all (λ k. passes (named h v (q, k))) (range_with_len 1 n)) counts (as_T (is_sorted proc_cmp counts) (counts_sorted h)) (λ q n is.
-      holds_range (λ k. passes (named h v (q, k))) n 1 (λ k low high.
-      let u = named h v (q, k) in
+      ∙ each_found proc_total (λ q n. list_all (λ k. passes (uid_in h v (q, k))) (range_with_len 1 n)) counts (as_T (is_sorted proc_cmp counts) (counts_sorted h)) (λ q n is.
+      holds_range (λ k. passes (uid_in h v (q, k))) n 1 (λ k low high.
+      let u = uid_in h v (q, k) in
       let many : count_of counts q ≡ n = ap (λ (o : Option ℕ). unwrap_or o 0) is in
       elim (cases_Bool (uid_eq m.id u)) [
         | inl own ↦ or_left (uid_eq m.id u) (has_delivered p u) own

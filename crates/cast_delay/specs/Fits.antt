@@ -8,7 +8,7 @@ use Rattle.cast_types.specs.declared.names.Uid.{Uid}
 use Rattle.cast_types.specs.declared.names.Standing.TheVariants.{Outside}
 use Rattle.cast_types.specs.declared.source.Source.{Source}
 use Rattle.cast_types.specs.Sources.{source}
-use Rattle.cast_types.specs.Names.{group_cmp, group_eq, proc_eq, named, is_atomic}
+use Rattle.cast_types.specs.Names.{group_cmp, group_eq, proc_eq, uid_in, is_atomic}
 use Rattle.cast_types.specs.Sets.{is_among, set_at}
 use Rattle.cast_clock.specs.Times.{no_time, view_of, count_in, join}
 use Rattle.cast_message.specs.declared.message.Message.{Message}
@@ -53,7 +53,7 @@ StandsFor gate p None = (g : GroupNo) → p.standing g ≡ Outside
 -- each count is of a message that one has delivered
 pub record Reaches (gate : GroupNo → Gate) (processes : Proc → Process) (reached : DeliveredCounts) : Type 0 where
   pub most : (p : Proc) (u : Uid) → HasNotEnded gate u.group u.view → has_delivered (processes p) u ≡ true → u.count ≤ count_at reached (source u.group u.view u.proc)
-  pub each : (x : Source × ℕ) → Contains reached x → (p : Proc) × (has_delivered (processes p) (named x.0.group x.0.view (x.0.process, x.1)) ≡ true)
+  pub each : (x : Source × ℕ) → Contains reached x → (p : Proc) × (has_delivered (processes p) (uid_in x.0.group x.0.view (x.0.process, x.1)) ≡ true)
 
 -- a process that has no time yet and delivered nothing
 pub record HasNotBegun (p : Process) : Type 0 where
@@ -93,9 +93,9 @@ abbrev pub set_process : (Proc → Process) → Proc → Process → Proc → Pr
 set_process processes p v = set_at proc_eq processes p v
 
 -- the process takes in a fact
-abbrev pub told : ProcessUpdate → Process → Process
-told (fact.Standing g standing) p = record p { standing = set_at group_eq p.standing g standing }
-told (fact.Time time) p = record p { time = time }
+abbrev pub tell_process : ProcessUpdate → Process → Process
+tell_process (fact.Standing g standing) p = record p { standing = set_at group_eq p.standing g standing }
+tell_process (fact.Time time) p = record p { time = time }
 
 -- the process delivers a message
 abbrev pub delivering : Message → Process → Process

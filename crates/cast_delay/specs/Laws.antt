@@ -21,7 +21,7 @@ use Rattle.cast_ready.specs.declared.gate.Gate.{Gate}
 use Rattle.cast_ready.specs.Ready.{Process, open_gate, frozen_gate, pending_gate, has_delivered, awaits, is_causally_ready, is_ready}
 use Rattle.cast_ready.specs.Rows.{gate_in, told_row, is_causally_ready_row, is_ready_row, has_delivered_in, awaits_row, new_row}
 use Rattle.cast_delay.specs.Queue.{Queue, row_of, but_row, change_row, next_key, but_offered, queue_viewing, queue_delivering}
-use Rattle.cast_delay.specs.Fits.{Fits, FirstReady, HasTurns, IsSound, HasNotEnded, HasNotBegun, offer_of, set_process, told, delivering, FactFits}
+use Rattle.cast_delay.specs.Fits.{Fits, FirstReady, HasTurns, IsSound, HasNotEnded, HasNotBegun, offer_of, set_process, tell_process, delivering, FactFits}
 
 -- by what the queue keeps of a process, a message is causally ready exactly if it is by what the process delivered
 abbrev pub RowMeansTheRule : Type 0
@@ -92,7 +92,7 @@ TellKeepsMeaning =
     (groups : List GroupNo) (gate : GroupNo → Gate) (processes : Proc → Process) (received : List Received) (q : Queue)
     → Fits groups gate processes received q → (p : Proc) (f : ProcessUpdate)
     → IsSome (row_of q.rows p) → FactFits groups f
-    → Fits groups gate (set_process processes p (told f (processes p))) received
+    → Fits groups gate (set_process processes p (tell_process f (processes p))) received
     (record q { rows = change_row p (told_row f) q.rows })
 
 -- a group has a later view, which no flush has frozen, and what was delivered of its earlier views is forgotten

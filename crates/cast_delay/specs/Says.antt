@@ -8,7 +8,7 @@ use Rattle.cast_types.specs.declared.names.Key.{Key}
 use Rattle.cast_types.specs.declared.names.Uid.{Uid}
 use Rattle.cast_types.specs.declared.names.Standing.{Standing}
 use Rattle.cast_types.specs.declared.names.Standing.TheVariants.{Outside}
-use Rattle.cast_types.specs.Names.{Entry, named}
+use Rattle.cast_types.specs.Names.{Entry, uid_in}
 use Rattle.cast_types.specs.Stamps.{ClockList}
 use Rattle.cast_message.specs.declared.message.Received.{Received}
 use Rattle.cast_ready.specs.declared.turn.Turn.{Turn}
@@ -57,18 +57,18 @@ abbrev pub SaysPassed : Queue → Proc → GroupNo → ℕ → List Entry → �
 SaysPassed q p group view ids result =
     (groups : List GroupNo) (gate : GroupNo → Gate) (processes : Proc → Process) (received : List Received)
     → Fits groups gate processes received q → IsSome (row_of q.rows p) → HasNotEnded gate group view
-    → result ≡ unwrap_or (position (λ e. not (has_delivered (processes p) (named group view e))) ids) (length ids)
+    → result ≡ unwrap_or (position (λ e. not (has_delivered (processes p) (uid_in group view e))) ids) (length ids)
 
 -- the counts of a view that has not ended say how far processes came in it: for each message of it that some process has
 -- delivered there is one as great, and each is of a message that one has delivered
 pub record SaysReached (q : Queue) (group : GroupNo) (view : ℕ) (counts : List Entry) : Type 0 where
   pub most : (groups : List GroupNo) (gate : GroupNo → Gate) (processes : Proc → Process) (received : List Received)
       → Fits groups gate processes received q → HasNotEnded gate group view
-      → (p : Proc) (e : Entry) → 0 < e.1 → has_delivered (processes p) (named group view e) ≡ true
+      → (p : Proc) (e : Entry) → 0 < e.1 → has_delivered (processes p) (uid_in group view e) ≡ true
       → (n : ℕ) × Contains counts (e.0, n) × (e.1 ≤ n)
   pub each : (groups : List GroupNo) (gate : GroupNo → Gate) (processes : Proc → Process) (received : List Received)
       → Fits groups gate processes received q
-      → (e : Entry) → Contains counts e → (p : Proc) × (has_delivered (processes p) (named group view e) ≡ true)
+      → (e : Entry) → Contains counts e → (p : Proc) × (has_delivered (processes p) (uid_in group view e) ≡ true)
 
 -- the time of a process, and none only of one that is in no group
 abbrev pub SaysTime : {X : Type 0} → Queue → Proc → (X → ClockList) → Option X → Type 0

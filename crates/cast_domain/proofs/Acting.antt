@@ -20,7 +20,7 @@ use Rattle.cast_message.specs.declared.message.Message.{Message}
 use Rattle.cast_message.specs.Bodies.{kind_of}
 use Rattle.cast_message.specs.Placement.{Placement}
 use Rattle.cast_order.specs.Order.{Listing}
-use Rattle.cast_order.specs.Hand.{Hand, noted, handed, FitsHand}
+use Rattle.cast_order.specs.Hand.{Hand, note_order_sent, hand_over, FitsHand}
 use Rattle.cast_order.specs.Log.{Log, log_of, hand_here, with_hand}
 use Rattle.cast_order.proofs.Meanings.{hand_fits}
 use Rattle.cast_order.proofs.Closed.{closed_hand}
@@ -136,24 +136,24 @@ sent_plain s k m h l token plain =
 
 pub sent_keeps : (count stable : ℕ) (q : Placement) → KeepsProcess (sent_hand count stable q)
 sent_keeps count stable q h =
-    let now : Hand = noted count (last_place (body.Order q)) stable h in
-    elim (is_some q.holder) as (λ b. (if b then handed now else now).process ≡ h.process) [ true ↦ refl | false ↦ refl ]
+    let now : Hand = note_order_sent count (last_place (body.Order q)) stable h in
+    elim (is_some q.holder) as (λ b. (if b then hand_over now else now).process ≡ h.process) [ true ↦ refl | false ↦ refl ]
 
 -- what it lists, and whether it hands the token over, is told of it then
 sent_fits : (order : List Entry) (token : Option ℕ) (delivered : List Entry) (lists : Listing) (before count stable : ℕ) (q : Placement) (h : Hand) → before ≤ stable → FitsHand order token delivered lists before h → FitsHand order (token_sent token (body.Order q)) delivered (lists ++ (count, last_place (body.Order q)) ∷ []) stable (sent_hand count stable q h)
 sent_fits order token delivered lists before count stable q h le fits =
     let last : ℕ = last_place (body.Order q) in
-    let now : Hand = noted count last stable h in
+    let now : Hand = note_order_sent count last stable h in
     let noting : FitsHand order token delivered (lists ++ (count, last) ∷ []) stable now = note_fits order token delivered lists before h fits count last stable le in
-    elim q.holder as (λ o. FitsHand order (elim o as (λ _. Option ℕ) [ Some p ↦ None | None ↦ token ]) delivered (lists ++ (count, last) ∷ []) stable (if is_some o then handed now else now)) [
+    elim q.holder as (λ o. FitsHand order (elim o as (λ _. Option ℕ) [ Some p ↦ None | None ↦ token ]) delivered (lists ++ (count, last) ∷ []) stable (if is_some o then hand_over now else now)) [
       | None ↦ noting
       | Some p ↦ hand_over_fits order token delivered (lists ++ (count, last) ∷ []) stable now noting
     ]
 
 sent_first : (token : Option ℕ) (count stable : ℕ) (q : Placement) (h : Hand) → h.first ≡ token → (sent_hand count stable q h).first ≡ token_sent token (body.Order q)
 sent_first token count stable q h is =
-    let now : Hand = noted count (last_place (body.Order q)) stable h in
-    elim q.holder as (λ o. (if is_some o then handed now else now).first ≡ (elim o as (λ _. Option ℕ) [ Some p ↦ None | None ↦ token ])) [
+    let now : Hand = note_order_sent count (last_place (body.Order q)) stable h in
+    elim q.holder as (λ o. (if is_some o then hand_over now else now).first ≡ (elim o as (λ _. Option ℕ) [ Some p ↦ None | None ↦ token ])) [
       | None ↦ is
       | Some p ↦ refl
     ]

@@ -6,12 +6,12 @@ use Rattle.std.proofs.lemmas.Bool.{cases_Bool, false≢true, false_from_ne_true,
 use Rattle.cast_types.specs.declared.names.GroupNo.{GroupNo}
 use Rattle.cast_types.specs.declared.names.Proc.{Proc}
 use Rattle.cast_types.specs.declared.names.Uid.{Uid}
-use Rattle.cast_types.specs.Names.{is_atomic, group_eq, proc_eq, uid_eq, entry_eq, named}
+use Rattle.cast_types.specs.Names.{is_atomic, group_eq, proc_eq, uid_eq, entry_eq, uid_in}
 use Rattle.cast_types.specs.declared.limits.TheConstants.{MAX_NUMBER}
 use Rattle.cast_types.specs.Sets.{is_among}
 use Rattle.cast_types.specs.Stamps.{ClockList}
 use Rattle.cast_types.proofs.Orders.{same_group, same_uid, group_itself, site_itself}
-use Rattle.cast_clock.specs.Times.{count_in, bumped}
+use Rattle.cast_clock.specs.Times.{count_in, with_bump}
 use Rattle.cast_clock.proofs.Raised.{bump_raises, bump_leaves_counts, bump_leaves_views}
 use Rattle.cast_message.specs.declared.message.Body.{Body}
 use Rattle.cast_message.specs.declared.message.Body.TheVariants as body
@@ -142,11 +142,11 @@ next_sound s g k content l member =
     }
 
 -- it counts no fewer of any group's
-pub raised_counts : (t : ClockList) (g h : GroupNo) (p : Proc) → count_in t h p ≤ count_in (bumped t g p) h p
+pub raised_counts : (t : ClockList) (g h : GroupNo) (p : Proc) → count_in t h p ≤ count_in (with_bump t g p) h p
 raised_counts t g h p = elim (cases_Bool (group_eq h g)) [
   | inl here ↦
       let more = bump_raises t g p in
-      subst (λ x. count_in t x p ≤ count_in (bumped t g p) x p) (sym (same_group h g here)) (omega (arith, more))
+      subst (λ x. count_in t x p ≤ count_in (with_bump t g p) x p) (sym (same_group h g here)) (omega (arith, more))
   | inr other ↦
       let same = bump_leaves_counts t g h p p (inl (λ e. false≢true (sym other ∙ subst (λ x. group_eq h x ≡ true) e (group_itself h)))) in
       omega (arith, same)
@@ -156,9 +156,9 @@ raised_counts t g h p = elim (cases_Bool (group_eq h g)) [
 pub next_new : (s : State) (g : GroupNo) (k : ℕ) (content : Body) (l : Log) → is_member ((s.process k).standing g) ≡ true → TellsOrder s g l → IsNew s g l (next_message s g k content)
 next_new s g k content l member tells e among =
     let u : Uid = (next_message s g k content).id in
-    false_from_ne_true (uid_eq u (named g (s.group g).number e)) (λ is.
-    let same : u ≡ named g (s.group g).number e = same_uid u (named g (s.group g).number e) is in
-    let count : count_in (bumped (s.process k).time g (local s k)) g (local s k) ≡ e.1 = ap (λ (v : Uid). v.count) same in
+    false_from_ne_true (uid_eq u (uid_in g (s.group g).number e)) (λ is.
+    let same : u ≡ uid_in g (s.group g).number e = same_uid u (uid_in g (s.group g).number e) is in
+    let count : count_in (with_bump (s.process k).time g (local s k)) g (local s k) ≡ e.1 = ap (λ (v : Uid). v.count) same in
     let raised = bump_raises (s.process k).time g (local s k) in
     let most = (tells.gone e among).counted k member (sym (ap (λ (v : Uid). v.proc) same)) in
     omega (arith, count, raised, most))
@@ -215,12 +215,12 @@ fits_sent_here r s f l k i g at content member raises =
         let row = member_row x s w k g member in
         let same : sent_here records x i k g content ≡ receive_in (note_sent_by x p m) m = (λ j.
         receive_in (note_sent_by x p (record {
-          id = record { group = g; view = (there j).here.number; proc = p; count = count_in (bumped (time_there x s w k row j) g p) g p };
-          times = bumped (time_there x s w k row j) g p;
+          id = record { group = g; view = (there j).here.number; proc = p; count = count_in (with_bump (time_there x s w k row j) g p) g p };
+          times = with_bump (time_there x s w k row j) g p;
           body = content;
         })) (record {
-          id = record { group = g; view = (there j).here.number; proc = p; count = count_in (bumped (time_there x s w k row j) g p) g p };
-          times = bumped (time_there x s w k row j) g p;
+          id = record { group = g; view = (there j).here.number; proc = p; count = count_in (with_bump (time_there x s w k row j) g p) g p };
+          times = with_bump (time_there x s w k row j) g p;
           body = content;
         })) in
         subst (λ y. Fits y (receiving (noting_sent s k m) m)) (sym same)

@@ -11,7 +11,7 @@ use Rattle.cast_quota.specs.Quotas as quota
 use Rattle.cast_rules.specs.State.{State, taking, setting_quota}
 use Rattle.cast_events.specs.Session.{is_open_status, is_gone, is_gone_status}
 use Rattle.cast_rules.specs.History.{history}
-use Rattle.cast_rules.specs.Step.{opening_next, sessions_given, acted, answered}
+use Rattle.cast_rules.specs.Step.{opening_next, sessions_given, act_of_event, answer_of_event}
 use Rattle.cast_rules.specs.Rules.Events as rules
 use Rattle.cast_domain.specs.Records.{Records}
 use Rattle.cast_domain.specs.Calls.{records, records_sessions, open_in, take_entries_in, set_quota_in, acted_in}
@@ -32,7 +32,7 @@ gone_same : (r : Records) (s : State) → Fits r s → (k : ℕ) → is_gone_sta
 gone_same r s f k = ap is_gone_status (status_there r s f k)
 
 -- each event
-pub fits_acted : (r : Records) (s : State) (e : Event) → Fits r s → IsLawful s → IsTyped e → Fits (acted_in r e) (acted s e)
+pub fits_acted : (r : Records) (s : State) (e : Event) → Fits r s → IsLawful s → IsTyped e → Fits (acted_in r e) (act_of_event s e)
 fits_acted r s (event.Open d) f l typed =
     fits_if (rules.may_open records records_sessions r) (rules.may_open history sessions_given s) (open_in r) r (opening_next s) s (may_open_same r s f)
     (λ _. fits_open r s f) (λ _. f)
@@ -51,7 +51,7 @@ fits_acted r s (event.Take d k most) f l typed =
 fits_acted r s (event.Tick t) f l typed = fits_tick r s f t
 
 -- and its answer
-pub answer_acted : (r : Records) (s : State) (e : Event) → Fits r s → rules.answered records records_sessions r e ≡ answered s e
+pub answer_acted : (r : Records) (s : State) (e : Event) → Fits r s → rules.answered records records_sessions r e ≡ answer_of_event s e
 answer_acted r s (event.Open d) f =
     λ i. if may_open_same r s f i then taken.Opened ((f.core i).used + 1) else taken.Refused TooManySessions
 answer_acted r s (event.Command d k c) f = ap (λ b. if b then taken.Nothing else taken.Refused NotOpen) (ap is_open_status (status_there r s f k))

@@ -38,7 +38,7 @@ use Rattle.cast_timer.specs.Owed.{is_owed}
 use Rattle.cast_view.specs.declared.member.Pending.{Pending}
 use Rattle.cast_view.specs.MemberSide.{is_pending, with_request, with_answer, frozen_side, with_pending, has_view, is_current, members_of}
 use Rattle.cast_events.specs.Session.{is_open_status, is_gone_status}
-use Rattle.cast_view.specs.Home.{moved}
+use Rattle.cast_view.specs.Home.{apply_move}
 use Rattle.cast_rules.specs.State.{State, gate_of, local, set_standing, going, outside, acts_outside, is_received, receiving, others_of, noting_sent}
 use Rattle.cast_rules.specs.Effects.{next_message}
 use Rattle.cast_rules.specs.Entering.{freezing, pending_install}
@@ -256,7 +256,7 @@ module _ (groups : List GroupNo) where
         ((fits_here r s f.0.0 f.1 i g (there r s f i g at) (λ x. with_request x what p) refl refl refl refl, f.0.1), all_lawful.note_request s f.1 g what p);
     note_answer = λ r s f i g at.
         ((fits_here r s f.0.0 f.1 i g (there r s f i g at) with_answer refl refl refl refl, f.0.1), all_lawful.note_answer s f.1 g);
-    move_home = λ r s f i g at move. ((fits_home r s f.0.0 f.1 i g (there r s f i g at) (moved move), f.0.1), all_lawful.move_home s f.1 g move);
+    move_home = λ r s f i g at move. ((fits_home r s f.0.0 f.1 i g (there r s f i g at) (apply_move move), f.0.1), all_lawful.move_home s f.1 g move);
     enter_view = λ r s f i g at h skips n members request cut is. let e = entered s g h n members is in (
       (
         fits_pass r s f.0.0 f.1 i g (there r s f i g at) e.listed skips n members request cut is.typed e.later,

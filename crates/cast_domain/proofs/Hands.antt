@@ -12,8 +12,8 @@ use Rattle.cast_types.specs.Names.{Entry, group_eq, proc_eq, site_eq}
 use Rattle.cast_types.proofs.Orders.{group_itself, proc_itself}
 use Rattle.cast_message.specs.Placement.{Placement}
 use Rattle.cast_order.specs.Order.{facts_of}
-use Rattle.cast_order.specs.Hand.{Hand, new_hand, placed, hand_in, hand_opened, hand_place, change_hand}
-use Rattle.cast_order.specs.Log.{Log, change_in, change_log, new_log, opened, length_of, learnt, longer, settled, with_facts, with_hand}
+use Rattle.cast_order.specs.Hand.{Hand, new_hand, note_placed, hand_in, hand_opened, hand_place, change_hand}
+use Rattle.cast_order.specs.Log.{Log, change_in, change_log, new_log, open_log, length_of, learnt, longer, settle_log, with_facts, with_hand}
 use Rattle.cast_order.proofs.Hands.{KeepsProcess, change_rises, place_rises}
 use Rattle.cast_order.proofs.Logs.{KeepsGroup, change_opened}
 use Rattle.cast_domain.specs.Fits.{AreOwn}
@@ -56,17 +56,17 @@ own_changed here p at f keeps hands own = (
 )
 
 -- ids join the order known
-placed_own : (here : SiteNo) (ids : List Entry) (hands : List Hand) → list_all (of_site here) hands ≡ true → list_all (of_site here) (map (placed ids) hands) ≡ true
+placed_own : (here : SiteNo) (ids : List Entry) (hands : List Hand) → list_all (of_site here) hands ≡ true → list_all (of_site here) (map (note_placed ids) hands) ≡ true
 placed_own here ids [] own = refl
 placed_own here ids (h ∷ hands) own =
     let parts = and_parts (of_site here h) (list_all (of_site here) hands) own in
-    and_from (of_site here h) (list_all (of_site here) (map (placed ids) hands)) parts.0 (placed_own here ids hands parts.1)
+    and_from (of_site here h) (list_all (of_site here) (map (note_placed ids) hands)) parts.0 (placed_own here ids hands parts.1)
 
 pub own_learnt : (here : SiteNo) (q : Placement) (l : Log) → AreOwn here l.hands → AreOwn here (learnt q l).hands
 own_learnt here q l own =
     let known : Log = record l { later = with_facts (length_of l) l.later (facts_of q) } in
     let ids : List Entry = drop (length l.window) (longer known) in
-    elim l.closed as (λ b. AreOwn here (if b then l else settled known).hands) [
+    elim l.closed as (λ b. AreOwn here (if b then l else settle_log known).hands) [
       | true ↦ own
       | false ↦ (place_rises ids l.hands own.0, placed_own here ids l.hands own.1)
     ]
@@ -135,13 +135,13 @@ logs_in_twice g f h keeps (l ∷ logs) = λ i. first i ∷ logs_in_twice g f h k
 pub logs_twice : (g : GroupNo) (p : Proc) (f h : Hand → Hand) → KeepsProcess h → (logs : List Log) → change_log g (with_hand p f) (change_log g (with_hand p h) logs) ≡ change_log g (with_hand p (λ x. f (h x))) logs
 logs_twice g p f h keeps logs =
     sym (change_opened g (with_hand p f) (change_log g (with_hand p h) logs))
-    ∙ ap (λ ls. change_in g (with_hand p f) (opened g ls)) (sym (change_opened g (with_hand p h) logs))
+    ∙ ap (λ ls. change_in g (with_hand p f) (open_log g ls)) (sym (change_opened g (with_hand p h) logs))
     ∙ again
-    ∙ logs_in_twice g (with_hand p f) (with_hand p h) (λ l. refl) (opened g logs)
-    ∙ ap (λ k. change_in g k (opened g logs)) (λ i l. record l { hands = hands_twice p f h keeps l.hands i })
+    ∙ logs_in_twice g (with_hand p f) (with_hand p h) (λ l. refl) (open_log g logs)
+    ∙ ap (λ k. change_in g k (open_log g logs)) (λ i l. record l { hands = hands_twice p f h keeps l.hands i })
     ∙ change_opened g (with_hand p (λ x. f (h x))) logs
   where
-    there : list_any (λ l. group_eq l.group g) (opened g logs) ≡ true
+    there : list_any (λ l. group_eq l.group g) (open_log g logs) ≡ true
     there = elim (list_any (λ l. group_eq l.group g) logs) as (λ b. list_any (λ l. group_eq l.group g) logs ≡ b → list_any (λ l. group_eq l.group g) (if b then logs else logs ++ new_log g ∷ []) ≡ true) [
       | true ↦ λ some. some
       | false ↦ λ _.
@@ -149,7 +149,7 @@ logs_twice g p f h keeps logs =
           ∙ or_right (list_any (λ l. group_eq l.group g) logs) (list_any (λ l. group_eq l.group g) (new_log g ∷ [])) (or_left (group_eq g g) false (group_itself g))
     ] refl
 
-    again : change_in g (with_hand p f) (opened g (change_in g (with_hand p h) (opened g logs))) ≡ change_in g (with_hand p f) (change_in g (with_hand p h) (opened g logs))
+    again : change_in g (with_hand p f) (open_log g (change_in g (with_hand p h) (open_log g logs))) ≡ change_in g (with_hand p f) (change_in g (with_hand p h) (open_log g logs))
     again =
-        ap (λ b. change_in g (with_hand p f) (if b then change_in g (with_hand p h) (opened g logs) else change_in g (with_hand p h) (opened g logs) ++ new_log g ∷ []))
-        (log_there g (with_hand p h) (λ l. refl) (opened g logs) there)
+        ap (λ b. change_in g (with_hand p f) (if b then change_in g (with_hand p h) (open_log g logs) else change_in g (with_hand p h) (open_log g logs) ++ new_log g ∷ []))
+        (log_there g (with_hand p h) (λ l. refl) (open_log g logs) there)

@@ -7,11 +7,11 @@ use Rattle.std.proofs.lemmas.List.{length-take, length_push, take_all, take-appe
 use Rattle.std.proofs.lemmas.List.Elements.{filter-append}
 use Rattle.cast_types.specs.declared.names.GroupNo.{GroupNo}
 use Rattle.cast_types.specs.declared.names.Proc.{Proc}
-use Rattle.cast_types.specs.Names.{Entry, named}
+use Rattle.cast_types.specs.Names.{Entry, uid_in}
 use Rattle.cast_types.specs.Counts.{CountList}
 use Rattle.cast_types.proofs.Bools.{same_bools}
 use Rattle.cast_ready.specs.declared.row.Row.{Row}
-use Rattle.cast_ready.specs.Ready.{is_member, first_of, covered}
+use Rattle.cast_ready.specs.Ready.{is_member, first_of, covered_entries}
 use Rattle.cast_ready.specs.Rows.{standing_in, done_in, awaits_row}
 use Rattle.cast_delay.specs.Queue.{is_awaited, least_in}
 use Rattle.cast_domain.specs.declared.record.GroupRecord.{GroupRecord}
@@ -44,25 +44,25 @@ one_more : (member : Bool) (n d k : ℕ) → nat_lt (if member then min n d else
 one_more true n d k = below_lesser n d k
 one_more false n d k = or_none (nat_lt n k)
 
-least_below : (g : GroupNo) (view : ℕ) (p : Proc) (k : ℕ) (rows : List Row) (n : ℕ) → nat_lt (fold (λ n row. if is_member (standing_in row g) then min n (done_in row g view p) else n) n rows) k ≡ (nat_lt n k || is_awaited rows (named g view (p, k)))
+least_below : (g : GroupNo) (view : ℕ) (p : Proc) (k : ℕ) (rows : List Row) (n : ℕ) → nat_lt (fold (λ n row. if is_member (standing_in row g) then min n (done_in row g view p) else n) n rows) k ≡ (nat_lt n k || is_awaited rows (uid_in g view (p, k)))
 least_below g view p k [] n = or_none (nat_lt n k)
 least_below g view p k (row ∷ rows) n =
     let next : ℕ = if is_member (standing_in row g) then min n (done_in row g view p) else n in
     least_below g view p k rows next
-    ∙ ap (λ b. b || is_awaited rows (named g view (p, k))) (one_more (is_member (standing_in row g)) n (done_in row g view p) k)
-    ∙ or_grouped (nat_lt n k) (awaits_row row (named g view (p, k))) (is_awaited rows (named g view (p, k)))
+    ∙ ap (λ b. b || is_awaited rows (uid_in g view (p, k))) (one_more (is_member (standing_in row g)) n (done_in row g view p) k)
+    ∙ or_grouped (nat_lt n k) (awaits_row row (uid_in g view (p, k))) (is_awaited rows (uid_in g view (p, k)))
 
 -- some member here awaits the messages of a process that are above what all of them have delivered
-pub awaited_is : (g : GroupNo) (view : ℕ) (p : Proc) (k : ℕ) (rows : List Row) → k ≤ 4294967295 → is_awaited rows (named g view (p, k)) ≡ nat_lt (least_in rows g view p) k
+pub awaited_is : (g : GroupNo) (view : ℕ) (p : Proc) (k : ℕ) (rows : List Row) → k ≤ 4294967295 → is_awaited rows (uid_in g view (p, k)) ≡ nat_lt (least_in rows g view p) k
 awaited_is g view p k rows small =
     sym (least_below g view p k rows 4294967295
-    ∙ ap (λ b. b || is_awaited rows (named g view (p, k))) (le-ltb 4294967295 k small))
+    ∙ ap (λ b. b || is_awaited rows (uid_in g view (p, k))) (le-ltb 4294967295 k small))
 
 -- so none awaits what all of them have delivered
-pub awaited_none : (g : GroupNo) (view : ℕ) (p : Proc) (k : ℕ) (rows : List Row) (done : ℕ) → done ≡ least_in rows g view p → k ≤ 4294967295 → k ≤ done → is_awaited rows (named g view (p, k)) ≡ false
+pub awaited_none : (g : GroupNo) (view : ℕ) (p : Proc) (k : ℕ) (rows : List Row) (done : ℕ) → done ≡ least_in rows g view p → k ≤ 4294967295 → k ≤ done → is_awaited rows (uid_in g view (p, k)) ≡ false
 awaited_none g view p k rows done least small within = awaited_is g view p k rows small ∙ ap (λ n. nat_lt n k) (sym least) ∙ le-ltb done k within
 
-pub awaited_some : (g : GroupNo) (view : ℕ) (p : Proc) (k : ℕ) (rows : List Row) (done : ℕ) → done ≡ least_in rows g view p → k ≤ 4294967295 → done < k → is_awaited rows (named g view (p, k)) ≡ true
+pub awaited_some : (g : GroupNo) (view : ℕ) (p : Proc) (k : ℕ) (rows : List Row) (done : ℕ) → done ≡ least_in rows g view p → k ≤ 4294967295 → done < k → is_awaited rows (uid_in g view (p, k)) ≡ true
 awaited_some g view p k rows done least small above = awaited_is g view p k rows small ∙ ap (λ n. nat_lt n k) (sym least) ∙ lt-ltb done k above
 
 -- Lists of missing messages
@@ -152,17 +152,17 @@ module _ (test : Entry → Bool) (p : Proc) where
   left_end xs before last few end = take_whole 64 xs (left before last) (left_none before last end) few
 
 -- the missing messages of one more process
-pub missing_more : (test : GroupRecord → Entry → Bool) (x y : GroupRecord) → x ≡ y → (xs new : List Entry) (cut : CountList) (i : ℕ) (e : Entry) → i < length cut → new ≡ take 64 (xs ++ filter (test x) (first_of (get_or cut i e))) → take 64 (new ++ filter (test y) (covered (drop (i + 1) cut))) ≡ take 64 (xs ++ filter (test y) (covered (drop i cut)))
+pub missing_more : (test : GroupRecord → Entry → Bool) (x y : GroupRecord) → x ≡ y → (xs new : List Entry) (cut : CountList) (i : ℕ) (e : Entry) → i < length cut → new ≡ take 64 (xs ++ filter (test x) (first_of (get_or cut i e))) → take 64 (new ++ filter (test y) (covered_entries (drop (i + 1) cut))) ≡ take 64 (xs ++ filter (test y) (covered_entries (drop i cut)))
 missing_more test x y same xs new cut i e within made =
     let here : List Entry = first_of (get_or cut i e) in
-    let rest : List Entry = covered (drop (i + 1) cut) in
+    let rest : List Entry = covered_entries (drop (i + 1) cut) in
     ap (λ (zs : List Entry). take 64 (zs ++ filter (test y) rest)) (made ∙ ap (λ z. take 64 (xs ++ filter (test z) here)) same)
     ∙ take_twice 64 (xs ++ filter (test y) here) (filter (test y) rest)
     ∙ ap (take 64) (append_assoc xs (filter (test y) here) (filter (test y) rest))
     ∙ ap (λ (zs : List Entry). take 64 (xs ++ zs)) (sym (filter-append (test y) here rest))
-    ∙ sym (at_drop_more (λ (es : List Entry). take 64 (xs ++ filter (test y) (covered es))) cut i e within)
+    ∙ sym (at_drop_more (λ (es : List Entry). take 64 (xs ++ filter (test y) (covered_entries es))) cut i e within)
 
 -- those of all processes
-pub missing_end : (test : Entry → Bool) (xs : List Entry) (cut : CountList) (i : ℕ) → length cut ≤ i → length xs ≤ 64 → xs ≡ take 64 (xs ++ filter test (covered (drop i cut)))
+pub missing_end : (test : Entry → Bool) (xs : List Entry) (cut : CountList) (i : ℕ) → length cut ≤ i → length xs ≤ 64 → xs ≡ take 64 (xs ++ filter test (covered_entries (drop i cut)))
 missing_end test xs cut i end few =
-    take_whole 64 xs (filter test (covered (drop i cut))) (ap (λ (es : List Entry). filter test (covered es)) (drop_all i cut end)) few
+    take_whole 64 xs (filter test (covered_entries (drop i cut))) (ap (λ (es : List Entry). filter test (covered_entries es)) (drop_all i cut end)) few

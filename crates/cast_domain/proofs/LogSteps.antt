@@ -9,7 +9,7 @@ use Rattle.std.proofs.lemmas.Option.{none-some}
 use Rattle.cast_types.specs.declared.names.GroupNo.{GroupNo}
 use Rattle.cast_types.specs.declared.names.Proc.{Proc}
 use Rattle.cast_types.specs.declared.names.Uid.{Uid}
-use Rattle.cast_types.specs.Names.{Entry, site_eq, group_eq, proc_eq, entry_eq, uid_eq, is_atomic, named, entry_of}
+use Rattle.cast_types.specs.Names.{Entry, site_eq, group_eq, proc_eq, entry_eq, uid_eq, is_atomic, uid_in, entry_of}
 use Rattle.cast_types.specs.Sets.{is_among, set_at}
 use Rattle.cast_types.specs.Counts.{CountList}
 use Rattle.cast_types.proofs.Orders.{same_group, site_itself}
@@ -20,8 +20,8 @@ use Rattle.cast_message.specs.declared.message.Message.{Message}
 use Rattle.cast_message.specs.Bodies.{kind_of}
 use Rattle.cast_message.specs.Placement.{Placement}
 use Rattle.cast_ready.specs.Ready.{Process, is_member, has_delivered}
-use Rattle.cast_order.specs.Hand.{Hand, held, told, FitsHand}
-use Rattle.cast_order.specs.Log.{Log, log_of, change_log, next_in, passed, hand_here, with_hand}
+use Rattle.cast_order.specs.Hand.{Hand, hold_from, note_unlisted, FitsHand}
+use Rattle.cast_order.specs.Log.{Log, log_of, change_log, next_in, pass_ids, hand_here, with_hand}
 use Rattle.cast_order.specs.Fits.{Fits as OrderFits, FitsClosed}
 use Rattle.cast_order.proofs.Meanings.{pass_fits, hand_fits, more_fits}
 use Rattle.cast_order.proofs.Closed.{closed_pass, closed_more, closed_hand}
@@ -112,8 +112,8 @@ parted (suc n) (x ∷ xs) e = elim (entry_eq e x) as (λ b. (b || is_among entry
 abbrev pub noting : Weight → State → ℕ → Message → ℕ → List Log → List Log
 noting Nothing s k m n orders = orders
 noting Placed s k m n orders =
-    if sets_order s m.id.group k then told_in m.id.group (local s k) (entry_of m.id) orders else change_log m.id.group (passed (local s k) n) orders
-noting (Hands q first) s k m n orders = if proc_eq q (local s k) then change_log m.id.group (with_hand (local s k) (held first)) orders else orders
+    if sets_order s m.id.group k then told_in m.id.group (local s k) (entry_of m.id) orders else change_log m.id.group (pass_ids (local s k) n) orders
+noting (Hands q first) s k m n orders = if proc_eq q (local s k) then change_log m.id.group (with_hand (local s k) (hold_from first)) orders else orders
 
 -- the logs tell of the orders still once a process has delivered a message that is kept, of a current view, and passed places of ids that it has
 -- delivered; an ABCAST that it delivered without the token is in the order
@@ -139,7 +139,7 @@ logs_deliver s k m n orders fits kept current opens placed passes counts h = at 
     over x = delivered_over s k m x (counts x)
 
     passed_on : (x : GroupNo) (q : Proc) (e : Entry) → has_passed s x q e ≡ true → has_passed t x q e ≡ true
-    passed_on x q e is = more_delivered s k m q (named x (s.group x).number e) is
+    passed_on x q e is = more_delivered s k m q (uid_in x (s.group x).number e) is
 
     -- what others delivered of a view, and what the process did of another view, or that is no ABCAST
     delivered_other : (x : GroupNo) (j : ℕ) → (k == j) ≡ false → abcasts_delivered t x j ≡ abcasts_delivered s x j
@@ -244,7 +244,7 @@ logs_deliver s k m n orders fits kept current opens placed passes counts h = at 
     not_over : TellsOrder s g l → is_among entry_eq e (take l.base (order_told s g)) ≡ false
     not_over x = false_from_ne_true (is_among entry_eq e (take l.base (order_told s g))) (λ is.
         let view : m.id.view ≡ (s.group g).number = eqb-true m.id.view (s.group g).number (and_parts (group_eq g g) (m.id.view == (s.group g).number) current).1 in
-        false≢true (sym (x.gone e is).let_go ∙ ap (λ v. is_still_kept s (named g v e)) (sym view) ∙ kept))
+        false≢true (sym (x.gone e is).let_go ∙ ap (λ v. is_still_kept s (uid_in g v e)) (sym view) ∙ kept))
 
     is_known : TellsOrder s g l → is_among entry_eq e l.window ≡ is_among entry_eq e (order_told s g)
     is_known x =
@@ -257,10 +257,10 @@ logs_deliver s k m n orders fits kept current opens placed passes counts h = at 
         hand_made t g k h (order_told s g) (token_of s g k) (abcasts_delivered s g k ++ e ∷ []) (lists_of s g k) refl (token_plain m.body refl atomic) (delivered_more atomic) (lists_still g)
         (x.hands k).stable (x.hands k).reached good (x.hands k).counted
 
-    told_own : is_atomic (kind_of m.body) ≡ true → is_among entry_eq e l.window ≡ false → LogFits t g (with_hand p (told e) l)
+    told_own : is_atomic (kind_of m.body) ≡ true → is_among entry_eq e l.window ≡ false → LogFits t g (with_hand p (note_unlisted e) l)
     told_own atomic unknown =
-        with_change (told e) (λ h. refl) ((fits g).tokens k ∙ sym (token_plain m.body refl atomic))
-        (λ x. own_hand atomic x (told e (hand_here l p))
+        with_change (note_unlisted e) (λ h. refl) ((fits g).tokens k ∙ sym (token_plain m.body refl atomic))
+        (λ x. own_hand atomic x (note_unlisted e (hand_here l p))
         (tell_fits (order_told s g) (token_of s g k) (abcasts_delivered s g k) (lists_of s g k) (x.hands k).stable (hand_here l p) (x.hands k).fits e (sym (is_known x) ∙ unknown)))
 
     -- one that is in the order is none to list
@@ -287,7 +287,7 @@ logs_deliver s k m n orders fits kept current opens placed passes counts h = at 
     all_passed : list_all (has_passed t g p) (take n (next_in l p)) ≡ true
     all_passed = none_left (has_passed t g p) (take n (next_in l p)) passes
 
-    passes_on : is_atomic (kind_of m.body) ≡ true → sets_order s g k ≡ false → LogFits t g (passed p n l)
+    passes_on : is_atomic (kind_of m.body) ≡ true → sets_order s g k ≡ false → LogFits t g (pass_ids p n l)
     passes_on atomic unset = record {
       tokens = tokens_still atomic;
       own = (fits g).own;
@@ -305,27 +305,27 @@ logs_deliver s k m n orders fits kept current opens placed passes counts h = at 
         is_frozen false is = absurd (false≢true (sym is))
 
     -- an ABCAST
-    atomic_at : is_atomic (kind_of m.body) ≡ true → (c : Bool) → sets_order s g k ≡ c → LogFits t h (log_of (if c then told_in g p e orders else change_log g (passed p n) orders) h)
-    atomic_at atomic false unset = changed (passed p n) (λ x. refl) (passes_on atomic unset)
-    atomic_at atomic true set = elim (is_among entry_eq e l.window) as (λ b. is_among entry_eq e l.window ≡ b → LogFits t h (log_of (if b then orders else change_log g (with_hand p (told e)) orders) h)) [
+    atomic_at : is_atomic (kind_of m.body) ≡ true → (c : Bool) → sets_order s g k ≡ c → LogFits t h (log_of (if c then told_in g p e orders else change_log g (pass_ids p n) orders) h)
+    atomic_at atomic false unset = changed (pass_ids p n) (λ x. refl) (passes_on atomic unset)
+    atomic_at atomic true set = elim (is_among entry_eq e l.window) as (λ b. is_among entry_eq e l.window ≡ b → LogFits t h (log_of (if b then orders else change_log g (with_hand p (note_unlisted e)) orders) h)) [
       | true ↦ λ known. elim (cases_Bool (group_eq g h)) [
         | inl same ↦ subst (λ x. LogFits t x (log_of orders x)) (same_group g h same) (known_own atomic known)
         | inr apart ↦ stays_apart apart
       ]
-      | false ↦ λ unknown. changed (with_hand p (told e)) (λ x. refl) (told_own atomic unknown)
+      | false ↦ λ unknown. changed (with_hand p (note_unlisted e)) (λ x. refl) (told_own atomic unknown)
     ] refl
 
     -- a hand-over
-    handed_at : (q : Placement) (r : Proc) → m.body ≡ body.Order q → q.holder ≡ Some r → (b : Bool) → proc_eq r p ≡ b → LogFits t h (log_of (if b then change_log g (with_hand p (held q.first)) orders else orders) h)
+    handed_at : (q : Placement) (r : Proc) → m.body ≡ body.Order q → q.holder ≡ Some r → (b : Bool) → proc_eq r p ≡ b → LogFits t h (log_of (if b then change_log g (with_hand p (hold_from q.first)) orders else orders) h)
     handed_at q r is names false other =
         stays_plain (ap (λ b. is_atomic (kind_of b)) is)
         (ap (token_told p (token_of s g k)) is ∙ ap (λ o. if is_process p o then Some q.first else token_of s g k) names ∙ ap (λ b. if b then Some q.first else token_of s g k) other)
     handed_at q r is names true this =
         let token : token_of t g k ≡ Some q.first =
         token_now ∙ ap (token_told p (token_of s g k)) is ∙ ap (λ o. if is_process p o then Some q.first else token_of s g k) names ∙ ap (λ b. if b then Some q.first else token_of s g k) this in
-        changed (with_hand p (held q.first)) (λ x. refl)
-        (with_change (held q.first) (λ x. refl) (sym token)
-        (λ x. hand_made t g k (held q.first (hand_here l p)) (order_told s g) (Some q.first) (abcasts_delivered s g k) (lists_of s g k) refl token (delivered_plain g (ap (λ b. is_atomic (kind_of b)) is)) (lists_still g)
+        changed (with_hand p (hold_from q.first)) (λ x. refl)
+        (with_change (hold_from q.first) (λ x. refl) (sym token)
+        (λ x. hand_made t g k (hold_from q.first (hand_here l p)) (order_told s g) (Some q.first) (abcasts_delivered s g k) (lists_of s g k) refl token (delivered_plain g (ap (λ b. is_atomic (kind_of b)) is)) (lists_still g)
         (x.hands k).stable (x.hands k).reached
         (hold_fits (order_told s g) (token_of s g k) (abcasts_delivered s g k) (lists_of s g k) (x.hands k).stable (hand_here l p) (x.hands k).fits q.first) (x.hands k).counted))
 

@@ -12,7 +12,7 @@ use Rattle.cast_types.specs.declared.names.GroupNo.{GroupNo}
 use Rattle.cast_types.specs.declared.names.Proc.{Proc}
 use Rattle.cast_types.specs.declared.names.Uid.{Uid}
 use Rattle.cast_types.specs.declared.limits.TheConstants.{MAX_NUMBER}
-use Rattle.cast_types.specs.Names.{Entry, site_eq, group_eq, proc_eq, uid_eq, entry_eq, is_order, named, entry_of}
+use Rattle.cast_types.specs.Names.{Entry, site_eq, group_eq, proc_eq, uid_eq, entry_eq, is_order, uid_in, entry_of}
 use Rattle.cast_types.specs.Sets.{is_among}
 use Rattle.cast_types.proofs.Orders.{same_group, same_proc, same_uid, group_itself, uid_itself}
 use Rattle.cast_message.specs.declared.message.Body.{Body}
@@ -28,8 +28,8 @@ use Rattle.cast_stable.proofs.Greatest.{stable_greatest}
 use Rattle.cast_ready.specs.Ready.{has_delivered}
 use Rattle.cast_types.proofs.Contains.{contains_here, contains_later}
 use Rattle.cast_order.specs.Order.{Facts, facts_of, known_order, Listing, closed_order}
-use Rattle.cast_order.specs.Hand.{Hand, placed, held, new_hand, FitsHand}
-use Rattle.cast_order.specs.Log.{Log, length_of, new_log, log_of, but_log, change_log, closed_by, with_facts, settled, learnt, place_of, hand_here, with_hand}
+use Rattle.cast_order.specs.Hand.{Hand, note_placed, hold_from, new_hand, FitsHand}
+use Rattle.cast_order.specs.Log.{Log, length_of, new_log, log_of, but_log, change_log, closed_by, with_facts, settle_log, learnt, place_of, hand_here, with_hand}
 use Rattle.cast_order.specs.Fits.{Fits as OrderFits}
 use Rattle.cast_order.specs.Fits.{FitsClosed}
 use Rattle.cast_order.proofs.Meanings.{new_fits as order_new_fits, learnt_group, learn_fits, learn_begins, hand_fits, more_fits, at_start}
@@ -84,9 +84,9 @@ hand_made t g k h order token delivered lists at_order at_token at_delivered at_
 
 -- or of one that did the same, of whose messages no fewer are stable
 pub hand_alike : (s t : State) (g : GroupNo) (k : ℕ) (h : Hand) → order_told t g ≡ order_told s g → token_of t g k ≡ token_of s g k → abcasts_delivered t g k ≡ abcasts_delivered s g k → lists_of t g k ≡ lists_of s g k → settled_of s g (local s k) ≤ settled_of t g (local t k) → TellsHand s g k h → TellsHand t g k h
-hand_alike s t g k h order token delivered lists settled f =
+hand_alike s t g k h order token delivered lists settle_log f =
     hand_made t g k h (order_told s g) (token_of s g k) (abcasts_delivered s g k) (lists_of s g k) order token delivered lists f.stable
-    (let reached = f.reached in omega (arith, reached, settled)) f.fits f.counted
+    (let reached = f.reached in omega (arith, reached, settle_log)) f.fits f.counted
 
 -- the hand of a serial's process, where the site is the same
 at_site : (l : Log) (k : ℕ) (here there : SiteNo) → here ≡ there → hand_here l (record { site = here; serial = k }) ≡ hand_here l (record { site = there; serial = k })
@@ -131,7 +131,7 @@ tokens_alike : (s t : State) (g : GroupNo) (l : Log) → IsAlike s t g l → Log
 tokens_alike s t g l a f k = ap (λ (h : Hand). h.first) (at_site l k t.here s.here a.here) ∙ f.tokens k ∙ sym (a.tokens k)
 
 passed_alike : (s t : State) (g : GroupNo) (l : Log) → IsAlike s t g l → (p : Proc) (e : Entry) → has_passed s g p e ≡ true → has_passed t g p e ≡ true
-passed_alike s t g l a p e is = ap (λ n. has_delivered (process_named t p) (named g n e)) a.number ∙ a.more p (named g (s.group g).number e) is
+passed_alike s t g l a p e is = ap (λ n. has_delivered (process_named t p) (uid_in g n e)) a.number ∙ a.more p (uid_in g (s.group g).number e) is
 
 pub tells_alike : (s t : State) (g : GroupNo) (l : Log) → IsAlike s t g l → WereMembers s t g → StaysOver s t g l → TellsOrder s g l → TellsOrder t g l
 tells_alike s t g l a were over f =
@@ -205,7 +205,7 @@ facts_push s g m current =
 
 -- a message is none that is forgotten of an order
 abbrev pub IsNew : State → GroupNo → Log → Message → Type 0
-IsNew s g l m = (e : Entry) → is_among entry_eq e (take l.base (order_told s g)) ≡ true → uid_eq m.id (named g (s.group g).number e) ≡ false
+IsNew s g l m = (e : Entry) → is_among entry_eq e (take l.base (order_told s g)) ≡ true → uid_eq m.id (uid_in g (s.group g).number e) ≡ false
 
 -- what is forgotten is over still once it is received
 gone_received : (s : State) (g : GroupNo) (m : Message) (l : Log) → IsNew s g l m → TellsOrder s g l → (e : Entry) → is_among entry_eq e (take l.base (order_told s g)) ≡ true → IsOver (receiving s m) g e
@@ -217,8 +217,8 @@ new_unreceived s g m l fresh f none e among = none_over s g m.id fresh e ((f.tel
 
 -- nor is one of another group, or another view
 new_apart : (s : State) (g : GroupNo) (m : Message) (l : Log) → is_of_view s g m.id ≡ false → IsNew s g l m
-new_apart s g m l other e among = false_from_ne_true (uid_eq m.id (named g (s.group g).number e)) (λ same.
-    let u : Uid = named g (s.group g).number e in
+new_apart s g m l other e among = false_from_ne_true (uid_eq m.id (uid_in g (s.group g).number e)) (λ same.
+    let u : Uid = uid_in g (s.group g).number e in
     let current : is_of_view s g u ≡ true = and_from (group_eq g g) ((s.group g).number == (s.group g).number) (group_itself g) (eq-eqb (s.group g).number (s.group g).number refl) in
     false≢true (sym other ∙ ap (is_of_view s g) (same_uid m.id u same) ∙ current))
 
@@ -254,7 +254,7 @@ log_silent s g m l silent new f = record { tokens = f.tokens; own = f.own; tells
 
 -- nothing of an order is forgotten as one is learnt
 pub learnt_base : (q : Placement) (l : Log) → (learnt q l).base ≡ l.base
-learnt_base q l = elim l.closed as (λ b. (if b then l else settled (record l { later = with_facts (length_of l) l.later (facts_of q) })).base ≡ l.base) [ true ↦ refl | false ↦ refl ]
+learnt_base q l = elim l.closed as (λ b. (if b then l else settle_log (record l { later = with_facts (length_of l) l.later (facts_of q) })).base ≡ l.base) [ true ↦ refl | false ↦ refl ]
 
 -- so what is forgotten is what was
 pub gone_learnt : (s : State) (m : Message) (q : Placement) (l : Log) → OrderFits (facts_in s m.id.group) (goes_on s m.id.group) (has_passed s m.id.group) l → ((e : Entry) → is_among entry_eq e (take l.base (order_told s m.id.group)) ≡ true → IsOver (receiving s m) m.id.group e) → (e : Entry) → is_among entry_eq e (take (learnt q l).base (known_order (facts_in s m.id.group ++ facts_of q))) ≡ true → IsOver (receiving s m) m.id.group e
@@ -275,7 +275,7 @@ tells_learns s m q l is current new f =
     let h : Hand = hand_here l (local s k) in
     let before : TellsHand s g k h = f.hands k in
     subst (TellsHand (receiving s m) g k) (sym (each (local s k)))
-    (hand_made (receiving s m) g k (placed ids h) (order_told s g ++ ids) (token_of s g k) (abcasts_delivered s g k) (lists_of s g k)
+    (hand_made (receiving s m) g k (note_placed ids h) (order_told s g ++ ids) (token_of s g k) (abcasts_delivered s g k) (lists_of s g k)
     (ap known_order at ∙ grown) refl refl refl before.stable before.reached
     (place_fits (order_told s g) (token_of s g k) (abcasts_delivered s g k) (lists_of s g k) before.stable h before.fits ids) before.counted))
     (gone_learnt s m q l f.fits (gone_received s g m l new f))
@@ -394,7 +394,7 @@ old_act s h n (Left g) reached later = tt
 -- a new log of a view that names a holder, which is a process here, or none is
 abbrev pub held_log : GroupNo → Option Proc → Log
 held_log g None = new_log g
-held_log g (Some p) = with_hand p (held 1) (new_log g)
+held_log g (Some p) = with_hand p (hold_from 1) (new_log g)
 
 held_base : (g : GroupNo) (o : Option Proc) → (held_log g o).base ≡ 0
 held_base g None = refl
@@ -410,7 +410,7 @@ held_fresh g (Some q) = (refl, λ p. refl)
 
 held_fits : (g : GroupNo) (o : Option Proc) (goes : Proc → Bool) (has : Proc → Entry → Bool) → OrderFits [] goes has (held_log g o)
 held_fits g None goes has = order_new_fits g goes has
-held_fits g (Some p) goes has = hand_fits [] goes has (new_log g) (order_new_fits g goes has) p (held 1)
+held_fits g (Some p) goes has = hand_fits [] goes has (new_log g) (order_new_fits g goes has) p (hold_from 1)
 
 abbrev held_hand : Proc → Option ℕ → Hand
 held_hand p token = record (new_hand p) { first = token }
@@ -424,14 +424,14 @@ held_of here k g None = refl
 held_of here k g (Some q) = elim (cases_Bool (site_eq q.site here)) [
   | inl at ↦
       ap (λ b. hand_here (held_log g (if b then Some q else None)) (record { site = here; serial = k })) at
-      ∙ hand_of_change [] q (record { site = here; serial = k }) (held 1) (λ h. refl)
+      ∙ hand_of_change [] q (record { site = here; serial = k }) (hold_from 1) (λ h. refl)
       ∙ elim (cases_Bool (proc_eq q (record { site = here; serial = k }))) [
         | inl same ↦
-            ap (λ b. if b then held 1 (new_hand q) else new_hand (record { site = here; serial = k })) same
-            ∙ ap (λ p. held 1 (new_hand p)) (same_proc q (record { site = here; serial = k }) same)
+            ap (λ b. if b then hold_from 1 (new_hand q) else new_hand (record { site = here; serial = k })) same
+            ∙ ap (λ p. hold_from 1 (new_hand p)) (same_proc q (record { site = here; serial = k }) same)
             ∙ ap (λ b. held_hand (record { site = here; serial = k }) (if b then Some 1 else None)) (sym same)
         | inr other ↦
-            ap (λ b. if b then held 1 (new_hand q) else new_hand (record { site = here; serial = k })) other
+            ap (λ b. if b then hold_from 1 (new_hand q) else new_hand (record { site = here; serial = k })) other
             ∙ ap (λ b. held_hand (record { site = here; serial = k }) (if b then Some 1 else None)) (sym other)
       ]
   | inr away ↦
@@ -443,7 +443,7 @@ held_of here k g (Some q) = elim (cases_Bool (site_eq q.site here)) [
 held_own : (here : SiteNo) (g : GroupNo) (o : Option Proc) → AreOwn here (held_log g (elim o [ Some p ↦ if site_eq p.site here then Some p else None | None ↦ None ])).hands
 held_own here g None = (refl, refl)
 held_own here g (Some q) = elim (site_eq q.site here) as (λ b. site_eq q.site here ≡ b → AreOwn here (held_log g (if b then Some q else None)).hands) [
-  | true ↦ λ at. own_changed here q at (held 1) (λ h. refl) [] (refl, refl)
+  | true ↦ λ at. own_changed here q at (hold_from 1) (λ h. refl) [] (refl, refl)
   | false ↦ λ _. (refl, refl)
 ] refl
 
@@ -502,17 +502,17 @@ log_new s g h w same traced less none_waits = record {
 pub log_of_held : (orders : List Log) (g h : GroupNo) (o : Option Proc) → log_of (holding_from g o (but_log g orders)) h ≡ (if group_eq g h then held_log g o else log_of orders h)
 log_of_held orders g h None = log_of_forget orders g h
 log_of_held orders g h (Some p) =
-    log_of_change (but_log g orders) g h (with_hand p (held 1)) (λ l. refl)
+    log_of_change (but_log g orders) g h (with_hand p (hold_from 1)) (λ l. refl)
     ∙ elim (cases_Bool (group_eq g h)) [
       | inl same ↦
-          ap (λ b. if b then with_hand p (held 1) (log_of (but_log g orders) g) else log_of (but_log g orders) h) same
-          ∙ ap (with_hand p (held 1)) (log_of_forget orders g g ∙ ap (λ b. if b then new_log g else log_of orders g) (group_itself g))
-          ∙ ap (λ b. if b then with_hand p (held 1) (new_log g) else log_of orders h) (sym same)
+          ap (λ b. if b then with_hand p (hold_from 1) (log_of (but_log g orders) g) else log_of (but_log g orders) h) same
+          ∙ ap (with_hand p (hold_from 1)) (log_of_forget orders g g ∙ ap (λ b. if b then new_log g else log_of orders g) (group_itself g))
+          ∙ ap (λ b. if b then with_hand p (hold_from 1) (new_log g) else log_of orders h) (sym same)
       | inr apart ↦
-          ap (λ b. if b then with_hand p (held 1) (log_of (but_log g orders) g) else log_of (but_log g orders) h) apart
+          ap (λ b. if b then with_hand p (hold_from 1) (log_of (but_log g orders) g) else log_of (but_log g orders) h) apart
           ∙ log_of_forget orders g h
           ∙ ap (λ b. if b then new_log g else log_of orders h) apart
-          ∙ ap (λ b. if b then with_hand p (held 1) (new_log g) else log_of orders h) (sym apart)
+          ∙ ap (λ b. if b then with_hand p (hold_from 1) (new_log g) else log_of orders h) (sym apart)
     ]
 
 -- a group's log is a new one once the group has a later view, and the others' stay
@@ -581,7 +581,7 @@ logs_close s g p tail orders first fits h =
           closed = λ _.
               subst (λ x. FitsClosed x (goes_on t g) (has_passed t g) (closed_by (is_within p.cut) tail.start tail.ids l)) (sym order)
               (closed_more (closed_order (is_within p.cut) tail.start tail.ids (order_told s g)) (goes_on s g) (has_passed s g) (closed_by (is_within p.cut) tail.start tail.ids l) ended (goes_on t g) (has_passed t g) (λ q is. is)
-              (λ q e is. ap (λ n. has_delivered (process_named s q) (named g n e)) number ∙ is));
+              (λ q e is. ap (λ n. has_delivered (process_named s q) (uid_in g n e)) number ∙ is));
         }
 
 -- Acknowledgements
@@ -597,8 +597,8 @@ upto_grows acks x others g v p some =
     elim (cases_lt m n) [
       | inl less ↦
           let (site, at, lacks) = after.next in
-          let was : has_acked acks (named g v (p, m + 1)) site ≡ true = before.all site (m + 1) at (omega arith) (omega (arith, less)) in
-          absurd (false≢true (sym lacks ∙ list_any-append (λ a. site_eq a.0 site && uid_eq a.1 (named g v (p, m + 1))) acks (x ∷ []) ∙ or_left (has_acked acks (named g v (p, m + 1)) site) (has_acked (x ∷ []) (named g v (p, m + 1)) site) was))
+          let was : has_acked acks (uid_in g v (p, m + 1)) site ≡ true = before.all site (m + 1) at (omega arith) (omega (arith, less)) in
+          absurd (false≢true (sym lacks ∙ list_any-append (λ a. site_eq a.0 site && uid_eq a.1 (uid_in g v (p, m + 1))) acks (x ∷ []) ∙ or_left (has_acked acks (uid_in g v (p, m + 1)) site) (has_acked (x ∷ []) (uid_in g v (p, m + 1)) site) was))
       | inr least ↦ omega (arith, least)
     ]
 

@@ -13,7 +13,7 @@ use Rattle.cast_types.specs.declared.names.GroupNo.{GroupNo}
 use Rattle.cast_types.specs.declared.names.Proc.{Proc}
 use Rattle.cast_types.specs.declared.names.Uid.{Uid}
 use Rattle.cast_types.specs.declared.limits.TheConstants.{MAX_NUMBER, MAX_UNSETTLED, MAX_POSITION}
-use Rattle.cast_types.specs.Names.{Entry, group_eq, named, entry_of, entry_eq, uid_eq, site_eq, proc_eq}
+use Rattle.cast_types.specs.Names.{Entry, group_eq, uid_in, entry_of, entry_eq, uid_eq, site_eq, proc_eq}
 use Rattle.cast_types.specs.Sets.{is_among}
 use Rattle.cast_types.proofs.Orders.{same_group, group_itself, site_itself, uid_itself}
 use Rattle.cast_types.proofs.Rising.{all_kept}
@@ -42,7 +42,7 @@ use Rattle.cast_view.specs.declared.member.Pending.{Pending}
 use Rattle.cast_view.specs.MemberSide.{is_pending, members_of}
 use Rattle.cast_view.specs.Home.{is_empty}
 use Rattle.cast_rules.specs.State.{State, local, is_group, gate_of, others_of}
-use Rattle.cast_rules.specs.Order.{facts_in, order_told, order_of, order_by, holds, sets_order, token_of, lists_of, is_of_view, abcasts_delivered, unlisted, settled_to, unsettled, has_place, place_to_pass}
+use Rattle.cast_rules.specs.Order.{facts_in, order_told, order_of, order_by, holds, sets_order, token_of, lists_of, is_of_view, abcasts_delivered, unlisted_ids, settled_to, unsettled_ids, has_place, place_to_pass}
 use Rattle.cast_rules.specs.Turns.{has_room_for_order, turn_of}
 use Rattle.cast_rules.specs.Lawful.{Waits, IsLawful, IsTraced}
 use Rattle.cast_quota.specs.Quotas as quota
@@ -79,10 +79,10 @@ settled_there r s f g p local = at (others_of s g) refl
     live = live_now s (source g n p) refl (or_right (is_among proc_eq p (members_of (s.group g))) (site_eq p.site s.here) local)
 
     at : (others : List SiteNo) → others_of s g ≡ others → settled_in r g n p ≡ (if is_empty others then MAX_NUMBER else stable_upto s.acks others g n p)
-    at [] is = ap (λ (xs : List SiteNo). if is_empty xs then MAX_NUMBER else upto_in r.acks (named g n (p, 0))) (f.acks.views g ∙ is)
+    at [] is = ap (λ (xs : List SiteNo). if is_empty xs then MAX_NUMBER else upto_in r.acks (uid_in g n (p, 0))) (f.acks.views g ∙ is)
     at (x ∷ others) is =
-        ap (λ (xs : List SiteNo). if is_empty xs then MAX_NUMBER else upto_in r.acks (named g n (p, 0))) (f.acks.views g ∙ is)
-        ∙ upto_meant (past_of s) r.acks f.acks (named g n (p, 0)) live (λ none. some (sym is ∙ none))
+        ap (λ (xs : List SiteNo). if is_empty xs then MAX_NUMBER else upto_in r.acks (uid_in g n (p, 0))) (f.acks.views g ∙ is)
+        ∙ upto_meant (past_of s) r.acks f.acks (uid_in g n (p, 0)) live (λ none. some (sym is ∙ none))
         ∙ ap (λ xs. stable_upto s.acks xs g n p) is
       where
         some : x ∷ others ≡ [] → ⊥
@@ -95,12 +95,12 @@ filter_agree t u (x ∷ xs) same =
     ∙ ap (λ ys. cond (u x) (x ∷ ys) ys) (filter_agree t u xs (λ y in_it. same y (contains_later y x xs in_it)))
 
 -- a holder's message is stable if it is among the settled ones
-stable_settled : (s : State) (g : GroupNo) (k : ℕ) (count : ℕ) → count ≤ MAX_NUMBER → nat_le count (settled_of s g (local s k)) ≡ is_known_stable s.here (others_of s g) s.acks s.told (named g (s.group g).number (local s k, count))
+stable_settled : (s : State) (g : GroupNo) (k : ℕ) (count : ℕ) → count ≤ MAX_NUMBER → nat_le count (settled_of s g (local s k)) ≡ is_known_stable s.here (others_of s g) s.acks s.told (uid_in g (s.group g).number (local s k, count))
 stable_settled s g k count most = at (others_of s g)
   where
-    at : (others : List SiteNo) → nat_le count (if is_empty others then MAX_NUMBER else stable_upto s.acks others g (s.group g).number (local s k)) ≡ is_known_stable s.here others s.acks s.told (named g (s.group g).number (local s k, count))
+    at : (others : List SiteNo) → nat_le count (if is_empty others then MAX_NUMBER else stable_upto s.acks others g (s.group g).number (local s k)) ≡ is_known_stable s.here others s.acks s.told (uid_in g (s.group g).number (local s k, count))
     at [] = le-leb count MAX_NUMBER most
-    at (x ∷ others) = sym (ap (λ b. if b then nat_le count (stable_upto s.acks (x ∷ others) g (s.group g).number (local s k)) else was_told s.told (named g (s.group g).number (local s k, count))) (site_itself s.here))
+    at (x ∷ others) = sym (ap (λ b. if b then nat_le count (stable_upto s.acks (x ∷ others) g (s.group g).number (local s k)) else was_told s.told (uid_in g (s.group g).number (local s k, count))) (site_itself s.here))
 
 -- how many places a process has settled
 settled_to_there : (r : Records) (s : State) → Fits r s → (g : GroupNo) (k : ℕ) → is_pending (s.group g) ≡ false → settled_at r (local s k) (record_for s g) ≡ settled_to s g k
@@ -110,10 +110,10 @@ settled_to_there r s f g k none =
     let h : Hand = hand_here (log_of r.orders g) (local s k) in
     ap (λ m. settled_by m h) (settled_there r s f g (local s k) (site_itself s.here))
     ∙ settled_rules (order_told s g) (token_of s g k) (abcasts_delivered s g k) (lists_of s g k) t.stable h t.fits n t.reached
-    ∙ ap (λ ls. settled_places (token_of s g k) (last_listed ls)) (filter_agree (λ x. nat_le x.0 n) (λ x. is_known_stable s.here (others_of s g) s.acks s.told (named g (s.group g).number (local s k, x.0))) (lists_of s g k) (λ x in_it. stable_settled s g k x.0 (t.counted x in_it)))
+    ∙ ap (λ ls. settled_places (token_of s g k) (last_listed ls)) (filter_agree (λ x. nat_le x.0 n) (λ x. is_known_stable s.here (others_of s g) s.acks s.told (uid_in g (s.group g).number (local s k, x.0))) (lists_of s g k) (λ x in_it. stable_settled s g k x.0 (t.counted x in_it)))
 
 -- what a process has to list
-pub waiting_there : (s : State) (g : GroupNo) (k : ℕ) (l : Log) → TellsOrder s g l → (hand_here l (local s k)).waiting ≡ unlisted s g k
+pub waiting_there : (s : State) (g : GroupNo) (k : ℕ) (l : Log) → TellsOrder s g l → (hand_here l (local s k)).waiting ≡ unlisted_ids s g k
 waiting_there s g k l t = (t.hands k).fits.waiting
 
 -- how many ids are known
@@ -163,38 +163,38 @@ passing_past t n base xs within all = elim (cases_lt n base) [
     plus m = omega arith
 
 -- what a process noted as delivered it has delivered
-named_back : (s : State) (g : GroupNo) (u : Uid) → is_of_view s g u ≡ true → named g (s.group g).number (entry_of u) ≡ u
+named_back : (s : State) (g : GroupNo) (u : Uid) → is_of_view s g u ≡ true → uid_in g (s.group g).number (entry_of u) ≡ u
 named_back s g u of_view =
     let parts = and_parts (group_eq u.group g) (u.view == (s.group g).number) of_view in
     λ i. record { group = sym (same_group u.group g parts.0) i; view = sym (eqb-true u.view (s.group g).number parts.1) i; proc = u.proc; count = u.count }
 
-noted_delivered : (s : State) (g : GroupNo) (k : ℕ) (us : List Uid) → ((u : Uid) → is_among uid_eq u us ≡ true → has_delivered (s.process k) u ≡ true) → list_all (λ e. has_delivered (s.process k) (named g (s.group g).number e)) (map entry_of (filter (is_of_view s g) us)) ≡ true
+noted_delivered : (s : State) (g : GroupNo) (k : ℕ) (us : List Uid) → ((u : Uid) → is_among uid_eq u us ≡ true → has_delivered (s.process k) u ≡ true) → list_all (λ e. has_delivered (s.process k) (uid_in g (s.group g).number e)) (map entry_of (filter (is_of_view s g) us)) ≡ true
 noted_delivered s g k [] each = refl
 noted_delivered s g k (u ∷ us) each =
     let rest = noted_delivered s g k us (λ v among. each v (or_right (uid_eq v u) (is_among uid_eq v us) among)) in
-    elim (is_of_view s g u) as (λ b. is_of_view s g u ≡ b → list_all (λ e. has_delivered (s.process k) (named g (s.group g).number e)) (map entry_of (cond b (u ∷ filter (is_of_view s g) us) (filter (is_of_view s g) us))) ≡ true) [
+    elim (is_of_view s g u) as (λ b. is_of_view s g u ≡ b → list_all (λ e. has_delivered (s.process k) (uid_in g (s.group g).number e)) (map entry_of (cond b (u ∷ filter (is_of_view s g) us) (filter (is_of_view s g) us))) ≡ true) [
       | true ↦ λ is.
-          and_from (has_delivered (s.process k) (named g (s.group g).number (entry_of u))) _
+          and_from (has_delivered (s.process k) (uid_in g (s.group g).number (entry_of u))) _
           (ap (has_delivered (s.process k)) (named_back s g u is) ∙ each u (or_left (uid_eq u u) (is_among uid_eq u us) (uid_itself u))) rest
       | false ↦ λ _. rest
     ] refl
 
-unlisted_delivered : (s : State) (g : GroupNo) (k : ℕ) → IsTraced s → list_all (λ e. has_delivered (s.process k) (named g (s.group g).number e)) (unlisted s g k) ≡ true
+unlisted_delivered : (s : State) (g : GroupNo) (k : ℕ) → IsTraced s → list_all (λ e. has_delivered (s.process k) (uid_in g (s.group g).number e)) (unlisted_ids s g k) ≡ true
 unlisted_delivered s g k traced =
-    all_kept (λ e. has_delivered (s.process k) (named g (s.group g).number e)) (λ e. not (is_among entry_eq e (order_told s g))) (abcasts_delivered s g k)
+    all_kept (λ e. has_delivered (s.process k) (uid_in g (s.group g).number e)) (λ e. not (is_among entry_eq e (order_told s g))) (abcasts_delivered s g k)
     (noted_delivered s g k (s.abcasts k) (traced.delivered k))
 
 -- how many ids past the places that it has settled a member has delivered
-unsettled_there : (r : Records) (s : State) → Fits r s → IsLawful s → (g : GroupNo) (k : ℕ) → is_pending (s.group g) ≡ false → is_member ((s.process k).standing g) ≡ true → unsettled_at r (local s k) (record_for s g) ≡ length (unsettled s g k)
+unsettled_there : (r : Records) (s : State) → Fits r s → IsLawful s → (g : GroupNo) (k : ℕ) → is_pending (s.group g) ≡ false → is_member ((s.process k).standing g) ≡ true → unsettled_at r (local s k) (record_for s g) ≡ length (unsettled_ids s g k)
 unsettled_there r s f l g k none member =
     (λ i. ((log.base - settled i) + length (filter (asked i) (known_past (settled i) log))) + (length (waiting_there s g k log t i) - (settled i - known_there s g log t i)))
-    ∙ ap (λ xs. ((log.base - n) + length (filter has xs)) + (length (unlisted s g k) - (n - length order))) (past_rules (facts_in s g) (goes_on s g) (has_passed s g) log t.fits n)
-    ∙ ap (λ m. m + (length (unlisted s g k) - (n - length order))) (passing_past has n log.base order within forgotten)
-    ∙ ap (λ m. length (filter has (drop n order)) + m) (sym (length-drop (n - length order) (unlisted s g k)))
-    ∙ ap (λ xs. length (filter has (drop n order)) + length xs) (sym (filter_all has (drop (n - length order) (unlisted s g k)) (all_past has (n - length order) (unlisted s g k) (unlisted_delivered s g k l.traced))))
-    ∙ sym (length-append (filter has (drop n order)) (filter has (drop (n - length order) (unlisted s g k))))
-    ∙ ap length (sym (filter-append has (drop n order) (drop (n - length order) (unlisted s g k))))
-    ∙ ap (λ xs. length (filter has xs)) (sym (drop_on n order (unlisted s g k)))
+    ∙ ap (λ xs. ((log.base - n) + length (filter has xs)) + (length (unlisted_ids s g k) - (n - length order))) (past_rules (facts_in s g) (goes_on s g) (has_passed s g) log t.fits n)
+    ∙ ap (λ m. m + (length (unlisted_ids s g k) - (n - length order))) (passing_past has n log.base order within forgotten)
+    ∙ ap (λ m. length (filter has (drop n order)) + m) (sym (length-drop (n - length order) (unlisted_ids s g k)))
+    ∙ ap (λ xs. length (filter has (drop n order)) + length xs) (sym (filter_all has (drop (n - length order) (unlisted_ids s g k)) (all_past has (n - length order) (unlisted_ids s g k) (unlisted_delivered s g k l.traced))))
+    ∙ sym (length-append (filter has (drop n order)) (filter has (drop (n - length order) (unlisted_ids s g k))))
+    ∙ ap length (sym (filter-append has (drop n order) (drop (n - length order) (unlisted_ids s g k))))
+    ∙ ap (λ xs. length (filter has xs)) (sym (drop_on n order (unlisted_ids s g k)))
   where
     log : Log
     log = log_of r.orders g
@@ -209,7 +209,7 @@ unsettled_there r s f l g k none member =
     order = order_told s g
 
     has : Entry → Bool
-    has e = has_delivered (s.process k) (named g (s.group g).number e)
+    has e = has_delivered (s.process k) (uid_in g (s.group g).number e)
 
     settled : settled_at r (local s k) (record_for s g) ≡ n
     settled = settled_to_there r s f g k none
@@ -217,8 +217,8 @@ unsettled_there r s f l g k none member =
     row : IsSome (row_of r.delay.rows (local s k))
     row = member_row r s f k g member
 
-    asked : (λ e. delivered_in r.delay (local s k) (named g (s.group g).number e)) ≡ has
-    asked = λ i e. (delivered_rules s.config.groups (gate_of s) (process_named s) r.part.kept r.delay f.processes.delay (local s k) (named g (s.group g).number e) row (omega arith) ∙ ap (λ x. has_delivered x (named g (s.group g).number e)) (process_here s k)) i
+    asked : (λ e. delivered_in r.delay (local s k) (uid_in g (s.group g).number e)) ≡ has
+    asked = λ i e. (delivered_rules s.config.groups (gate_of s) (process_named s) r.part.kept r.delay f.processes.delay (local s k) (uid_in g (s.group g).number e) row (omega arith) ∙ ap (λ x. has_delivered x (uid_in g (s.group g).number e)) (process_here s k)) i
 
     within : log.base ≤ length order
     within = let le = t.fits.forgotten in omega (arith, le)
@@ -227,7 +227,7 @@ unsettled_there r s f l g k none member =
     passed = none_left (has_passed s g (local s k)) (take (place_of log (local s k)) order) (t.fits.passed (local s k) (ap (λ (x : Process). is_member (x.standing g)) (process_here s k) ∙ member))
 
     forgotten : list_all has (take log.base order) ≡ true
-    forgotten = subst (λ x. list_all (λ e. has_delivered x (named g (s.group g).number e)) (take log.base order) ≡ true) (process_here s k) (all_first (has_passed s g (local s k)) log.base (place_of log (local s k)) order (omega arith) passed)
+    forgotten = subst (λ x. list_all (λ e. has_delivered x (uid_in g (s.group g).number e)) (take log.base order) ≡ true) (process_here s k) (all_first (has_passed s g (local s k)) log.base (place_of log (local s k)) order (omega arith) passed)
 
 -- the known order, while no Install waits
 pub order_unclosed : (s : State) (g : GroupNo) → is_pending (s.group g) ≡ false → order_of s g ≡ order_told s g
@@ -235,7 +235,7 @@ order_unclosed s g none = ap (λ b. if b then s.closed g else order_told s g) no
 
 -- so many places there are up to the last id that a process has to list
 places_by_there : (s : State) (g : GroupNo) (k : ℕ) (l : Log) → TellsOrder s g l → places_by l (local s k) ≡ length (order_by s g k)
-places_by_there s g k l t = (λ i. known_there s g l t i + length (waiting_there s g k l t i)) ∙ sym (length-append (order_told s g) (unlisted s g k))
+places_by_there s g k l t = (λ i. known_there s g l t i + length (waiting_there s g k l t i)) ∙ sym (length-append (order_told s g) (unlisted_ids s g k))
 
 -- room for one more ABCAST at a member
 room_there : (r : Records) (s : State) → Fits r s → IsLawful s → (g : GroupNo) (k : ℕ) → is_pending (s.group g) ≡ false → is_member ((s.process k).standing g) ≡ true → has_room_at r (local s k) (record_for s g) ≡ has_room_for_order s g k
@@ -248,20 +248,20 @@ pub place_to_pass_there : (r : Records) (s : State) → Fits r s → IsLawful s 
 place_to_pass_there r s f l g k none member =
     let t = (f.orders g).tells none in
     (λ i. if (unsettled_there r s f l g k none member i == 0) && nat_lt (places_by_there s g k (log_of r.orders g) t i) MAX_POSITION then Some (places_by_there s g k (log_of r.orders g) t i + 1) else None)
-    ∙ ap (λ b. if b && has_place (order_by s g k) then Some (place_after (order_by s g k)) else None) (no_length (unsettled s g k))
+    ∙ ap (λ b. if b && has_place (order_by s g k) then Some (place_after (order_by s g k)) else None) (no_length (unsettled_ids s g k))
   where
     no_length : (xs : List Entry) → (length xs == 0) ≡ is_empty xs
     no_length [] = refl
     no_length (x ∷ xs) = grind (arith, nat_tests)
 
 -- the next id that a member has not delivered
-next_there : (r : Records) (s : State) → Fits r s → (g : GroupNo) (k : ℕ) → IsSome (row_of r.delay.rows (local s k)) → is_member ((process_named s (local s k)).standing g) ≡ true → slice_get (next_in (log_of r.orders g) (local s k)) (passed_in r.delay (local s k) g (s.group g).number (next_in (log_of r.orders g) (local s k))) ≡ find (λ e. not (has_delivered (s.process k) (named g (s.group g).number e))) (order_of s g)
+next_there : (r : Records) (s : State) → Fits r s → (g : GroupNo) (k : ℕ) → IsSome (row_of r.delay.rows (local s k)) → is_member ((process_named s (local s k)).standing g) ≡ true → slice_get (next_in (log_of r.orders g) (local s k)) (passed_in r.delay (local s k) g (s.group g).number (next_in (log_of r.orders g) (local s k))) ≡ find (λ e. not (has_delivered (s.process k) (uid_in g (s.group g).number e))) (order_of s g)
 next_there r s f g k row member =
     let l : Log = log_of r.orders g in
     let p : Proc = local s k in
     sym (passed_next s.config.groups (gate_of s) (process_named s) r.part.kept r.delay f.processes.delay p g (s.group g).number (next_in l p) row (omega arith))
     ∙ sym (next_known (f.orders g))
-    ∙ ap (λ x. find (λ e. not (has_delivered x (named g (s.group g).number e))) (order_of s g)) (process_here s k)
+    ∙ ap (λ x. find (λ e. not (has_delivered x (uid_in g (s.group g).number e))) (order_of s g)) (process_here s k)
   where
     -- of the order as it was told, or of the one that is closed
     next_known : LogFits s g (log_of r.orders g) → next_of (has_passed s g (local s k)) (order_of s g) ≡ next_of (has_passed s g (local s k)) (next_in (log_of r.orders g) (local s k))
@@ -292,11 +292,11 @@ turn_there r s f l g k row member =
       | inl sets ↦
           ap (λ b. if b then Holding (has_room_at r (local s k) (record_for s g)) else following) sets
           ∙ ap Holding (room_there r s f l g k (unfrozen_waits s l g (and_parts (holds s g k) (not (s.group g).frozen) sets).1) (ap (λ (x : Process). is_member (x.standing g)) (sym (process_here s k)) ∙ member))
-          ∙ sym (ap (λ b. if b then Holding (has_room_for_order s g k) else Following (find (λ e. not (has_delivered (s.process k) (named g (s.group g).number e))) (order_of s g))) sets)
+          ∙ sym (ap (λ b. if b then Holding (has_room_for_order s g k) else Following (find (λ e. not (has_delivered (s.process k) (uid_in g (s.group g).number e))) (order_of s g))) sets)
       | inr away ↦
           ap (λ b. if b then Holding (has_room_at r (local s k) (record_for s g)) else following) away
           ∙ ap Following (next_there r s f g k row member)
-          ∙ sym (ap (λ b. if b then Holding (has_room_for_order s g k) else Following (find (λ e. not (has_delivered (s.process k) (named g (s.group g).number e))) (order_of s g))) away)
+          ∙ sym (ap (λ b. if b then Holding (has_room_for_order s g k) else Following (find (λ e. not (has_delivered (s.process k) (uid_in g (s.group g).number e))) (order_of s g))) away)
     ]
   where
     following : Turn
@@ -336,7 +336,7 @@ places_there r s f g k none =
     let t = (f.orders g).tells none in
     let h = t.hands k in
     assign_rules (facts_in s g) (goes_on s g) (has_passed s g) (log_of r.orders g) t.fits (token_of s g k) (abcasts_delivered s g k) (lists_of s g k) h.stable (local s k) h.fits
-    ∙ ap (λ b. if b && has_place (order_told s g) then Some (places_of s g k) else None) (some (unlisted s g k))
+    ∙ ap (λ b. if b && has_place (order_told s g) then Some (places_of s g k) else None) (some (unlisted_ids s g k))
   where
     some : (xs : List Entry) → nat_lt 0 (length xs) ≡ not (is_empty xs)
     some [] = refl

@@ -11,7 +11,7 @@ use Rattle.cast_types.specs.declared.names.GroupNo.{GroupNo}
 use Rattle.cast_types.specs.declared.names.Proc.{Proc}
 use Rattle.cast_types.specs.declared.names.Uid.{Uid}
 use Rattle.cast_types.specs.declared.clock.Clock.{Clock}
-use Rattle.cast_types.specs.Names.{Entry, group_cmp, proc_cmp, uid_eq, entry_eq, named}
+use Rattle.cast_types.specs.Names.{Entry, group_cmp, proc_cmp, uid_eq, entry_eq, uid_in}
 use Rattle.cast_types.specs.Sets.{is_among, at_order}
 use Rattle.cast_types.specs.Counts.{CountList, count_of}
 use Rattle.cast_types.specs.Stamps.{ClockList}
@@ -43,8 +43,8 @@ AllCountOn s t g = (k : ℕ) → is_member ((t.process k).standing g) ≡ true �
 -- so it is where the same was received, no more is kept, and members count on
 pub over_alike : (s t : State) (g : GroupNo) → t.here ≡ s.here → (t.group g).number ≡ (s.group g).number → t.got ≡ s.got → KeepsNoMore s t → AllCountOn s t g → (e : Entry) → IsOver s g e → IsOver t g e
 over_alike s t g here number got kept members e over = record {
-  received = (λ i. list_any (λ m. uid_eq m.id (named g (number i) e)) (got i)) ∙ over.received;
-  let_go = ap (λ n. is_still_kept t (named g n e)) number ∙ kept (named g (s.group g).number e) over.let_go;
+  received = (λ i. list_any (λ m. uid_eq m.id (uid_in g (number i) e)) (got i)) ∙ over.received;
+  let_go = ap (λ n. is_still_kept t (uid_in g n e)) number ∙ kept (uid_in g (s.group g).number e) over.let_go;
   counted = λ k member is.
       let on = members k member in
       let before : e.1 ≤ count_in (s.process k).time g (local s k) = over.counted k on.member (is ∙ (λ i. record { site = here i; serial = k })) in
@@ -71,14 +71,14 @@ CountsOnIn s k m g = is_member ((s.process k).standing g) ≡ true → count_in 
 -- Messages that come
 
 -- a message that was not received is none that is over
-pub none_over : (s : State) (g : GroupNo) (u : Uid) → is_received s u ≡ false → (e : Entry) → IsOver s g e → uid_eq u (named g (s.group g).number e) ≡ false
-none_over s g u new e over = false_from_ne_true (uid_eq u (named g (s.group g).number e)) (λ same.
-    false≢true (sym new ∙ ap (is_received s) (same_uid u (named g (s.group g).number e) same) ∙ over.received))
+pub none_over : (s : State) (g : GroupNo) (u : Uid) → is_received s u ≡ false → (e : Entry) → IsOver s g e → uid_eq u (uid_in g (s.group g).number e) ≡ false
+none_over s g u new e over = false_from_ne_true (uid_eq u (uid_in g (s.group g).number e)) (λ same.
+    false≢true (sym new ∙ ap (is_received s) (same_uid u (uid_in g (s.group g).number e) same) ∙ over.received))
 
 -- and where another message is received, what is over is over still
-pub over_received : (s : State) (m : Message) (g : GroupNo) (e : Entry) → uid_eq m.id (named g (s.group g).number e) ≡ false → IsOver s g e → IsOver (receiving s m) g e
+pub over_received : (s : State) (m : Message) (g : GroupNo) (e : Entry) → uid_eq m.id (uid_in g (s.group g).number e) ≡ false → IsOver s g e → IsOver (receiving s m) g e
 over_received s m g e other over =
-    let u : Uid = named g (s.group g).number e in
+    let u : Uid = uid_in g (s.group g).number e in
     let last : list_any (λ (x : Message). uid_eq x.id u) (m ∷ []) ≡ false = ap (λ b. b || false) other in
     record {
       received = list_any-append (λ (x : Message). uid_eq x.id u) s.got (m ∷ []) ∙ or_left (is_received s u) (list_any (λ (x : Message). uid_eq x.id u) (m ∷ [])) over.received;

@@ -11,7 +11,7 @@ use Rattle.cast_message.specs.declared.message.Received.{Received}
 use Rattle.cast_message.specs.Receipts.{messages}
 use Rattle.cast_timer.specs.declared.key.Owed.{Owed}
 use Rattle.cast_timer.specs.declared.key.OwedKey.{OwedKey}
-use Rattle.cast_timer.specs.Owed.{with_owed, paid, is_of_view, is_upto, renewed, key_eq}
+use Rattle.cast_timer.specs.Owed.{with_owed, paid, is_of_view, is_upto, renew, key_eq}
 use Rattle.cast_rules.specs.State.{State, message_of}
 use Rattle.cast_rules.specs.Owing.{next_due, noting_owed, noting_resent, paying, paying_upto, paying_view, at_moment}
 use Rattle.cast_domain.specs.Records.{Records}
@@ -69,7 +69,7 @@ pub fits_note_owed : (r : Records) (s : State) → Fits r s → (key : OwedKey) 
 fits_note_owed r s fits key = fits_owed r s fits (with_owed r.part.owed key (next_due_in r)) (with_owed s.owed key (next_due s)) (λ i. with_owed (fits.core i).owed key (due_same r s fits i))
 
 pub fits_note_resent : (r : Records) (s : State) → Fits r s → (key : OwedKey) → Fits (note_resent_in r key) (noting_resent s key)
-fits_note_resent r s fits key = fits_owed r s fits (renewed r.part.owed key (next_due_in r)) (renewed s.owed key (next_due s)) (λ i. renewed (fits.core i).owed key (due_same r s fits i))
+fits_note_resent r s fits key = fits_owed r s fits (renew r.part.owed key (next_due_in r)) (renew s.owed key (next_due s)) (λ i. renew (fits.core i).owed key (due_same r s fits i))
 
 -- time passes
 pub fits_moment : (r : Records) (s : State) → Fits r s → (t : ℕ) → Fits (note_moment_in r t) (at_moment s t)

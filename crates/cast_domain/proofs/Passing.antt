@@ -17,7 +17,7 @@ use Rattle.cast_ready.specs.Ready.{is_member, is_outside}
 use Rattle.cast_delay.specs.Queue.{row_of}
 use Rattle.cast_domain.specs.declared.record.GroupRecord.{GroupRecord}
 use Rattle.cast_rules.specs.State.{State, local, serials, is_group, local_members, set_standing}
-use Rattle.cast_rules.specs.Entering.{parted, is_put_out, putting_out, passing}
+use Rattle.cast_rules.specs.Entering.{put_outside, is_put_out, putting_out, passing}
 use Rattle.cast_rules.specs.Acts.Act.{Left}
 use Rattle.cast_rules.specs.Lawful.{IsLawful}
 use Rattle.cast_rules.proofs.Lawful.{lawful_all_parted}
@@ -38,18 +38,18 @@ member_inside (Joining number heard) is = absurd (false≢true is)
 member_inside Member is = refl
 
 -- a process changed by its serial is the one at that place
-parted_here : (g : GroupNo) (s : State) (k : ℕ) → set_standing s k g Outside ≡ record s { process = λ j. if k == j then parted g (s.process j) else s.process j }
+parted_here : (g : GroupNo) (s : State) (k : ℕ) → set_standing s k g Outside ≡ record s { process = λ j. if k == j then put_outside g (s.process j) else s.process j }
 parted_here g s k = λ i. record s { process = λ j. at j i }
   where
-    at : (j : ℕ) → (if k == j then parted g (s.process k) else s.process j) ≡ (if k == j then parted g (s.process j) else s.process j)
-    at j = elim (k == j) as (λ b. (k == j) ≡ b → (if b then parted g (s.process k) else s.process j) ≡ (if b then parted g (s.process j) else s.process j)) [
-      | true ↦ λ same. ap (λ x. parted g (s.process x)) (eqb-true k j same)
+    at : (j : ℕ) → (if k == j then put_outside g (s.process k) else s.process j) ≡ (if k == j then put_outside g (s.process j) else s.process j)
+    at j = elim (k == j) as (λ b. (k == j) ≡ b → (if b then put_outside g (s.process k) else s.process j) ≡ (if b then put_outside g (s.process j) else s.process j)) [
+      | true ↦ λ same. ap (λ x. put_outside g (s.process x)) (eqb-true k j same)
       | false ↦ λ _. refl
     ] refl
 
 module _ (g : GroupNo) (skips : Bool) (members : Membership) (t : State) where
   abbrev gone : (ℕ → Bool) → State
-  gone e = changed (parted g) t e
+  gone e = changed (put_outside g) t e
 
   abbrev goes : ℕ → Bool
   goes k = is_put_out t g skips members k
@@ -59,7 +59,7 @@ module _ (g : GroupNo) (skips : Bool) (members : Membership) (t : State) where
   goes_there r e f k fresh =
       let name : local_in r k ≡ local t k = (λ i. record { site = (f.core i).site; serial = k }) in
       let standing : standing_of r.delay (local t k) g ≡ (t.process k).standing g =
-      standing_there r (gone e) f k g ∙ ap (λ b. (if b then parted g (t.process k) else t.process k).standing g) fresh in
+      standing_there r (gone e) f k g ∙ ap (λ b. (if b then put_outside g (t.process k) else t.process k).standing g) fresh in
       (λ i. is_member (standing_of r.delay (name i) g) && (skips || not (is_among proc_eq (name i) members.list)))
       ∙ ap (λ v. is_member v && (skips || not (is_among proc_eq (local t k) members.list))) standing
 
@@ -69,12 +69,12 @@ module _ (g : GroupNo) (skips : Bool) (members : Membership) (t : State) where
       let u : State = gone e in
       let member = (and_parts (is_member ((t.process k).standing g)) _ out).0 in
       let standing : standing_of r.delay (local t k) g ≡ (t.process k).standing g =
-      standing_there r u f k g ∙ ap (λ b. (if b then parted g (t.process k) else t.process k).standing g) fresh in
+      standing_there r u f k g ∙ ap (λ b. (if b then put_outside g (t.process k) else t.process k).standing g) fresh in
       let row : IsSome (row_of r.delay.rows (local t k)) = has_row (row_of r.delay.rows (local t k)) g (ap is_outside standing ∙ member_inside ((t.process k).standing g) member) in
       let told : Fits (tell_in r (local t k) (fact.Standing g Outside)) (set_standing u k g Outside) =
       fits_told r u f k row (fact.Standing g Outside) (λ inside. absurd (false≢true (sym inside))) refl (λ h _. omega arith) in
       subst (λ p. Fits (tell_in r p (fact.Standing g Outside)) (gone (λ j. e j || (k == j)))) (λ i. record { site = (sym fits_site i); serial = k })
-      (subst (Fits (tell_in r (local t k) (fact.Standing g Outside))) (parted_here g u k ∙ changed_one (parted g) t e k fresh) told)
+      (subst (Fits (tell_in r (local t k) (fact.Standing g Outside))) (parted_here g u k ∙ changed_one (put_outside g) t e k fresh) told)
     where
       fits_site : r.site ≡ t.here
       fits_site = ap (λ c. c.site) f.core
@@ -120,11 +120,11 @@ fits_put_out_all g skips members r s f =
     let goes : ℕ → Bool = is_put_out s g skips members in
     let t : State = record s { acts = λ k. if goes k then s.acts k ++ Left g ∷ [] else s.acts k } in
     let f0 : Fits r t = fits_acts r s f t.acts r.orders (logs_quiet s t.acts r.orders (λ k. quiet_if (goes k) (s.acts k) (s.acts k ++ Left g ∷ []) (quiet_left g (s.acts k))) f.orders) in
-    let all : Fits (fold (put_out_if_in g skips members) r (range_with_len 1 t.used)) (changed (parted g) t (λ j. goes j && within 1 t.used j)) =
+    let all : Fits (fold (put_out_if_in g skips members) r (range_with_len 1 t.used)) (changed (put_outside g) t (λ j. goes j && within 1 t.used j)) =
     fits_put_out_from g skips members t t.used 1 r (λ j. false) f0 (λ k _. refl) in
     subst (λ x. Fits x (putting_out s g skips members)) (sym (round_put_out g skips members r s f))
     (subst (λ x. Fits (fold (put_out_if_in g skips members) r (range_with_len 1 t.used)) x)
-    (λ i. changed (parted g) t (λ j. given j (cases_Bool (within 1 t.used j)) i))
+    (λ i. changed (put_outside g) t (λ j. given j (cases_Bool (within 1 t.used j)) i))
     all)
   where
     given : (j : ℕ) → (within 1 s.used j ≡ true) ⊎ (within 1 s.used j ≡ false) → (is_put_out s g skips members j && within 1 s.used j) ≡ is_put_out s g skips members j

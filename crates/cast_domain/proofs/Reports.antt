@@ -13,7 +13,7 @@ use Rattle.cast_types.specs.declared.names.GroupNo.{GroupNo}
 use Rattle.cast_types.specs.declared.names.Proc.{Proc}
 use Rattle.cast_types.specs.declared.names.Uid.{Uid}
 use Rattle.cast_types.specs.declared.limits.TheConstants.{MAX_POSITION, MAX_PLACED, MAX_KEPT}
-use Rattle.cast_types.specs.Names.{Entry, site_eq, group_eq, proc_eq, uid_eq, entry_eq, entry_cmp, is_atomic, named, entry_of}
+use Rattle.cast_types.specs.Names.{Entry, site_eq, group_eq, proc_eq, uid_eq, entry_eq, entry_cmp, is_atomic, uid_in, entry_of}
 use Rattle.cast_types.specs.Sets.{is_among, set_of}
 use Rattle.cast_types.specs.Counts.{CountList}
 use Rattle.cast_types.specs.Sources.{source}
@@ -23,7 +23,7 @@ use Rattle.cast_types.proofs.Orders.{same_group, same_proc, same_uid, same_entry
 use Rattle.cast_message.specs.declared.message.Message.{Message}
 use Rattle.cast_view.specs.MemberSide.{greatest_of, counts_by, members_of, is_pending}
 use Rattle.cast_ready.specs.declared.row.Row.{Row}
-use Rattle.cast_ready.specs.Ready.{first_of, covered, is_member, has_delivered}
+use Rattle.cast_ready.specs.Ready.{first_of, covered_entries, is_member, has_delivered}
 use Rattle.cast_ready.specs.Rows.{standing_in, done_in, awaits_row}
 use Rattle.cast_delay.specs.Queue.{is_awaited}
 use Rattle.cast_ready.specs.DeliveredCounts.{counts_in}
@@ -38,7 +38,7 @@ use Rattle.cast_order.proofs.Meanings.{whole_rules, tail_rules}
 use Rattle.cast_view.specs.Sites.{is_at}
 use Rattle.cast_rules.specs.State.{State, no_process, local, serials, gate_of, is_received, may_speak, was_given}
 use Rattle.cast_rules.specs.Lawful.{IsLawful}
-use Rattle.cast_rules.specs.Order.{is_of_view, facts_in, order_told, holder_here, unlisted}
+use Rattle.cast_rules.specs.Order.{is_of_view, facts_in, order_told, holder_here, unlisted_ids}
 use Rattle.cast_rules.specs.Reports.{had_here, had_in, unlisted_here, whole_order, tail_of, is_unplaced, kept_list, kept_in, report_in, is_delivered_here, has_delivered_cut, is_missing, missing_in}
 use Rattle.cast_domain.specs.Records.{Records}
 use Rattle.cast_domain.specs.Fits.{Fits, record_for, process_named, TellsOrder, is_live, past_of, goes_on, has_passed}
@@ -264,34 +264,34 @@ kept_agree t u p a (suc n) from_one same =
     let more = kept_agree t u p (a + 1) n (omega arith) same in
     λ i. cond (same (p, a) from_one i) ((p, a) ∷ more i) (more i)
 
-pub kept_covered : (t u : Entry → Bool) (cut : CountList) → ((e : Entry) → 0 < e.1 → t e ≡ u e) → filter t (covered cut) ≡ filter u (covered cut)
+pub kept_covered : (t u : Entry → Bool) (cut : CountList) → ((e : Entry) → 0 < e.1 → t e ≡ u e) → filter t (covered_entries cut) ≡ filter u (covered_entries cut)
 kept_covered t u [] same = refl
 kept_covered t u (e ∷ cut) same =
-    filter-append t (first_of e) (covered cut)
+    filter-append t (first_of e) (covered_entries cut)
     ∙ (λ i. kept_agree t u e.0 1 e.1 (omega arith) same i ++ kept_covered t u cut same i)
-    ∙ sym (filter-append u (first_of e) (covered cut))
+    ∙ sym (filter-append u (first_of e) (covered_entries cut))
 
 -- a test of the last messages of a cut passes them all exactly if another passes all that the cut covers
-pub all_covered : (t u : Entry → Bool) (cut : CountList) → ((e : Entry) → t e ≡ list_all u (first_of e)) → list_all t cut ≡ list_all u (covered cut)
+pub all_covered : (t u : Entry → Bool) (cut : CountList) → ((e : Entry) → t e ≡ list_all u (first_of e)) → list_all t cut ≡ list_all u (covered_entries cut)
 all_covered t u [] same = refl
 all_covered t u (e ∷ cut) same =
     (λ i. same e i && all_covered t u cut same i)
-    ∙ sym (list_all-append u (first_of e) (covered cut))
+    ∙ sym (list_all-append u (first_of e) (covered_entries cut))
 
 -- Who awaits what
 
 -- a row that awaits a message awaits each later one of its process
-row_awaits_later : (row : Row) (g : GroupNo) (view : ℕ) (p : Proc) (k n : ℕ) → k ≤ n → awaits_row row (named g view (p, k)) ≡ true → awaits_row row (named g view (p, n)) ≡ true
+row_awaits_later : (row : Row) (g : GroupNo) (view : ℕ) (p : Proc) (k n : ℕ) → k ≤ n → awaits_row row (uid_in g view (p, k)) ≡ true → awaits_row row (uid_in g view (p, n)) ≡ true
 row_awaits_later row g view p k n le waits =
     let parts = and_parts (is_member (standing_in row g)) (nat_lt (done_in row g view p) k) waits in
     let less = ltb-true (done_in row g view p) k parts.1 in
     and_from (is_member (standing_in row g)) (nat_lt (done_in row g view p) n) parts.0 (lt-ltb (done_in row g view p) n (omega (arith, less, le)))
 
-awaited_later : (rows : List Row) (g : GroupNo) (view : ℕ) (p : Proc) (k n : ℕ) → k ≤ n → is_awaited rows (named g view (p, k)) ≡ true → is_awaited rows (named g view (p, n)) ≡ true
+awaited_later : (rows : List Row) (g : GroupNo) (view : ℕ) (p : Proc) (k n : ℕ) → k ≤ n → is_awaited rows (uid_in g view (p, k)) ≡ true → is_awaited rows (uid_in g view (p, n)) ≡ true
 awaited_later [] g view p k n le waits = waits
-awaited_later (row ∷ rows) g view p k n le waits = elim (or_cases (awaits_row row (named g view (p, k))) (is_awaited rows (named g view (p, k))) waits) [
-  | inl here ↦ or_left (awaits_row row (named g view (p, n))) (is_awaited rows (named g view (p, n))) (row_awaits_later row g view p k n le here)
-  | inr later ↦ or_right (awaits_row row (named g view (p, n))) (is_awaited rows (named g view (p, n))) (awaited_later rows g view p k n le later)
+awaited_later (row ∷ rows) g view p k n le waits = elim (or_cases (awaits_row row (uid_in g view (p, k))) (is_awaited rows (uid_in g view (p, k))) waits) [
+  | inl here ↦ or_left (awaits_row row (uid_in g view (p, n))) (is_awaited rows (uid_in g view (p, n))) (row_awaits_later row g view p k n le here)
+  | inr later ↦ or_right (awaits_row row (uid_in g view (p, n))) (is_awaited rows (uid_in g view (p, n))) (awaited_later rows g view p k n le later)
 ]
 
 unless_later : (a b : Bool) → (a ≡ true → b ≡ true) → not b ≡ true → not a ≡ true
@@ -299,12 +299,12 @@ unless_later true b goes none = absurd (false≢true (sym (ap not (goes refl)) �
 unless_later false b goes none = refl
 
 -- nothing awaits a message of count 0
-row_awaits_none : (row : Row) (g : GroupNo) (view : ℕ) (p : Proc) → awaits_row row (named g view (p, 0)) ≡ false
-row_awaits_none row g view p = false_from_ne_true (awaits_row row (named g view (p, 0))) (λ waits.
+row_awaits_none : (row : Row) (g : GroupNo) (view : ℕ) (p : Proc) → awaits_row row (uid_in g view (p, 0)) ≡ false
+row_awaits_none row g view p = false_from_ne_true (awaits_row row (uid_in g view (p, 0))) (λ waits.
     let less = ltb-true (done_in row g view p) 0 (and_parts (is_member (standing_in row g)) (nat_lt (done_in row g view p) 0) waits).1 in
     omega (arith, less))
 
-none_awaited : (rows : List Row) (g : GroupNo) (view : ℕ) (p : Proc) → is_awaited rows (named g view (p, 0)) ≡ false
+none_awaited : (rows : List Row) (g : GroupNo) (view : ℕ) (p : Proc) → is_awaited rows (uid_in g view (p, 0)) ≡ false
 none_awaited [] g view p = refl
 none_awaited (row ∷ rows) g view p = λ i. row_awaits_none row g view p i || none_awaited rows g view p i
 
@@ -333,7 +333,7 @@ not_not false = refl
 
 module _ (s : State) (g : GroupNo) where
   abbrev of_group : Entry → Uid
-  of_group e = named g (s.group g).number e
+  of_group e = uid_in g (s.group g).number e
 
   -- a message of the group's view
   named_is : (e : Entry) (u : Uid) → uid_eq (of_group e) u ≡ (is_of_view s g u && entry_eq e (entry_of u))
@@ -351,7 +351,7 @@ module _ (s : State) (g : GroupNo) where
           let parts = and_parts (is_of_view s g u) (entry_eq e (entry_of u)) h in
           let here = and_parts (group_eq u.group g) (u.view == (s.group g).number) parts.0 in
           let entry = same_entry e (entry_of u) parts.1 in
-          let same : of_group e ≡ u = λ i. named (sym (same_group u.group g here.0) i) (sym (eqb-true u.view (s.group g).number here.1) i) (entry i) in
+          let same : of_group e ≡ u = λ i. uid_in (sym (same_group u.group g here.0) i) (sym (eqb-true u.view (s.group g).number here.1) i) (entry i) in
           subst (λ v. uid_eq (of_group e) v ≡ true) same (uid_itself (of_group e))
 
   among_named : (e : Entry) (us : List Uid) → is_among entry_eq e (map entry_of (filter (is_of_view s g) us)) ≡ is_among uid_eq (of_group e) us
@@ -384,20 +384,20 @@ is_cast e m = is_atomic (kind_of m.body) && entry_eq (entry_of m.id) e
 
 module _ (r : Records) (s : State) (fits : Fits r s) (g : GroupNo) where
   -- a message of the group's view, of a count from 1 on, is awaited by a row exactly if some member here has not delivered it
-  pub awaited_here : (e : Entry) → 0 < e.1 → not (is_awaited r.delay.rows (named g (s.group g).number e)) ≡ is_delivered_here s g e
-  awaited_here e some = awaited_same r s fits (named g (s.group g).number e) (omega arith) some
+  pub awaited_here : (e : Entry) → 0 < e.1 → not (is_awaited r.delay.rows (uid_in g (s.group g).number e)) ≡ is_delivered_here s g e
+  awaited_here e some = awaited_same r s fits (uid_in g (s.group g).number e) (omega arith) some
 
   -- the last message of a process in a cut is awaited by none exactly if each is delivered that the cut covers
-  cut_entry : (p : Proc) (n : ℕ) → not (is_awaited r.delay.rows (named g (s.group g).number (p, n))) ≡ list_all (is_delivered_here s g) (first_of (p, n))
+  cut_entry : (p : Proc) (n : ℕ) → not (is_awaited r.delay.rows (uid_in g (s.group g).number (p, n))) ≡ list_all (is_delivered_here s g) (first_of (p, n))
   cut_entry p zero = ap not (none_awaited r.delay.rows g (s.group g).number p)
   cut_entry p (suc m) =
-      all_first (λ e. not (is_awaited r.delay.rows (named g (s.group g).number e))) p (suc m) (omega arith)
-      (λ k low high. unless_later (is_awaited r.delay.rows (named g (s.group g).number (p, k))) (is_awaited r.delay.rows (named g (s.group g).number (p, suc m)))
+      all_first (λ e. not (is_awaited r.delay.rows (uid_in g (s.group g).number e))) p (suc m) (omega arith)
+      (λ k low high. unless_later (is_awaited r.delay.rows (uid_in g (s.group g).number (p, k))) (is_awaited r.delay.rows (uid_in g (s.group g).number (p, suc m)))
       (awaited_later r.delay.rows g (s.group g).number p k (suc m) high))
-      ∙ all_agree (λ e. not (is_awaited r.delay.rows (named g (s.group g).number e))) (is_delivered_here s g) p 1 (suc m) (omega arith) awaited_here
+      ∙ all_agree (λ e. not (is_awaited r.delay.rows (uid_in g (s.group g).number e))) (is_delivered_here s g) p 1 (suc m) (omega arith) awaited_here
 
   cut_same : (cut : CountList) → has_cut_of r (record_for s g) cut ≡ has_delivered_cut s g cut
-  cut_same cut = all_covered (λ e. not (is_awaited r.delay.rows (named g (s.group g).number e))) (is_delivered_here s g) cut (λ e. cut_entry e.0 e.1)
+  cut_same cut = all_covered (λ e. not (is_awaited r.delay.rows (uid_in g (s.group g).number e))) (is_delivered_here s g) cut (λ e. cut_entry e.0 e.1)
 
   -- What was received
 
@@ -405,31 +405,31 @@ module _ (r : Records) (s : State) (fits : Fits r s) (g : GroupNo) where
   same_here = ap (λ c. c.site) fits.core
 
   -- of a process that may not speak here nothing of the group's view was received
-  spoken_alone : IsLawful s → (e : Entry) → may_speak s g e.0 ≡ false → is_received s (named g (s.group g).number e) ≡ false
-  spoken_alone l e silent = false_from_ne_true (is_received s (named g (s.group g).number e)) (λ has.
-      let (m, in_got, is) = message_found (named g (s.group g).number e) s.got has in
+  spoken_alone : IsLawful s → (e : Entry) → may_speak s g e.0 ≡ false → is_received s (uid_in g (s.group g).number e) ≡ false
+  spoken_alone l e silent = false_from_ne_true (is_received s (uid_in g (s.group g).number e)) (λ has.
+      let (m, in_got, is) = message_found (uid_in g (s.group g).number e) s.got has in
       let view : m.id.view ≡ (s.group m.id.group).number = (λ i. (is i).view) ∙ (λ i. (s.group (sym is i).group).number) in
       false≢true (sym silent ∙ sym (λ i. may_speak s (is i).group (is i).proc) ∙ l.traced.spoken m in_got view))
 
-  pub received_same : IsLawful s → (e : Entry) → 0 < e.1 → is_received_of r (record_for s g) e ≡ is_received s (named g (s.group g).number e)
+  pub received_same : IsLawful s → (e : Entry) → 0 < e.1 → is_received_of r (record_for s g) e ≡ is_received s (uid_in g (s.group g).number e)
   received_same l e some =
-      ap (λ t. (is_among proc_eq e.0 (members_of (s.group g)) || site_eq e.0.site t) && is_received_in r.acks (named g (s.group g).number e)) same_here
+      ap (λ t. (is_among proc_eq e.0 (members_of (s.group g)) || site_eq e.0.site t) && is_received_in r.acks (uid_in g (s.group g).number e)) same_here
       ∙ elim (cases_Bool (may_speak s g e.0)) [
         | inl may ↦
-            ap (λ b. b && is_received_in r.acks (named g (s.group g).number e)) may
-            ∙ fits.acks.receipts (named g (s.group g).number e) (live_now s (source g (s.group g).number e.0) refl may) some
-            ∙ ids_received (named g (s.group g).number e) s.got
+            ap (λ b. b && is_received_in r.acks (uid_in g (s.group g).number e)) may
+            ∙ fits.acks.receipts (uid_in g (s.group g).number e) (live_now s (source g (s.group g).number e.0) refl may) some
+            ∙ ids_received (uid_in g (s.group g).number e) s.got
         | inr silent ↦
-            ap (λ b. b && is_received_in r.acks (named g (s.group g).number e)) silent
+            ap (λ b. b && is_received_in r.acks (uid_in g (s.group g).number e)) silent
             ∙ sym (spoken_alone l e silent)
       ]
 
   -- what is awaited and was not received is missing
   missing_one : IsLawful s → (e : Entry) → 0 < e.1 → (is_awaited_of r (record_for s g) e && not (is_received_of r (record_for s g) e)) ≡ is_missing s g e
   missing_one l e some =
-      (λ i. not_not (is_awaited r.delay.rows (named g (s.group g).number e)) i && not (received_same l e some i))
-      ∙ (λ i. not (awaited_here e some i) && not (is_received s (named g (s.group g).number e)))
-      ∙ neither (is_delivered_here s g e) (is_received s (named g (s.group g).number e))
+      (λ i. not_not (is_awaited r.delay.rows (uid_in g (s.group g).number e)) i && not (received_same l e some i))
+      ∙ (λ i. not (awaited_here e some i) && not (is_received s (uid_in g (s.group g).number e)))
+      ∙ neither (is_delivered_here s g e) (is_received s (uid_in g (s.group g).number e))
 
   missing_same : IsLawful s → (cut : CountList) → missing_of r (record_for s g) cut ≡ missing_in s g cut
   missing_same l cut = ap (take MAX_PLACED) (kept_covered (λ e. is_awaited_of r (record_for s g) e && not (is_received_of r (record_for s g) e)) (is_missing s g) cut (missing_one l))
@@ -468,41 +468,41 @@ module _ (r : Records) (s : State) (fits : Fits r s) (g : GroupNo) where
   counts_had p member n some among =
       greatest_each p n (had_in s g) (had_is s g (p, n) ∙ by (or_cases (is_among entry_eq (p, n) (counts_in g number r.delay.reached)) (is_among entry_eq (p, n) sent_counts) (sym (list_any-append (entry_eq (p, n)) (counts_in g number r.delay.reached) sent_counts) ∙ among)))
     where
-      sent : is_among entry_eq (p, n) sent_counts ≡ true → sent_here s g (named g number (p, n)) ≡ true
+      sent : is_among entry_eq (p, n) sent_counts ≡ true → sent_here s g (uid_in g number (p, n)) ≡ true
       sent has =
           let counted = among_counted (λ q. last_received_in r.acks (source g number q)) p n (filter (is_at r.site) (members_of (s.group g))) has in
           let here = among_passing proc_eq same_proc (is_at r.site) p (members_of (s.group g)) counted.0 in
           let last = counted.1 in
           let received = last_each (past_of s) r.acks fits.acks (source g number p) (member_live p member) (omega (arith, last, some)) in
-          passing_among uid_eq same_uid (λ v. site_eq v.proc.site s.here) (named g number (p, n)) (map (λ m. m.id) s.got)
+          passing_among uid_eq same_uid (λ v. site_eq v.proc.site s.here) (uid_in g number (p, n)) (map (λ m. m.id) s.got)
           (subst (λ t. site_eq p.site t ≡ true) same_here here.0)
-          (subst (λ c. is_among uid_eq (named g number (p, c)) (map (λ m. m.id) s.got) ≡ true) (sym last) received)
+          (subst (λ c. is_among uid_eq (uid_in g number (p, c)) (map (λ m. m.id) s.got) ≡ true) (sym last) received)
 
-      by : (is_among entry_eq (p, n) (counts_in g number r.delay.reached) ≡ true) ⊎ (is_among entry_eq (p, n) sent_counts ≡ true) → (delivered_by_some s g (named g number (p, n)) || sent_here s g (named g number (p, n))) ≡ true
+      by : (is_among entry_eq (p, n) (counts_in g number r.delay.reached) ≡ true) ⊎ (is_among entry_eq (p, n) sent_counts ≡ true) → (delivered_by_some s g (uid_in g number (p, n)) || sent_here s g (uid_in g number (p, n))) ≡ true
       by (inl reached) =
           let (q, has) = reached_each (gate_of s) (process_named s) r.delay.reached fits.processes.delay.reached g number (p, n) (there_among (p, n) (counts_in g number r.delay.reached) reached) in
-          or_left (delivered_by_some s g (named g number (p, n))) (sent_here s g (named g number (p, n))) (given_delivered q (named g number (p, n)) has)
-      by (inr has) = or_right (delivered_by_some s g (named g number (p, n))) (sent_here s g (named g number (p, n))) (sent has)
+          or_left (delivered_by_some s g (uid_in g number (p, n))) (sent_here s g (uid_in g number (p, n))) (given_delivered q (uid_in g number (p, n)) has)
+      by (inr has) = or_right (delivered_by_some s g (uid_in g number (p, n))) (sent_here s g (uid_in g number (p, n))) (sent has)
 
   -- and there is one as great for each
   had_counted : (p : Proc) → is_among proc_eq p (members_of (s.group g)) ≡ true → (n : ℕ) → 0 < n → is_among entry_eq (p, n) (had_in s g) ≡ true → n ≤ greatest_of (had_of r (record_for s g)) p
   had_counted p member n some among =
-      by (or_cases (delivered_by_some s g (named g number (p, n))) (sent_here s g (named g number (p, n))) (sym (had_is s g (p, n)) ∙ among))
+      by (or_cases (delivered_by_some s g (uid_in g number (p, n))) (sent_here s g (uid_in g number (p, n))) (sym (had_is s g (p, n)) ∙ among))
     where
       counted : (c : ℕ) → (is_among entry_eq (p, c) (counts_in g number r.delay.reached) || is_among entry_eq (p, c) sent_counts) ≡ true → c ≤ greatest_of (had_of r (record_for s g)) p
       counted c one = greatest_each p c (had_of r (record_for s g)) (list_any-append (entry_eq (p, c)) (counts_in g number r.delay.reached) sent_counts ∙ one)
 
-      by : (delivered_by_some s g (named g number (p, n)) ≡ true) ⊎ (sent_here s g (named g number (p, n)) ≡ true) → n ≤ greatest_of (had_of r (record_for s g)) p
+      by : (delivered_by_some s g (uid_in g number (p, n)) ≡ true) ⊎ (sent_here s g (uid_in g number (p, n)) ≡ true) → n ≤ greatest_of (had_of r (record_for s g)) p
       by (inl delivered) =
-          let (k, has) = some_ranged (λ k. has_delivered (s.process k) (named g number (p, n))) 1 s.used delivered in
-          let there : has_delivered (process_named s (local s k)) (named g number (p, n)) ≡ true = ap (λ x. has_delivered x (named g number (p, n))) (process_here s k) ∙ has in
+          let (k, has) = some_ranged (λ k. has_delivered (s.process k) (uid_in g number (p, n))) 1 s.used delivered in
+          let there : has_delivered (process_named s (local s k)) (uid_in g number (p, n)) ≡ true = ap (λ x. has_delivered x (uid_in g number (p, n))) (process_here s k) ∙ has in
           let (c, in_counts, le) = reached_most (gate_of s) (process_named s) r.delay.reached fits.processes.delay.reached g number (omega arith) (local s k) (p, n) some there in
           let most = counted c (or_left (is_among entry_eq (p, c) (counts_in g number r.delay.reached)) (is_among entry_eq (p, c) sent_counts) (among_there (p, c) (counts_in g number r.delay.reached) in_counts)) in
           omega (arith, le, most)
       by (inr sent) =
-          let own = among_passing uid_eq same_uid (λ v. site_eq v.proc.site s.here) (named g number (p, n)) (map (λ m. m.id) s.got) sent in
+          let own = among_passing uid_eq same_uid (λ v. site_eq v.proc.site s.here) (uid_in g number (p, n)) (map (λ m. m.id) s.got) sent in
           let c : ℕ = last_received_in r.acks (source g number p) in
-          let le : n ≤ c = last_most (past_of s) r.acks fits.acks (named g number (p, n)) (member_live p member) some own.1 in
+          let le : n ≤ c = last_most (past_of s) r.acks fits.acks (uid_in g number (p, n)) (member_live p member) some own.1 in
           let at : is_among proc_eq p (filter (is_at r.site) (members_of (s.group g))) ≡ true =
           passing_among proc_eq same_proc (is_at r.site) p (members_of (s.group g)) (subst (λ t. site_eq p.site t ≡ true) (sym same_here) own.0) member in
           let most = counted c (or_right (is_among entry_eq (p, c) (counts_in g number r.delay.reached)) (is_among entry_eq (p, c) sent_counts) (counted_among (λ q. last_received_in r.acks (source g number q)) p (filter (is_at r.site) (members_of (s.group g))) at)) in
@@ -517,7 +517,7 @@ module _ (r : Records) (s : State) (fits : Fits r s) (g : GroupNo) where
   still_here : (t : TellsOrder s g (log_of r.orders g)) → waiting_of (log_of r.orders g) (holder_in r g) ≡ unlisted_here s g
   still_here t = ap (waiting_of (log_of r.orders g)) (holder_there r s fits g) ∙ of_holder (holder_here s g)
     where
-      of_holder : (o : Option ℕ) → waiting_of (log_of r.orders g) (option_map (local s) o) ≡ option_map_or (unlisted s g) o []
+      of_holder : (o : Option ℕ) → waiting_of (log_of r.orders g) (option_map (local s) o) ≡ option_map_or (unlisted_ids s g) o []
       of_holder None = refl
       of_holder (Some k) = waiting_there s g k (log_of r.orders g) t
 

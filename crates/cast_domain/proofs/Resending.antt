@@ -11,7 +11,7 @@ use Rattle.cast_timer.specs.declared.key.OwedKey.{OwedKey}
 use Rattle.cast_timer.specs.declared.key.OwedKind.{OwedKind}
 use Rattle.cast_timer.specs.declared.key.OwedKind.TheVariants.{Ask, Data, Prepare, Want, Install, Ack}
 use Rattle.cast_timer.specs.declared.key.Side.TheVariants.{Site, Home}
-use Rattle.cast_timer.specs.Owed.{renewed, due_at, kind_rank, key_eq, is_same_message}
+use Rattle.cast_timer.specs.Owed.{renew, due_at, kind_rank, key_eq, is_same_message}
 use Rattle.cast_timer.proofs.Owing.{same_key}
 use Rattle.cast_rules.specs.Rules.Owing.{frame_of_kind, frame_for, send_for, resend, resend_due}
 use Rattle.cast_domain.specs.Shared.{part_renewing_due}
@@ -56,7 +56,7 @@ one_by_one (x ∷ keys) r =
     ap (λ s. fold note_resent_in s keys) (sym (all_sent_noted keys (send_for records r x) x))
     ∙ one_by_one keys (note_resent_in (send_for records r x) x)
 
-noted : (keys : List OwedKey) (r : Records) → fold note_resent_in r keys ≡ record r { part = record r.part { owed = fold (λ os k. renewed os k (next_due_in r)) r.part.owed keys } }
+noted : (keys : List OwedKey) (r : Records) → fold note_resent_in r keys ≡ record r { part = record r.part { owed = fold (λ os k. renew os k (next_due_in r)) r.part.owed keys } }
 noted [] r = refl
 noted (x ∷ keys) r = noted keys (note_resent_in r x)
 

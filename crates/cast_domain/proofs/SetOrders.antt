@@ -7,7 +7,7 @@ use Rattle.cast_types.specs.declared.names.GroupNo.{GroupNo}
 use Rattle.cast_types.specs.declared.names.Proc.{Proc}
 use Rattle.cast_types.specs.Stamps.{ClockList}
 use Rattle.cast_types.specs.Sources.{source_of}
-use Rattle.cast_clock.specs.Times.{count_in, bumped}
+use Rattle.cast_clock.specs.Times.{count_in, with_bump}
 use Rattle.cast_message.specs.declared.message.Body.TheVariants as body
 use Rattle.cast_message.specs.declared.message.Message.{Message}
 use Rattle.cast_message.specs.Placement.{Placement}
@@ -20,7 +20,7 @@ use Rattle.cast_rules.specs.Rules.Sending.{send_message, may_raise}
 use Rattle.cast_domain.specs.declared.record.GroupRecord.{GroupRecord}
 use Rattle.cast_view.specs.Home.{is_empty}
 use Rattle.cast_rules.specs.State.{State, local, noting_sent}
-use Rattle.cast_rules.specs.Order.{order_told, unlisted, has_place}
+use Rattle.cast_rules.specs.Order.{order_told, unlisted_ids, has_place}
 use Rattle.cast_rules.specs.Effects.{next_message, sending}
 use Rattle.cast_rules.specs.Rest.{set_order_by, let_go}
 use Rattle.cast_rules.proofs.Setting.{may_set_order, set_order_is}
@@ -48,7 +48,7 @@ use Rattle.cast_rules.proofs.Lawful.{local_speaks}
 -- a process lists these ids, over a record of the group that is at hand
 abbrev sent_at : Records → Proc → GroupRecord → Placement → Records
 sent_at r p x places =
-    let times : ClockList = bumped (time_of r.delay p) x.name p in
+    let times : ClockList = with_bump (time_of r.delay p) x.name p in
     let m : Message = record {
       id = record { group = x.name; view = x.here.number; proc = p; count = count_in times x.name p };
       times = times;
@@ -78,7 +78,7 @@ fits_places r s f l k g member raises q =
     row = member_row r s f k g member
 
     same : sent_at r p (record_for s g) q ≡ send_message records (note_sent_by r p m) m
-    same = λ j. sent_with (bumped (time_there r s f k row j) g p)
+    same = λ j. sent_with (with_bump (time_there r s f k row j) g p)
       where
         sent_with : ClockList → Records
         sent_with times =
@@ -126,7 +126,7 @@ fits_set_order_by r s f l i g at k =
     room = may_order history s
 
     some : Bool
-    some = not (is_empty (unlisted s g k))
+    some = not (is_empty (unlisted_ids s g k))
 
     place : Bool
     place = has_place (order_told s g)

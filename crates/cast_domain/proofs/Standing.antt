@@ -38,7 +38,7 @@ use Rattle.cast_message.specs.Receipts.{key_eq, message_under}
 use Rattle.cast_stable.specs.Acks.{new_ledger, told_ledger, received_ledger}
 use Rattle.cast_stable.specs.Fits.{Fits as AcksFits}
 use Rattle.cast_stable.proofs.Meanings.{new_fits as acks_new_fits, tell_fits as acks_tell_fits, receive_fits as acks_receive_fits}
-use Rattle.cast_delay.specs.Fits.{IsSound, HasNotBegun, FactFits, Fits as QueueFits, set_process as set_named, told as told_of}
+use Rattle.cast_delay.specs.Fits.{IsSound, HasNotBegun, FactFits, Fits as QueueFits, set_process as set_named, tell_process as told_of}
 use Rattle.cast_delay.proofs.Queues.{new_fits, admit_fits, tell_fits, view_fits, offer_fits, standing_is, time_is, no_row_is}
 use Rattle.cast_delay.proofs.RowLemmas.{some_row, row_of_some, names_ended}
 use Rattle.cast_delay.proofs.Finds.{find-append_some, find-append_none}
@@ -53,14 +53,14 @@ use Rattle.cast_view.specs.MemberSide.{MemberSide, is_pending, members_of, with_
 use Rattle.cast_view.specs.Home.{Home}
 use Rattle.cast_message.specs.declared.client.Push.TheVariants as push
 use Rattle.cast_events.specs.declared.session.Status.TheVariants.{Open, Closed}
-use Rattle.cast_events.specs.Session.{Session, no_session, first_session, is_open, is_gone, pushed_to, closed, taken_from}
+use Rattle.cast_events.specs.Session.{Session, no_session, first_session, is_open, is_gone, pushed_to, tell_end, taken_from}
 use Rattle.cast_types.specs.declared.refusal.Refusal.{Refusal}
 use Rattle.cast_types.specs.declared.limits.TheConstants.{MAX_NUMBER}
 use Rattle.cast_view.specs.MemberSide.{holder_at, members_of, with_view}
 use Rattle.cast_rules.specs.Order.{is_of_view, order_told}
 use Rattle.cast_order.proofs.Hands.{new_hand_fits}
 use Rattle.cast_view.specs.Sites.{other_sites}
-use Rattle.cast_rules.specs.State.{State, opening, no_process, local, is_group, gate_for, gate_of, others_of, set_session, set_process, set_group, set_home, set_standing, emitted, was_given, serials, sessions, with_push, pushing, closing, going, taking, receiving, noting_act, noting_sent}
+use Rattle.cast_rules.specs.State.{State, opening, no_process, local, is_group, gate_for, gate_of, others_of, set_session, set_process, set_group, set_home, set_standing, emit, was_given, serials, sessions, with_push, pushing, closing, going, taking, receiving, noting_act, noting_sent}
 use Rattle.cast_rules.specs.Acts.{Act}
 use Rattle.cast_rules.specs.Acts.Act.{Sent}
 use Rattle.cast_rules.specs.Step.{opening_next}
@@ -69,7 +69,7 @@ use Rattle.cast_domain.specs.Shared.{no_part, part_boxing, part_pushing}
 use Rattle.cast_domain.specs.Records.{Records}
 use Rattle.cast_domain.specs.Calls.{place_among, local_in, place_in, no_record, record_at, standing_of, time_of, send_in, push_in, with_status, close_in, go_in, take_entries_in, tell_in, open_in, learn_in, receive_in, view_in, holding_from, orders_sent}
 use Rattle.cast_rules.specs.Lawful.{IsLawful}
-use Rattle.cast_domain.specs.Fits.{settled_of, process_named, record_for, tagged, session_for, is_there, is_live, past_of, LogFits, Fits, goes_on, has_passed}
+use Rattle.cast_domain.specs.Fits.{settled_of, process_named, record_for, with_domain, session_for, is_there, is_live, past_of, LogFits, Fits, goes_on, has_passed}
 use Rattle.cast_domain.proofs.Statuses.{open_remains, status_given, roster, same_roster, set_one, same_status, roster_closed, roster_gone, boxes_set, unused_set, roster_first}
 use Rattle.cast_domain.proofs.Receipts.{group_same, others_told, past_same, live_and_stands}
 use Rattle.cast_domain.proofs.Rows.{row_given}
@@ -90,11 +90,11 @@ fits_if a b x y u v same then_fits else_fits = choose Fits a b x y u v same (λ 
 
 -- each log tells still of a history that has the same of groups, processes, messages and acknowledgements, and keeps no more
 pub orders_same : (s t : State) (orders : List Log) → t.here ≡ s.here → t.group ≡ s.group → t.closed ≡ s.closed → t.process ≡ s.process → t.got ≡ s.got → t.abcasts ≡ s.abcasts → t.acts ≡ s.acts → t.acks ≡ s.acks → KeepsNoMore s t → ((g : GroupNo) → LogFits s g (log_of orders g)) → (g : GroupNo) → LogFits t g (log_of orders g)
-orders_same s t orders here group closed process got abcasts acts acks kept fits g =
+orders_same s t orders here group tell_end process got abcasts acts acks kept fits g =
     log_alike s t g (log_of orders g)
     (same_alike s t g (log_of orders g) here (λ i. (group i g).view) (λ i. (group i g).number) got (λ k i. abcasts i k) (λ k i. acts i k) acks
     (λ p u is. (λ i. has_delivered (if site_eq p.site (here i) then process i p.serial else no_process) u) ∙ is))
-    (λ i. is_pending (group i g)) (λ i. closed i g)
+    (λ i. is_pending (group i g)) (λ i. tell_end i g)
     (λ p is. (λ i. is_member ((if site_eq p.site (sym here i) then sym process i p.serial else no_process).standing g)) ∙ is)
     (λ _. over_alike s t g here (λ i. (group i g).number) got kept (λ k member. record {
       member = (λ i. is_member ((sym process i k).standing g)) ∙ member;
@@ -250,7 +250,7 @@ time_there r s fits k admitted =
 -- What is sent and pushed
 
 -- a frame is sent
-pub fits_send : (r : Records) (s : State) → Fits r s → (to : SiteNo) (f : SiteFrame) → Fits (send_in r to f) (emitted s to f)
+pub fits_send : (r : Records) (s : State) → Fits r s → (to : SiteNo) (f : SiteFrame) → Fits (send_in r to f) (emit s to f)
 fits_send r s fits to f = record {
   core = fits.core;
   opened = fits.opened;
@@ -258,7 +258,7 @@ fits_send r s fits to f = record {
   messages = fits.messages;
   processes = fits.processes;
   acks = fits.acks;
-  orders = orders_same s (emitted s to f) r.orders refl refl refl refl refl refl refl refl (λ u is. is) fits.orders;
+  orders = orders_same s (emit s to f) r.orders refl refl refl refl refl refl refl refl (λ u is. is) fits.orders;
   frames = (λ i. fits.frames i ++ ((fits.core i).config.domain, to, f) ∷ []) ∙ sym (map-append (λ (x : SiteNo × SiteFrame). (s.config.domain, x.0, x.1)) s.frames ((to, f) ∷ []));
   delivered = fits.delivered;
   pushed = fits.pushed;
@@ -290,7 +290,7 @@ open_given r s fits k is_so = elim (cases_Bool (was_given s.used k)) [
 ]
 
 -- what was pushed is noted on both sides
-pushed_more : (r : Records) (s : State) → Fits r s → (k : ℕ) (p : Push) → r.pushed ++ (r.config.domain, k, p) ∷ [] ≡ tagged s.config.domain (s.pushes ++ (k, p) ∷ [])
+pushed_more : (r : Records) (s : State) → Fits r s → (k : ℕ) (p : Push) → r.pushed ++ (r.config.domain, k, p) ∷ [] ≡ with_domain s.config.domain (s.pushes ++ (k, p) ∷ [])
 pushed_more r s fits k p =
     (λ i. fits.pushed i ++ ((fits.core i).config.domain, k, p) ∷ []) ∙ sym (map-append (λ (x : ℕ × Push). (s.config.domain, x.0, x.1)) s.pushes ((k, p) ∷ []))
 
@@ -323,7 +323,7 @@ fits_session r s fits k v given remains rows listed entries boxed = record {
 }
 
 -- and it is noted that an entry was pushed
-fits_noted_push : (r : Records) (s : State) → Fits r s → (pushed : List (DomainNo × ℕ × Push)) (pushes : List (ℕ × Push)) → pushed ≡ tagged s.config.domain pushes → Fits (record r { pushed = pushed }) (record s { pushes = pushes })
+fits_noted_push : (r : Records) (s : State) → Fits r s → (pushed : List (DomainNo × ℕ × Push)) (pushes : List (ℕ × Push)) → pushed ≡ with_domain s.config.domain pushes → Fits (record r { pushed = pushed }) (record s { pushes = pushes })
 fits_noted_push r s fits pushed pushes same = record {
   core = fits.core;
   opened = record { rows = fits.opened.rows; boxes = fits.opened.boxes; unused = fits.opened.unused };
@@ -351,7 +351,7 @@ fits_push r s fits k is p =
 -- it is closed
 pub fits_close : (r : Records) (s : State) → Fits r s → (k : ℕ) → is_open (s.session k) ≡ true → (refusal : Refusal) → Fits (close_in r k refusal) (closing s k refusal)
 fits_close r s fits k is refusal =
-    let v : Session = closed refusal (s.session k) in
+    let v : Session = tell_end refusal (s.session k) in
     let there : is_there s.session k ≡ true = ap not (open_remains (s.session k) is) in
     subst (λ b. Fits (close_in r k refusal) (if b then with_push s k v (push.Closed refusal) else s)) (sym is)
     (fits_noted_push (record r { sessions = map (with_status k Closed) r.sessions; part = part_pushing r.part k (push.Closed refusal) }) (set_session s k v)

@@ -25,9 +25,9 @@ use Rattle.cast_rules.specs.Rules.Rest.{told_of}
 use Rattle.cast_order.specs.Order.{known_order, still_to_list}
 use Rattle.cast_rules.specs.History.{history}
 use Rattle.cast_domain.specs.declared.record.GroupRecord.{GroupRecord}
-use Rattle.cast_types.specs.Names.{named}
+use Rattle.cast_types.specs.Names.{uid_in}
 use Rattle.cast_timer.specs.declared.key.OwedKind.TheVariants.{Want}
-use Rattle.cast_ready.specs.Ready.{covered}
+use Rattle.cast_ready.specs.Ready.{covered_entries}
 use Rattle.cast_view.specs.MemberSide.{is_pending}
 use Rattle.cast_rules.specs.State.{State, local, serials, gate_of, with_delivery, abcasts_with}
 use Rattle.cast_rules.specs.Order.{holders, told_by}
@@ -42,7 +42,7 @@ use Rattle.cast_view.specs.Home.{wants_in}
 use Rattle.cast_rules.specs.Rules.Keys.{want_key, message_key}
 use Rattle.cast_rules.specs.Rules.Flushes.{go_on_all}
 use Rattle.cast_rules.specs.Rules.Home.{lead}
-use Rattle.cast_rules.specs.Endings.{total, one_if, left, rank, ranks, undelivered, is_to_come, to_list_by, to_list_in, to_list, to_do, site_unowed, unowed_in, unowed, pendings}
+use Rattle.cast_rules.specs.Endings.{total, one_if, left_count, rank, ranks, undelivered_count, is_to_come, to_list_by, to_list_in, to_list, to_do, site_unowed, unowed_in, unowed_count, pendings}
 use Rattle.cast_domain.specs.Records.{Records}
 use Rattle.cast_domain.specs.Fits.{record_for, process_named, Fits}
 use Rattle.cast_rules.proofs.Alikes.{Alike, alike_sending}
@@ -347,14 +347,14 @@ same_to_do r s t a b goes idle got = λ i. undelivered_same i + ranks_same i + (
       | inl none ↦ ap (is_among uid_eq u) (idle k (member_of_none r s a k none))
     ]
 
-    left_same : (k : ℕ) (got : List Message) → left (t.process k).delivered got ≡ left (s.process k).delivered got
+    left_same : (k : ℕ) (got : List Message) → left_count (t.process k).delivered got ≡ left_count (s.process k).delivered got
     left_same k [] = refl
     left_same k (m ∷ got) = λ i. one_if (not (has_same k m.id i)) + left_same k got i
 
-    undelivered_same : undelivered t ≡ undelivered s
+    undelivered_same : undelivered_count t ≡ undelivered_count s
     undelivered_same =
-        (λ i. total (λ k. left (t.process k).delivered (got i)) (range_with_len 1 (used_same i)))
-        ∙ total_same (λ k. left (t.process k).delivered s.got) (λ k. left (s.process k).delivered s.got) (range_with_len 1 s.used) (λ k. left_same k s.got)
+        (λ i. total (λ k. left_count (t.process k).delivered (got i)) (range_with_len 1 (used_same i)))
+        ∙ total_same (λ k. left_count (t.process k).delivered s.got) (λ k. left_count (s.process k).delivered s.got) (range_with_len 1 s.used) (λ k. left_same k s.got)
 
     -- what is kept of the groups is the same
     records_same : map (record_for t) t.config.groups ≡ map (record_for s) s.config.groups
@@ -410,7 +410,7 @@ same_to_do r s t a b goes idle got = λ i. undelivered_same i + ranks_same i + (
         ∙ lists_in s.config.groups ((λ i. map (record_for t) (sym config_same i).groups) ∙ records_same)
 
 -- and as many Wants still to be owed
-same_unowed : (r : Records) (s t : State) → Fits r s → Fits r t → unowed t ≡ unowed s
+same_unowed : (r : Records) (s t : State) → Fits r s → Fits r t → unowed_count t ≡ unowed_count s
 same_unowed r s t a b = (λ i. total (unowed_in t) (config_same i).groups) ∙ unowed_groups s.config.groups ((λ i. map (record_for t) (sym config_same i).groups) ∙ (sym b.groups ∙ a.groups))
   where
     config_same : t.config ≡ s.config
@@ -421,7 +421,7 @@ same_unowed r s t a b = (λ i. total (unowed_in t) (config_same i).groups) ∙ u
 
     site_same : (g : GroupNo) → t.group g ≡ s.group g → site_unowed t g ≡ site_unowed s g
     site_same g same = λ i. elim (same i).pending as (λ _. ℕ) [
-      | Some p ↦ total (λ e. one_if (not (is_owed (owed_same i) (message_key Want (named g (same i).number e) (config_same i).home)))) (covered p.cut)
+      | Some p ↦ total (λ e. one_if (not (is_owed (owed_same i) (message_key Want (uid_in g (same i).number e) (config_same i).home)))) (covered_entries p.cut)
       | None ↦ 0
     ]
 

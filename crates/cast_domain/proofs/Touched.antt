@@ -20,7 +20,7 @@ use Rattle.cast_timer.specs.Owed.{is_owed}
 use Rattle.cast_timer.specs.declared.key.OwedKey.{OwedKey}
 use Rattle.cast_timer.specs.declared.key.OwedKind.TheVariants as kinds
 use Rattle.cast_view.specs.MemberSide.{is_current}
-use Rattle.cast_stable.specs.Runs.{no_counts, inserted}
+use Rattle.cast_stable.specs.Runs.{no_counts, insert_count}
 use Rattle.cast_stable.specs.declared.witness.Witness.{Witness}
 use Rattle.cast_stable.specs.Witnesses.{witness}
 use Rattle.cast_stable.specs.Acks.{Acks, acked_run, told_count, is_received_in, is_stable_among, is_stable_in, others_in, upto_in, acked_ledger, learnt_ledger}
@@ -46,7 +46,7 @@ stable_acked l from u v apart = among (others_in l v.group)
     counts : (sites : List SiteNo) → map (λ site. (acked_run (acked_ledger l from u) (source_of v) site).upto) sites ≡ map (λ site. (acked_run l (source_of v) site).upto) sites
     counts [] = refl
     counts (site ∷ sites) =
-        λ i. (put_elsewhere witness_total witness_exact l.acked (witness (source_of v) site) (witness (source_of u) from) (inserted (acked_run l (source_of u) from) u.count) no_counts (λ same. apart (ap (λ (w : Witness). w.source) same)) i).upto
+        λ i. (put_elsewhere witness_total witness_exact l.acked (witness (source_of v) site) (witness (source_of u) from) (insert_count (acked_run l (source_of u) from) u.count) no_counts (λ same. apart (ap (λ (w : Witness). w.source) same)) i).upto
         ∷ counts sites i
 
     among : (sites : List SiteNo) → is_stable_among (acked_ledger l from u) sites v ≡ is_stable_among l sites v

@@ -8,7 +8,7 @@ use Rattle.std.proofs.lemmas.List.Folds.{list_any-append}
 use Rattle.cast_types.specs.declared.names.GroupNo.{GroupNo}
 use Rattle.cast_types.specs.declared.names.Proc.{Proc}
 use Rattle.cast_types.specs.declared.limits.TheConstants.{MAX_POSITION}
-use Rattle.cast_types.specs.Names.{Entry, site_eq, group_eq, uid_eq, entry_eq, named}
+use Rattle.cast_types.specs.Names.{Entry, site_eq, group_eq, uid_eq, entry_eq, uid_in}
 use Rattle.cast_types.specs.Sets.{is_among}
 use Rattle.cast_types.proofs.Orders.{same_group, same_entry, site_itself}
 use Rattle.cast_clock.specs.Times.{count_in}
@@ -87,12 +87,12 @@ module _ (r : Records) (s : State) (fits : Fits r s) (lawful : IsLawful s) (g : 
   -- what passes it is over in the history
 
   abbrev message_there : Entry → Bool
-  message_there e = is_still_kept s (named g (s.group g).number e)
+  message_there e = is_still_kept s (uid_in g (s.group g).number e)
 
-  kept_there : (e : Entry) → is_kept_among r.part.kept (named g (s.group g).number e) ≡ message_there e
+  kept_there : (e : Entry) → is_kept_among r.part.kept (uid_in g (s.group g).number e) ≡ message_there e
   kept_there e =
-      any_message (λ m. uid_eq m.id (named g (s.group g).number e)) r.part.kept
-      ∙ ap (list_any (λ m. uid_eq m.id (named g (s.group g).number e))) fits.messages.kept_in
+      any_message (λ m. uid_eq m.id (uid_in g (s.group g).number e)) r.part.kept
+      ∙ ap (list_any (λ m. uid_eq m.id (uid_in g (s.group g).number e))) fits.messages.kept_in
 
   counted_there : (n k : ℕ) → is_counted_of r (record_for s g) (local s k, n) ≡ true → is_member ((s.process k).standing g) ≡ true → n ≤ count_in (s.process k).time g (local s k)
   counted_there n k counted member =
@@ -108,14 +108,14 @@ module _ (r : Records) (s : State) (fits : Fits r s) (lawful : IsLawful s) (g : 
   record OverParts (e : Entry) : Type 0 where
     pub some : nat_lt 0 e.1 ≡ true
     pub received : is_received_of r (record_for s g) e ≡ true
-    pub let_go : not (is_kept_among r.part.kept (named g (s.group g).number e)) ≡ true
+    pub let_go : not (is_kept_among r.part.kept (uid_in g (s.group g).number e)) ≡ true
     pub delivered : not (is_awaited_of r (record_for s g) e) ≡ true
     pub counted : is_counted_of r (record_for s g) e ≡ true
 
   over_parts : (e : Entry) → over_test e ≡ true → OverParts e
   over_parts e is =
       let a = and_parts (is_received_of r (record_for s g) e) _ is in
-      let b = and_parts (not (is_kept_among r.part.kept (named g (s.group g).number e))) (is_past_of r (record_for s g) e) a.1 in
+      let b = and_parts (not (is_kept_among r.part.kept (uid_in g (s.group g).number e))) (is_past_of r (record_for s g) e) a.1 in
       let c = and_parts (nat_lt 0 e.1) _ b.1 in
       let d = and_parts (not (is_awaited_of r (record_for s g) e)) (is_counted_of r (record_for s g) e) c.1 in
       record { some = c.0; received = a.0; let_go = b.0; delivered = d.0; counted = d.1 }
@@ -125,7 +125,7 @@ module _ (r : Records) (s : State) (fits : Fits r s) (lawful : IsLawful s) (g : 
       let parts = over_parts e is in
       record {
         received = sym (received_same r s fits g lawful e (ltb-true 0 e.1 parts.some)) ∙ parts.received;
-        let_go = sym (kept_there e) ∙ not-true (is_kept_among r.part.kept (named g (s.group g).number e)) parts.let_go;
+        let_go = sym (kept_there e) ∙ not-true (is_kept_among r.part.kept (uid_in g (s.group g).number e)) parts.let_go;
         counted = λ k member own. counted_there e.1 k (subst (λ p. is_counted_of r (record_for s g) (p, e.1) ≡ true) own parts.counted) member;
       }
 
@@ -133,13 +133,13 @@ module _ (r : Records) (s : State) (fits : Fits r s) (lawful : IsLawful s) (g : 
   passed_here : (e : Entry) → is_delivered_here s g e ≡ true → (p : Proc) → goes_on s g p ≡ true → has_passed s g p e ≡ true
   passed_here e all p on = at (site_eq p.site s.here) on
     where
-      at : (b : Bool) → is_member ((if b then s.process p.serial else no_process).standing g) ≡ true → has_delivered (if b then s.process p.serial else no_process) (named g (s.group g).number e) ≡ true
+      at : (b : Bool) → is_member ((if b then s.process p.serial else no_process).standing g) ≡ true → has_delivered (if b then s.process p.serial else no_process) (uid_in g (s.group g).number e) ≡ true
       at true member =
           let given = row_given s r.delay.rows fits.processes.has_row s.used fits.processes.rows p.serial (member_row r s fits p.serial g member) in
           let parts = and_parts (nat_lt 0 p.serial) (nat_le p.serial s.used) given in
           let low = ltb-true 0 p.serial parts.0 in
           let high = leb-true p.serial s.used parts.1 in
-          range_all (λ k. is_member ((s.process k).standing g)) (λ k. has_delivered (s.process k) (named g (s.group g).number e)) 1 s.used all p.serial (omega (arith, low)) (omega (arith, high)) member
+          range_all (λ k. is_member ((s.process k).standing g)) (λ k. has_delivered (s.process k) (uid_in g (s.group g).number e)) 1 s.used all p.serial (omega (arith, low)) (omega (arith, high)) member
       at false member = absurd (false≢true member)
 
   passed_there : (p : Proc) → goes_on s g p ≡ true → (e : Entry) → over_test e ≡ true → has_passed s g p e ≡ true

@@ -10,7 +10,7 @@ use Rattle.cast_types.specs.declared.names.GroupNo.{GroupNo}
 use Rattle.cast_types.specs.declared.names.Proc.{Proc}
 use Rattle.cast_types.specs.declared.names.Key.{Key}
 use Rattle.cast_types.specs.declared.names.Uid.{Uid}
-use Rattle.cast_types.specs.Names.{Entry, group_eq, entry_eq, uid_eq, is_atomic, named, entry_of}
+use Rattle.cast_types.specs.Names.{Entry, group_eq, entry_eq, uid_eq, is_atomic, uid_in, entry_of}
 use Rattle.cast_types.specs.Sets.{is_among}
 use Rattle.cast_types.proofs.Orders.{group_itself, uid_itself}
 use Rattle.cast_types.specs.Repeat.{iterate}
@@ -29,7 +29,7 @@ use Rattle.cast_delay.specs.Fits.{FirstReady, HasTurns, Fits as QueueFits, deliv
 use Rattle.cast_delay.proofs.Delivers.{only_member}
 use Rattle.cast_delay.proofs.Queues.{delivery_fits, next_rules, passed_delivered}
 use Rattle.cast_order.specs.Order.{next_of}
-use Rattle.cast_order.specs.Log.{Log, log_of, change_log, next_in, passed}
+use Rattle.cast_order.specs.Log.{Log, log_of, change_log, next_in, pass_ids}
 use Rattle.cast_view.specs.MemberSide.{is_pending}
 use Rattle.cast_rules.specs.History.{history}
 use Rattle.cast_rules.specs.State.{State, local, is_group, gate_of, was_given, with_delivery}
@@ -41,7 +41,7 @@ use Rattle.cast_rules.proofs.Rules.Leaving.{tell_follows}
 use Rattle.cast_rules.proofs.Rules.Rest.{told_if_keeps}
 use Rattle.cast_rules.proofs.Telling.{tells_told_if}
 use Rattle.cast_rules.specs.Rest.{deliver_first, deliver_all, is_free}
-use Rattle.cast_rules.specs.Endings.{left}
+use Rattle.cast_rules.specs.Endings.{left_count}
 use Rattle.cast_domain.specs.Records.{Records}
 use Rattle.cast_rules.specs.Rules.Release as release
 use Rattle.cast_domain.specs.Calls.{records, resting_records, sets_order_in, turns_in, told_in, weight_of, note_weight_in, note_delivered_under, ready_key_in}
@@ -156,7 +156,7 @@ ready_placed s k m ready atomic away none =
     g = m.id.group
 
     has : Entry → Bool
-    has e = has_delivered (s.process k) (named g (s.group g).number e)
+    has e = has_delivered (s.process k) (uid_in g (s.group g).number e)
 
     in_turn : has_turn (turn_of s k g) (entry_of m.id) ≡ true
     in_turn =
@@ -200,7 +200,7 @@ fits_turn r s fits l k given key m under at kept ready = record {
   };
   acks = fits.acks;
   orders = logs_deliver s k m (passing r s k key m) r.orders fits.orders kept (ready_current s k m ready) (ready_opens s k m ready) (ready_placed s k m ready)
-      (subst (λ v. find (λ e. not (has_delivered (process_named (with_delivery s k m) (local s k)) (named m.id.group v e))) (take (passing r s k key m) ids) ≡ None) view
+      (subst (λ v. find (λ e. not (has_delivered (process_named (with_delivery s k m) (local s k)) (uid_in m.id.group v e))) (take (passing r s k key m) ids) ≡ None) view
       (passed_delivered s.config.groups (gate_of s) (process_named (with_delivery s k m)) r.part.kept (turned r s k key m).delay delay_now (local s k) m.id.group m.id.view ids
       (still_after r.delay.offered (local s k) key (local s k) r.delay.rows (member_row r s fits k m.id.group (ready_member s k m ready))) (omega (arith, view))))
       (λ g member. join_counts_on (s.process k).time m.times g (local s k) (l.stamped m at) (delivered_view s k m l at ready g member ∙ sym (l.current k g member)));
@@ -229,7 +229,7 @@ noted_as r s fits l k key m ready = at (weight_of m.body)
     g = m.id.group
 
     passes : List Log
-    passes = change_log g (passed (local s k) (passing r s k key m)) r.orders
+    passes = change_log g (pass_ids (local s k) (passing r s k key m)) r.orders
 
     same : sets_order_in (turned r s k key m) g (local s k) ≡ sets_order s g k
     same = sets_order_there r s fits g (ready_listed s k m l ready) k
@@ -315,15 +315,15 @@ fits_turns (suc n) r s fits l k given =
     fits_turns n (rest.deliver_first records resting_records k r) (deliver_first k s) (fits_first r s fits l k given) (lawful_first s k l) k (ap (λ u. was_given u k) (kept_first k s).used ∙ given)
 
 -- fewer are left of fewer
-left_filter : (ids : List Uid) (test : Message → Bool) (got : List Message) → left ids (filter test got) ≤ left ids got
+left_filter : (ids : List Uid) (test : Message → Bool) (got : List Message) → left_count ids (filter test got) ≤ left_count ids got
 left_filter ids test [] = omega arith
-left_filter ids test (m ∷ got) = elim (test m) as (λ b. left ids (cond b (m ∷ filter test got) (filter test got)) ≤ left ids (m ∷ got)) [
+left_filter ids test (m ∷ got) = elim (test m) as (λ b. left_count ids (cond b (m ∷ filter test got) (filter test got)) ≤ left_count ids (m ∷ got)) [
   | true ↦ let rest = left_filter ids test got in omega (arith, rest)
   | false ↦ let rest = left_filter ids test got in omega (arith, rest)
 ]
 
 -- a delivery leaves fewer of the kept messages undelivered
-kept_less : (s : State) (k : ℕ) (m : Message) → find (is_ready_for s k) s.kept ≡ Some m → left ((delivering_one s k m).process k).delivered (delivering_one s k m).kept < left (s.process k).delivered s.kept
+kept_less : (s : State) (k : ℕ) (m : Message) → find (is_ready_for s k) s.kept ≡ Some m → left_count ((delivering_one s k m).process k).delivered (delivering_one s k m).kept < left_count (s.process k).delivered s.kept
 kept_less s k m e =
     let t : State = delivering_one s k m in
     let same : (t.process k).delivered ≡ (s.process k).delivered ++ m.id ∷ [] = (delivers s k m).delivered k ∙ ap (λ b. if b then (s.process k).delivered ++ m.id ∷ [] else (s.process k).delivered) (eq-eqb k k refl) in
@@ -331,11 +331,11 @@ kept_less s k m e =
     let free : Message → Bool = λ x. not (is_free (delivering s k m) x.id) in
     let least = left_filter ((s.process k).delivered ++ m.id ∷ []) free s.kept in
     let before : (delivering s k m).kept ≡ s.kept = (tells_told_if (with_delivery s k m) k (told_of m.id m.body)).kept in
-    let now : left (t.process k).delivered t.kept ≡ left ((s.process k).delivered ++ m.id ∷ []) (filter free s.kept) = (λ i. left (same i) (filter free (before i))) in
+    let now : left_count (t.process k).delivered t.kept ≡ left_count ((s.process k).delivered ++ m.id ∷ []) (filter free s.kept) = (λ i. left_count (same i) (filter free (before i))) in
     omega (arith, fewer, least, now)
 
 -- as many turns as messages are kept are enough
-settled_kept : (n : ℕ) (s : State) (k : ℕ) → IsLawful s → was_given s.used k ≡ true → left (s.process k).delivered s.kept ≤ n → find (is_ready_for (iterate n (deliver_first k) s) k) (iterate n (deliver_first k) s).got ≡ None
+settled_kept : (n : ℕ) (s : State) (k : ℕ) → IsLawful s → was_given s.used k ≡ true → left_count (s.process k).delivered s.kept ≤ n → find (is_ready_for (iterate n (deliver_first k) s) k) (iterate n (deliver_first k) s).got ≡ None
 settled_kept zero s k l given enough =
     elim (find (is_ready_for s k) s.got) as (λ o. find (is_ready_for s k) s.got ≡ o → o ≡ None) [
       | None ↦ λ _. refl
@@ -346,7 +346,7 @@ settled_kept (suc n) s k l given enough =
       | None ↦ λ e. subst (λ t. find (is_ready_for t k) t.got ≡ None) (sym (ap (iterate n (deliver_first k)) (delivered_none s k e) ∙ iterate_still n (deliver_first k) s (delivered_none s k e))) e
       | Some m ↦ λ e.
           let less = kept_less s k m (sym (ready_kept s k given l) ∙ e) in
-          let less_first : left ((deliver_first k s).process k).delivered (deliver_first k s).kept < left (s.process k).delivered s.kept = subst (λ t. left (t.process k).delivered t.kept < left (s.process k).delivered s.kept) (sym (delivered_first s k m e)) less in
+          let less_first : left_count ((deliver_first k s).process k).delivered (deliver_first k s).kept < left_count (s.process k).delivered s.kept = subst (λ t. left_count (t.process k).delivered t.kept < left_count (s.process k).delivered s.kept) (sym (delivered_first s k m e)) less in
           settled_kept n (deliver_first k s) k (lawful_first s k l) (ap (λ u. was_given u k) (kept_first k s).used ∙ given) (omega (arith, less_first, enough))
     ] refl
 
@@ -354,5 +354,5 @@ settled_kept (suc n) s k l given enough =
 pub fits_deliver_all : (r : Records) (s : State) → Fits r s → IsLawful s → (k : ℕ) → was_given s.used k ≡ true → Fits (rest.deliver_all records resting_records r k) (deliver_all s k)
 fits_deliver_all r s fits l k given =
     let n : ℕ = length r.part.kept in
-    let enough : left (s.process k).delivered s.kept ≤ n = subst (λ x. left (s.process k).delivered s.kept ≤ x) (ap length (sym fits.messages.kept_in) ∙ length-map r.part.kept (λ (x : Received). x.message)) (left_le (s.process k).delivered s.kept) in
+    let enough : left_count (s.process k).delivered s.kept ≤ n = subst (λ x. left_count (s.process k).delivered s.kept ≤ x) (ap length (sym fits.messages.kept_in) ∙ length-map r.part.kept (λ (x : Received). x.message)) (left_le (s.process k).delivered s.kept) in
     subst (Fits (rest.deliver_all records resting_records r k)) (turns_are_enough s k n (settled_kept n s k l given enough)) (fits_turns n r s fits l k given)

@@ -12,13 +12,13 @@ use Rattle.cast_types.specs.declared.names.Standing.TheVariants.{Outside, Joinin
 use Rattle.cast_types.specs.declared.refusal.Refusal.{Refusal}
 use Rattle.cast_types.specs.declared.refusal.Refusal.TheVariants.{Slow}
 use Rattle.cast_types.specs.declared.limits.TheConstants.{MAX_NUMBER, MAX_MOMENT, MAX_PLACED, MAX_POSITION, MAX_UNSETTLED}
-use Rattle.cast_types.specs.Names.{Entry, site_eq, group_eq, proc_eq, uid_eq, entry_eq, entry_cmp, is_atomic, named, entry_of}
+use Rattle.cast_types.specs.Names.{Entry, site_eq, group_eq, proc_eq, uid_eq, entry_eq, entry_cmp, is_atomic, uid_in, entry_of}
 use Rattle.cast_types.specs.Sets.{is_among, with_item}
 use Rattle.cast_types.specs.Places.{update}
 use Rattle.cast_types.specs.Counts.{CountList, is_within}
 use Rattle.cast_types.specs.Sources.{source}
 use Rattle.cast_types.specs.Stamps.{ClockList}
-use Rattle.cast_clock.specs.Times.{no_time, bumped, entering}
+use Rattle.cast_clock.specs.Times.{no_time, with_bump, entering}
 use Rattle.cast_message.specs.declared.message.Body.{Body}
 use Rattle.cast_message.specs.declared.message.Body.TheVariants as body
 use Rattle.cast_message.specs.declared.message.Message.{Message}
@@ -33,7 +33,7 @@ use Rattle.cast_message.specs.Tail.{Tail}
 use Rattle.cast_message.specs.Placement.{Placement}
 use Rattle.cast_message.specs.KeptIds.{KeptList}
 use Rattle.cast_flush.specs.declared.report.Report.{Report}
-use Rattle.cast_ready.specs.Ready.{frozen_gate, pending_gate, is_member, first_of, covered}
+use Rattle.cast_ready.specs.Ready.{frozen_gate, pending_gate, is_member, first_of, covered_entries}
 use Rattle.cast_ready.specs.DeliveredCounts.{counts_in}
 use Rattle.cast_ready.specs.declared.turn.Turn.{Turn}
 use Rattle.cast_ready.specs.declared.turn.Turn.TheVariants.{Holding, Following}
@@ -42,8 +42,8 @@ use Rattle.cast_ready.specs.Rows.{standing_in, told_row, new_row}
 use Rattle.cast_ready.specs.declared.row.ProcessUpdate.{ProcessUpdate}
 use Rattle.cast_ready.specs.declared.row.ProcessUpdate.TheVariants as fact
 use Rattle.cast_delay.specs.Queue.{Queue, row_of, but_row, change_row, next_key, queue_gating, queue_viewing, queue_delivering, is_awaited, delivered_in, passed_in}
-use Rattle.cast_order.specs.Hand.{Hand, held, handed, told, noted, settled_by}
-use Rattle.cast_order.specs.Log.{Log, log_of, change_log, but_log, learnt, next_in, passed, hand_here, with_hand, next_places, places_by, known_past, length_of, closed_by, whole_kept, tail_start_in, tail_ids_in}
+use Rattle.cast_order.specs.Hand.{Hand, hold_from, hand_over, note_unlisted, note_order_sent, settled_by}
+use Rattle.cast_order.specs.Log.{Log, log_of, change_log, but_log, learnt, next_in, pass_ids, hand_here, with_hand, next_places, places_by, known_past, length_of, closed_by, whole_kept, tail_start_in, tail_ids_in}
 use Rattle.cast_stable.specs.Acks.{others_in, last_received_in, is_received_in, has_acked_in, upto_in, is_stable_in, told_ledger, received_ledger, acked_ledger, learnt_ledger}
 use Rattle.cast_timer.specs.declared.key.OwedKey.{OwedKey}
 use Rattle.cast_timer.specs.Owed.{is_owed, due_at}
@@ -59,7 +59,7 @@ use Rattle.cast_domain.specs.GivenSessions.{SessionRecord, status_in}
 use Rattle.cast_view.specs.declared.member.Pending.{Pending}
 use Rattle.cast_view.specs.MemberSide.{MemberSide, no_group, members_of, holder_at, is_current, is_open_to, with_request, with_answer, frozen_side, report_of, with_pending, with_view, is_taken_in}
 use Rattle.cast_view.specs.Sites.{is_at, other_sites}
-use Rattle.cast_view.specs.Home.{HomeMove, first_home, is_empty, moved}
+use Rattle.cast_view.specs.Home.{HomeMove, first_home, is_empty, apply_move}
 use Rattle.cast_domain.specs.Shared.{part_boxing, part_pushing, part_taking, part_with, part_without, part_owing, part_renewing, part_paying, part_paying_upto, part_paying_view}
 use Rattle.cast_rules.specs.State.{was_given}
 use Rattle.cast_rules.specs.Rules.Interface.{Site, Sessions, Resting}
@@ -116,7 +116,7 @@ time_of q p = option_map_or (λ row. row.time) (row_of q.rows p) no_time
 
 -- the time of a process with one more message of its own, and the stamp of that; none where the count cannot be raised
 abbrev pub raised_in : Queue → Proc → GroupNo → Option (ClockList × ClockList)
-raised_in q p g = if may_raise (time_of q p) g p then Some (bumped (time_of q p) g p, bumped (time_of q p) g p) else None
+raised_in q p g = if may_raise (time_of q p) g p then Some (with_bump (time_of q p) g p, with_bump (time_of q p) g p) else None
 
 -- Changes of one part
 
@@ -217,7 +217,7 @@ note_answer_in r i = record r { groups = update r.groups i (λ x. record x { her
 
 -- the home of a group moves on
 abbrev pub moved_home : HomeMove → GroupRecord → GroupRecord
-moved_home move x = record x { home = moved move x.home }
+moved_home move x = record x { home = apply_move move x.home }
 
 -- the home keeps nothing
 abbrev pub with_first_home : GroupRecord → GroupRecord
@@ -227,8 +227,8 @@ abbrev pub move_home_in : Records → ℕ → HomeMove → Records
 move_home_in r i move = record r { groups = update r.groups i (moved_home move) }
 
 -- what a site reports, by the parts of its frame
-abbrev pub reported : CountList → Tail → KeptList → Report
-reported counts tail kept = record { counts = counts; tail = tail; kept = kept }
+abbrev pub report_from_parts : CountList → Tail → KeptList → Report
+report_from_parts counts tail kept = record { counts = counts; tail = tail; kept = kept }
 
 -- Processes
 
@@ -240,12 +240,12 @@ note_outside_in r k g = tell_in r (local_in r k) (fact.Standing g Outside)
 
 -- how many messages of a process of this site are stable in a view: all in a view of this site alone
 abbrev pub settled_in : Records → GroupNo → ℕ → Proc → ℕ
-settled_in r g view p = if is_empty (others_in r.acks g) then MAX_NUMBER else upto_in r.acks (named g view (p, 0))
+settled_in r g view p = if is_empty (others_in r.acks g) then MAX_NUMBER else upto_in r.acks (uid_in g view (p, 0))
 
 -- what is kept of a process that sent a set-order message: that it did so, and that the token is handed over, if it is
 abbrev pub sent_hand : ℕ → ℕ → Placement → Hand → Hand
 sent_hand count stable s h =
-    let now : Hand = noted count (s.first + length s.ids - 1) stable h in if is_some s.holder then handed now else now
+    let now : Hand = note_order_sent count (s.first + length s.ids - 1) stable h in if is_some s.holder then hand_over now else now
 
 -- the logs once a process here has sent a message, where its messages up to a count are stable
 abbrev pub orders_sent : List Log → Uid → ℕ → Body → List Log
@@ -289,7 +289,7 @@ take_in g n request r p =
 -- a group's view has a holder, which is a process here, or none is
 abbrev pub holding_from : GroupNo → Option Proc → List Log → List Log
 holding_from g None orders = orders
-holding_from g (Some p) orders = change_log g (with_hand p (held 1)) orders
+holding_from g (Some p) orders = change_log g (with_hand p (hold_from 1)) orders
 
 abbrev pub view_in : Records → ℕ → ℕ → Membership → Records
 view_in r i n members =
@@ -428,12 +428,12 @@ report_at r x =
 
 -- some member here has not delivered a message of the view of a group
 abbrev pub is_awaited_of : Records → GroupRecord → Entry → Bool
-is_awaited_of r x e = is_awaited r.delay.rows (named x.name x.here.number e)
+is_awaited_of r x e = is_awaited r.delay.rows (uid_in x.name x.here.number e)
 
 -- it was received: of a process that is no member, and of another site, nothing was
 abbrev pub is_received_of : Records → GroupRecord → Entry → Bool
 is_received_of r x e =
-    (is_among proc_eq e.0 (members_of x.here) || site_eq e.0.site r.site) && is_received_in r.acks (named x.name x.here.number e)
+    (is_among proc_eq e.0 (members_of x.here) || site_eq e.0.site r.site) && is_received_in r.acks (uid_in x.name x.here.number e)
 
 abbrev pub has_cut_of : Records → GroupRecord → CountList → Bool
 has_cut_of r x cut = list_all (λ e. not (is_awaited_of r x e)) cut
@@ -452,7 +452,7 @@ missing_upto r x e = filter (is_missing_of r x) (first_of e)
 
 -- of those that a cut covers
 abbrev pub missing_of : Records → GroupRecord → CountList → List Entry
-missing_of r x cut = take MAX_PLACED (filter (is_missing_of r x) (covered cut))
+missing_of r x cut = take MAX_PLACED (filter (is_missing_of r x) (covered_entries cut))
 
 -- of the group at a place
 abbrev pub has_cut_in : Records → ℕ → CountList → Bool
@@ -506,7 +506,7 @@ settled_at r p x = settled_by (settled_in r x.name x.here.number p) (hand_here (
 abbrev pub unsettled_at : Records → Proc → GroupRecord → ℕ
 unsettled_at r p x =
     ((log_in r x.name).base - settled_at r p x)
-    + length (filter (λ e. delivered_in r.delay p (named x.name x.here.number e)) (known_past (settled_at r p x) (log_in r x.name)))
+    + length (filter (λ e. delivered_in r.delay p (uid_in x.name x.here.number e)) (known_past (settled_at r p x) (log_in r x.name)))
     + waiting_past (log_in r x.name) p (settled_at r p x)
 
 -- the place from which another process would order
@@ -615,7 +615,7 @@ answered_in r e = answered records records_sessions r e
 -- Rules of what has many parts, by these
 
 abbrev pub on_flushed_in : Records → ℕ → SiteNo → ℕ → CountList → Tail → KeptList → Records
-on_flushed_in r i from view counts tail kept = on_flushed records r i from view (reported counts tail kept)
+on_flushed_in r i from view counts tail kept = on_flushed records r i from view (report_from_parts counts tail kept)
 
 abbrev pub on_install_in : Records → ℕ → SiteNo → ℕ → Membership → ℕ → CountList → Tail → Records
 on_install_in r i from view members request cut tail = on_install records r i from view members request cut tail
@@ -648,14 +648,14 @@ turns_in r p = map (λ x. (x.name, turn_at r p x)) r.groups
 -- the order's log notes that a process delivered an ABCAST: who holds the token has one more to list, if it is not in the order known, another
 -- process may have passed places
 abbrev pub told_in : GroupNo → Proc → Entry → List Log → List Log
-told_in g p e orders = if is_among entry_eq e (log_of orders g).window then orders else change_log g (with_hand p (told e)) orders
+told_in g p e orders = if is_among entry_eq e (log_of orders g).window then orders else change_log g (with_hand p (note_unlisted e)) orders
 
 abbrev pub note_delivery_in : Records → Proc → Uid → Records
 note_delivery_in r p u =
     record r {
       orders =
           if sets_order_in r u.group p then told_in u.group p (entry_of u) r.orders
-          else change_log u.group (passed p (passed_in r.delay p u.group u.view (next_in (log_in r u.group) p))) r.orders;
+          else change_log u.group (pass_ids p (passed_in r.delay p u.group u.view (next_in (log_in r u.group) p))) r.orders;
     }
 
 -- The rest, as the rules see it
@@ -678,7 +678,7 @@ abbrev pub note_weight_in : Weight → Records → Proc → Uid → Records
 note_weight_in Nothing r p u = r
 note_weight_in Placed r p u = note_delivery_in r p u
 note_weight_in (Hands q first) r p u =
-    record r { orders = if proc_eq q p then change_log u.group (with_hand p (held first)) r.orders else r.orders }
+    record r { orders = if proc_eq q p then change_log u.group (with_hand p (hold_from first)) r.orders else r.orders }
 
 -- and that is noted for the order of its view
 abbrev pub note_delivered_under : Records → Proc → Key → Message → Records
@@ -704,7 +704,7 @@ note_delivered_in r k m = option_map_or (λ key. note_delivered_under r (local_i
 
 -- the time of a local process, with its count in the group at a place raised
 abbrev pub raised_at : Records → ℕ → ℕ → ClockList
-raised_at r i k = bumped (time_of r.delay (local_in r k)) (record_at r.groups i).name (local_in r k)
+raised_at r i k = with_bump (time_of r.delay (local_in r k)) (record_at r.groups i).name (local_in r k)
 
 -- a process is a member of a group, which no flush has frozen, and there is room for one more set-order message
 abbrev pub may_list_of : Records → GroupRecord → Proc → Bool

@@ -8,7 +8,7 @@ use Rattle.cast_types.specs.declared.names.GroupNo.{GroupNo}
 use Rattle.cast_types.specs.declared.names.Proc.{Proc}
 use Rattle.cast_types.specs.declared.limits.TheConstants.{MAX_NUMBER}
 use Rattle.cast_types.specs.declared.names.Uid.{Uid}
-use Rattle.cast_types.specs.Names.{Entry, site_eq, uid_eq, entry_eq, named}
+use Rattle.cast_types.specs.Names.{Entry, site_eq, uid_eq, entry_eq, uid_in}
 use Rattle.cast_types.specs.Sets.{is_among}
 use Rattle.cast_clock.specs.Times.{count_in}
 use Rattle.cast_ready.specs.declared.gate.Gate.{Gate}
@@ -58,8 +58,8 @@ abbrev pub is_there : (ℕ → Session) → ℕ → Bool
 is_there session k = not (is_gone (session k))
 
 -- with the number of the domain
-abbrev pub tagged : {A B : Type 0} → DomainNo → List (A × B) → List (DomainNo × A × B)
-tagged d xs = map (λ x. (d, x.0, x.1)) xs
+abbrev pub with_domain : {A B : Type 0} → DomainNo → List (A × B) → List (DomainNo × A × B)
+with_domain d xs = map (λ x. (d, x.0, x.1)) xs
 
 -- what a history says of receipts. A source is live while a rule may ask of it: its view has not ended, and in its group's view
 -- here it may speak
@@ -80,7 +80,7 @@ past_of s =
 
 -- how many messages of a process of this site are stable
 abbrev pub settled_of : State → GroupNo → Proc → ℕ
-settled_of s g p = if is_empty (others_of s g) then MAX_NUMBER else upto s (named g (s.group g).number (p, 0))
+settled_of s g p = if is_empty (others_of s g) then MAX_NUMBER else upto s (uid_in g (s.group g).number (p, 0))
 
 -- a member of the group here goes on through the order of its view
 abbrev pub goes_on : State → GroupNo → Proc → Bool
@@ -88,7 +88,7 @@ goes_on s g p = is_member ((process_named s p).standing g)
 
 -- a member here has delivered an id of the view
 abbrev pub has_passed : State → GroupNo → Proc → Entry → Bool
-has_passed s g p e = has_delivered (process_named s p) (named g (s.group g).number e)
+has_passed s g p e = has_delivered (process_named s p) (uid_in g (s.group g).number e)
 
 -- a message is kept
 abbrev pub is_still_kept : State → Uid → Bool
@@ -97,8 +97,8 @@ is_still_kept s u = list_any (λ m. uid_eq m.id u) s.kept
 -- a message of a group's view is over: it was received, and is kept no longer; and where its process is a member here, that
 -- has counted it
 pub record IsOver (s : State) (g : GroupNo) (e : Entry) : Type 0 where
-  pub received : is_received s (named g (s.group g).number e) ≡ true
-  pub let_go : is_still_kept s (named g (s.group g).number e) ≡ false
+  pub received : is_received s (uid_in g (s.group g).number e) ≡ true
+  pub let_go : is_still_kept s (uid_in g (s.group g).number e) ≡ false
   pub counted : (k : ℕ) → is_member ((s.process k).standing g) ≡ true → e.0 ≡ local s k → e.1 ≤ count_in (s.process k).time g (local s k)
 
 -- what is kept of a process of this site tells of what it did in the view
@@ -179,9 +179,9 @@ pub record Fits (r : Records) (s : State) : Type 0 where
   pub processes : ProcessesFit s.here s.used s.session s.config.groups (gate_of s) (process_named s) r.part.kept r.delay
   pub acks : AcksFits (past_of s) r.acks
   pub orders : (g : GroupNo) → LogFits s g (log_of r.orders g)
-  pub frames : r.frames ≡ tagged s.config.domain s.frames
-  pub delivered : r.delivered ≡ tagged s.config.domain s.deliveries
-  pub pushed : r.pushed ≡ tagged s.config.domain s.pushes
+  pub frames : r.frames ≡ with_domain s.config.domain s.frames
+  pub delivered : r.delivered ≡ with_domain s.config.domain s.deliveries
+  pub pushed : r.pushed ≡ with_domain s.config.domain s.pushes
 
 -- no process whose session is gone has a row: it was dismissed
 abbrev pub AreDismissed : Records → Type 0

@@ -10,7 +10,7 @@ use Rattle.cast_message.specs.declared.message.Received.{Received}
 use Rattle.cast_store.specs.Store.{kept_in, next_in}
 use Rattle.cast_timer.specs.declared.key.Owed.{Owed}
 use Rattle.cast_timer.specs.declared.key.OwedKey.{OwedKey}
-use Rattle.cast_timer.specs.Owed.{with_owed, paid, renewed, key_eq as owed_key_eq, is_of_view, is_upto, all_renewed}
+use Rattle.cast_timer.specs.Owed.{with_owed, paid, renew, key_eq as owed_key_eq, is_of_view, is_upto, all_renewed}
 use Rattle.cast_timer.specs.Rows.{owed_in}
 use Rattle.cast_outbox.specs.Pending.{with_entry}
 use Rattle.cast_outbox.specs.Outboxes.{outboxes_in}
@@ -56,7 +56,7 @@ abbrev pub part_owing : Part → OwedKey → ℕ → Part
 part_owing p key due = record p { owed = with_owed p.owed key due }
 
 abbrev pub part_renewing : Part → OwedKey → ℕ → Part
-part_renewing p key due = record p { owed = renewed p.owed key due }
+part_renewing p key due = record p { owed = renew p.owed key due }
 
 -- all frames that are due at a moment are owed for another one
 abbrev pub part_renewing_due : Part → ℕ → ℕ → Part

@@ -14,7 +14,7 @@ use Rattle.cast_events.specs.Outs.{outs_then}
 use Rattle.cast_domain.specs.Records.{Records, number_of}
 use Rattle.cast_domain.specs.declared.shared.Shared.{Shared}
 use Rattle.cast_rules.specs.Lawful.{IsLawful}
-use Rattle.cast_domain.specs.Fits.{Fits, Represents, tagged}
+use Rattle.cast_domain.specs.Fits.{Fits, Represents, with_domain}
 
 -- whatever lawful history the old records stand for, the new ones stand for the one in which it comes to rest
 abbrev pub IsRested : Records → Records → Type 0
@@ -24,10 +24,10 @@ IsRested old new = (s : State) → Fits old s → IsLawful s → (t : State) × 
 abbrev pub step_outs : State → Outs
 step_outs s =
     record {
-      frames = tagged s.config.domain s.frames;
+      frames = with_domain s.config.domain s.frames;
       halted = [];
-      delivered = tagged s.config.domain s.deliveries;
-      pushed = tagged s.config.domain s.pushes;
+      delivered = with_domain s.config.domain s.deliveries;
+      pushed = with_domain s.config.domain s.pushes;
     }
 
 -- from a history s the event leads with this answer to one for which the domain then stands, and what that step sent,

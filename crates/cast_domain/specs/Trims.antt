@@ -2,7 +2,7 @@
 use Rattle.std.specs.Prelude.{ℕ, Bool, not, ◌&&◌, ◌||◌, nat_lt, nat_le, List, length, position, unwrap_or}
 use Rattle.std.specs.List.{fold, list_any, range_with_len}
 use Rattle.cast_types.specs.declared.names.Uid.{Uid}
-use Rattle.cast_types.specs.Names.{Entry, site_eq, uid_eq, named}
+use Rattle.cast_types.specs.Names.{Entry, site_eq, uid_eq, uid_in}
 use Rattle.cast_clock.specs.Times.{count_in}
 use Rattle.cast_message.specs.declared.message.Received.{Received}
 use Rattle.cast_ready.specs.Ready.{is_member}
@@ -28,7 +28,7 @@ is_kept_among kept u = list_any (λ y. uid_eq y.message.id u) kept
 -- a message of the view of a group is over: it was received, and is kept no longer, and each member here is past it
 abbrev pub is_over_of : Records → GroupRecord → List Received → Entry → Bool
 is_over_of r x kept e =
-    is_received_of r x e && (not (is_kept_among kept (named x.name x.here.number e)) && is_past_of r x e)
+    is_received_of r x e && (not (is_kept_among kept (uid_in x.name x.here.number e)) && is_past_of r x e)
 
 -- how many ids, the first ones, pass a test
 abbrev pub count_first : (Entry → Bool) → List Entry → ℕ

@@ -9,7 +9,7 @@ impl Domain {
     ghost use Rattle.std.specs.Prelude.{◌<◌, length, ◌&&◌, ◌||◌, ◌==◌, min, filter};
     ghost use Rattle.cast_domain.specs.Records.{own_records};
     ghost use Rattle.cast_order.specs.Log.{log_of};
-    ghost use Rattle.cast_types.specs.Names.{named};
+    ghost use Rattle.cast_types.specs.Names.{uid_in};
     ghost use Rattle.cast_delay.specs.Queue.{delivered_in};
     ghost use Rattle.cast_domain.specs.Calls.{waiting_past, settled_at, unsettled_at};
 
@@ -49,7 +49,7 @@ impl Domain {
 
     // How many of these ids of the view of a group a process has delivered.
     fn delivered_of(&self, process: Proc, kept: &GroupRecord, ids: &[(Proc, u32)]) -> usize
-        ensures { result ≡ length (filter (λ e. delivered_in self.now.delay process (named kept.now.name kept.now.here.number e)) ids.now) }
+        ensures { result ≡ length (filter (λ e. delivered_in self.now.delay process (uid_in kept.now.name kept.now.here.number e)) ids.now) }
     {
         ids.iter()
             .filter(|id| self.has_delivered_of(process, kept, **id))
@@ -58,7 +58,7 @@ impl Domain {
 
     // Whether a process has delivered an id of the view of a group.
     fn has_delivered_of(&self, process: Proc, kept: &GroupRecord, id: (Proc, u32)) -> bool
-        ensures { result ≡ delivered_in self.now.delay process (named kept.now.name kept.now.here.number id) }
+        ensures { result ≡ delivered_in self.now.delay process (uid_in kept.now.name kept.now.here.number id) }
     {
         self.delay.has_delivered(
             process,

@@ -44,8 +44,8 @@ abbrev pub pushed_to : Session → Push → Session
 pushed_to s entry = record s { outbox = s.outbox ++ entry ∷ [] }
 
 -- a session is told why it ends, and nothing more
-abbrev pub closed : Refusal → Session → Session
-closed refusal s = record (pushed_to s (push.Closed refusal)) { status = Closed }
+abbrev pub tell_end : Refusal → Session → Session
+tell_end refusal s = record (pushed_to s (push.Closed refusal)) { status = Closed }
 
 -- the first entries, at most so many
 abbrev pub first_entries : ℕ → Session → List Push

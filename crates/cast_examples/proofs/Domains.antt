@@ -2,7 +2,7 @@
 use Rattle.std.specs.Prelude.{◌≡◌, ℕ, List, [], ◌∷◌, ◌++◌, codes, Ok, true, refl}
 use Rattle.std.specs.List.{list_all}
 use Rattle.cast_examples.proofs.Everything.{everything}
-use Rattle.cast_examples.specs.Printed.{lines, printed, rests}
+use Rattle.cast_examples.specs.Printed.{lines, printed_text, rests}
 
 -- two domains of one daemon, in no order of number: what one keeps leaves the other its room, and each counts from 1
 domains_hold_apart : List ℕ
@@ -24,7 +24,7 @@ domains_hold_apart =
     ∷ codes "cast 1 1 2 1 -"
     ∷ codes "cast 2 1 2 1 -" ∷ [])
 
-domains_hold_apart_prints : printed domains_hold_apart ≡ Ok (
+domains_hold_apart_prints : printed_text domains_hold_apart ≡ Ok (
     lines
     (codes "push 2 1 opened 1.1"
     ∷ codes "push 2 1 reply 0 0"
@@ -71,7 +71,7 @@ ticks_are_for_all_domains =
     ∷ codes "tick 40"
     ∷ codes "open 4" ∷ [])
 
-ticks_are_for_all_domains_prints : printed ticks_are_for_all_domains ≡ Ok (
+ticks_are_for_all_domains_prints : printed_text ticks_are_for_all_domains ≡ Ok (
     lines
     (codes "event 12 no domain"
     ∷ codes "push 7 1 opened 1.1"
@@ -118,7 +118,7 @@ sixteen_domains =
     ∷ codes "open 15"
     ∷ codes "open 3" ∷ [])
 
-sixteen_domains_prints : printed sixteen_domains ≡ Ok (
+sixteen_domains_prints : printed_text sixteen_domains ≡ Ok (
     lines
     (codes "event 2 no domain"
     ∷ codes "push 3 1 opened 1.1"
@@ -222,12 +222,12 @@ reused_keys_of_domain_2 =
     ∷ codes "frame 4344010202000200010000000200010000000100000001"
     ∷ codes "frame 4344010202000200010000000200010000000100000002" ∷ [])
 
-reused_keys_prints : printed reused_keys ≡ Ok (lines (prints_1 ++ prints_2))
+reused_keys_prints : printed_text reused_keys ≡ Ok (lines (prints_1 ++ prints_2))
 unfolding everything reused_keys prints_1 prints_2
 reused_keys_prints = refl
 
 -- and each prints what it prints alone
-reused_keys_print_apart : (printed reused_keys_of_domain_1 ≡ Ok (lines prints_1)) × (printed reused_keys_of_domain_2 ≡ Ok (lines prints_2))
+reused_keys_print_apart : (printed_text reused_keys_of_domain_1 ≡ Ok (lines prints_1)) × (printed_text reused_keys_of_domain_2 ≡ Ok (lines prints_2))
 unfolding everything reused_keys_of_domain_1 reused_keys_of_domain_2 prints_1 prints_2
 reused_keys_print_apart = (refl, refl)
 

@@ -2,7 +2,7 @@
 use Rattle.std.specs.Prelude.{◌≡◌, ℕ, List, [], ◌∷◌, codes, Ok, true, refl}
 use Rattle.std.specs.List.{list_all}
 use Rattle.cast_examples.proofs.Everything.{everything}
-use Rattle.cast_examples.specs.Printed.{lines, printed, rests}
+use Rattle.cast_examples.specs.Printed.{lines, printed_text, rests}
 
 -- Data and Acks that no rule uses: from other sites than their process's, for other views, with groups that are not configured, with a time that does not count them
 frames_not_used : List ℕ
@@ -36,7 +36,7 @@ frames_not_used =
     ∷ codes "frame 4344010201000300010000000200010000000100000001"
     ∷ codes "frame 4344010201000200010000000200010000000100000001" ∷ [])
 
-frames_not_used_prints : printed frames_not_used ≡ Ok (
+frames_not_used_prints : printed_text frames_not_used ≡ Ok (
     lines
     (codes "push 1 1 opened 1.1"
     ∷ codes "push 1 1 reply 7 0"
@@ -64,7 +64,7 @@ frame_of_the_last_site =
     ∷ codes "frame 4344010501ffff00010000000100"
     ∷ codes "tick 200" ∷ [])
 
-frame_of_the_last_site_prints : printed frame_of_the_last_site ≡ Ok (
+frame_of_the_last_site_prints : printed_text frame_of_the_last_site ≡ Ok (
     lines
     (codes "push 1 1 opened 1.1"
     ∷ codes "push 1 1 reply 7 0"

@@ -2,7 +2,7 @@
 use Rattle.std.specs.Prelude.{◌≡◌, ℕ, List, [], ◌∷◌, codes, Ok, true, refl}
 use Rattle.std.specs.List.{list_all}
 use Rattle.cast_examples.proofs.Everything.{everything}
-use Rattle.cast_examples.specs.Printed.{lines, printed, rests}
+use Rattle.cast_examples.specs.Printed.{lines, printed_text, rests}
 
 -- requests at the home: next, repeated, lower, higher, of a process that is not at the asking site; a first view
 requests_at_the_home : List ℕ
@@ -24,7 +24,7 @@ requests_at_the_home =
     ∷ codes "frame 4344010401000300020000000201000300000001"
     ∷ codes "frame 4344010401000800020000000101000800000001" ∷ [])
 
-requests_at_the_home_prints : printed requests_at_the_home ≡ Ok (
+requests_at_the_home_prints : printed_text requests_at_the_home ≡ Ok (
     lines
     (codes "push 1 1 opened 1.1"
     ∷ codes "push 1 1 reply 7 0"
@@ -60,7 +60,7 @@ frames_where_no_home_is =
     ∷ codes "frame 4344010a01000900010000000101000200000001000000000000000000000000"
     ∷ codes "frame 4344010a01000900010000000202000100000001000200000001010000000000000000000000" ∷ [])
 
-frames_where_no_home_is_prints : printed frames_where_no_home_is ≡ Ok (
+frames_where_no_home_is_prints : printed_text frames_where_no_home_is ≡ Ok (
     lines
     (codes "push 1 1 opened 1.1"
     ∷ codes "push 1 1 reply 7 0"

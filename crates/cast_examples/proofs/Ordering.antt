@@ -2,7 +2,7 @@
 use Rattle.std.specs.Prelude.{◌≡◌, ℕ, List, [], ◌∷◌, codes, Ok, true, refl}
 use Rattle.std.specs.List.{list_all}
 use Rattle.cast_examples.proofs.Everything.{everything}
-use Rattle.cast_examples.specs.Printed.{lines, printed, rests}
+use Rattle.cast_examples.specs.Printed.{lines, printed_text, rests}
 
 -- an own ABCAST of another group does not hold back a set-order message
 holder_orders_with_own_elsewhere : List ℕ
@@ -20,7 +20,7 @@ holder_orders_with_own_elsewhere =
     ∷ codes "abcast 1 1 20 2 -"
     ∷ codes "frame 4344010101000200010000000200020000000100000001020100010000000201000200000001000000010000" ∷ [])
 
-holder_orders_with_own_elsewhere_prints : printed holder_orders_with_own_elsewhere ≡ Ok (
+holder_orders_with_own_elsewhere_prints : printed_text holder_orders_with_own_elsewhere ≡ Ok (
     lines
     (codes "push 1 1 opened 1.1"
     ∷ codes "push 1 1 reply 7 0"
@@ -55,7 +55,7 @@ order_of_delivery =
     ∷ codes "frame 4344010101000200010000000300020000000100000002020100010000000301000200000001000000020000"
     ∷ codes "frame 4344010101000200010000000300020000000100000001010100010000000301000200000001000000010000" ∷ [])
 
-order_of_delivery_prints : printed order_of_delivery ≡ Ok (
+order_of_delivery_prints : printed_text order_of_delivery ≡ Ok (
     lines
     (codes "push 1 1 opened 1.1"
     ∷ codes "push 1 1 reply 7 0"
@@ -93,7 +93,7 @@ first_place_counts =
     ∷ codes "frame 434401010100010001000000020001000000010000000403010001000000020100010000000100000004000000010100010000000100000001"
     ∷ codes "frame 434401010100010001000000020001000000010000000503010001000000020100010000000100000005000000040100010000000100000009" ∷ [])
 
-first_place_counts_prints : printed first_place_counts ≡ Ok (
+first_place_counts_prints : printed_text first_place_counts ≡ Ok (
     lines
     (codes "push 1 1 opened 2.1"
     ∷ codes "push 1 1 reply 7 0"

@@ -2,7 +2,7 @@
 use Rattle.std.specs.Prelude.{◌≡◌, ℕ, List, [], ◌∷◌, codes, Ok, true, refl}
 use Rattle.std.specs.List.{list_all}
 use Rattle.cast_examples.proofs.Everything.{everything}
-use Rattle.cast_examples.specs.Printed.{lines, printed, rests}
+use Rattle.cast_examples.specs.Printed.{lines, printed_text, rests}
 
 -- an outbox of two entries holds the view off: the session is closed instead, and its process, which has entered the view, leaves it before the home is told. What was pushed may still be taken
 no_room_for_the_view : List ℕ
@@ -19,7 +19,7 @@ no_room_for_the_view =
     ∷ codes "join 1 1 8 1"
     ∷ codes "take 1 1 10" ∷ [])
 
-no_room_for_the_view_prints : printed no_room_for_the_view ≡ Ok (
+no_room_for_the_view_prints : printed_text no_room_for_the_view ≡ Ok (
     lines
     (codes "event 7 refused 2"
     ∷ codes "push 1 1 opened 1.1"
@@ -49,7 +49,7 @@ taken_in_time =
     ∷ codes "take 1 1 256"
     ∷ codes "cast 1 1 8 1 6869" ∷ [])
 
-taken_in_time_prints : printed taken_in_time ≡ Ok (
+taken_in_time_prints : printed_text taken_in_time ≡ Ok (
     lines
     (codes "push 1 1 opened 1.1"
     ∷ codes "push 1 1 reply 7 0"
@@ -78,7 +78,7 @@ no_room_for_a_reply =
     ∷ codes "cast 1 1 9 1 -"
     ∷ codes "tick 200" ∷ [])
 
-no_room_for_a_reply_prints : printed no_room_for_a_reply ≡ Ok (
+no_room_for_a_reply_prints : printed_text no_room_for_a_reply ≡ Ok (
     lines
     (codes "event 6 refused 2"
     ∷ codes "push 1 1 opened 1.1"
@@ -108,7 +108,7 @@ no_room_for_a_delivery =
     ∷ codes "frame 4344010101000200010000000200020000000100000001010100010000000201000200000001000000010000"
     ∷ codes "frame 4344010101000200010000000200020000000100000002010100010000000201000200000001000000020000" ∷ [])
 
-no_room_for_a_delivery_prints : printed no_room_for_a_delivery ≡ Ok (
+no_room_for_a_delivery_prints : printed_text no_room_for_a_delivery ≡ Ok (
     lines
     (codes "push 1 1 opened 1.1"
     ∷ codes "push 1 1 reply 7 0"
@@ -139,7 +139,7 @@ bad_with_a_full_outbox =
     ∷ codes "gone 1 2"
     ∷ codes "take 1 2 1" ∷ [])
 
-bad_with_a_full_outbox_prints : printed bad_with_a_full_outbox ≡ Ok (
+bad_with_a_full_outbox_prints : printed_text bad_with_a_full_outbox ≡ Ok (
     lines
     (codes "event 3 refused 2"
     ∷ codes "event 9 refused 2"
@@ -172,7 +172,7 @@ takes_out_of_range =
     ∷ codes "take 1 1 0"
     ∷ codes "gone 1 1" ∷ [])
 
-takes_out_of_range_prints : printed takes_out_of_range ≡ Ok (
+takes_out_of_range_prints : printed_text takes_out_of_range ≡ Ok (
     lines
     (codes "event 2 refused 15"
     ∷ codes "event 5 refused 15"
@@ -206,7 +206,7 @@ one_session_at_a_time =
     ∷ codes "gone 1 2"
     ∷ codes "open 1" ∷ [])
 
-one_session_at_a_time_prints : printed one_session_at_a_time ≡ Ok (
+one_session_at_a_time_prints : printed_text one_session_at_a_time ≡ Ok (
     lines
     (codes "event 2 refused 3"
     ∷ codes "event 5 refused 15"
@@ -245,7 +245,7 @@ quotas_in_their_ranges =
     ∷ codes "quota 9 held 0"
     ∷ codes "quota 9 held 1" ∷ [])
 
-quotas_in_their_ranges_prints : printed quotas_in_their_ranges ≡ Ok (
+quotas_in_their_ranges_prints : printed_text quotas_in_their_ranges ≡ Ok (
     lines
     (codes "event 1 refused 15"
     ∷ codes "event 4 refused 15"
@@ -280,7 +280,7 @@ lower_quotas_close_nobody =
     ∷ codes "join 1 2 5 9"
     ∷ codes "join 1 2 6 9" ∷ [])
 
-lower_quotas_close_nobody_prints : printed lower_quotas_close_nobody ≡ Ok (
+lower_quotas_close_nobody_prints : printed_text lower_quotas_close_nobody ≡ Ok (
     lines
     (codes "event 5 refused 3"
     ∷ codes "event 7 refused 3"
@@ -308,7 +308,7 @@ another_resend_counts_from_the_next_time =
     ∷ codes "tick 209"
     ∷ codes "tick 210" ∷ [])
 
-another_resend_counts_from_the_next_time_prints : printed another_resend_counts_from_the_next_time ≡ Ok (
+another_resend_counts_from_the_next_time_prints : printed_text another_resend_counts_from_the_next_time ≡ Ok (
     lines
     (codes "push 1 1 opened 1.1"
     ∷ codes "push 1 1 reply 7 0"
@@ -338,7 +338,7 @@ released_by_closing =
     ∷ codes "frame 4344010a01000200020000000202000100000001000200000001010000000100000000000000"
     ∷ codes "cast 1 2 9 3 -" ∷ [])
 
-released_by_closing_prints : printed released_by_closing ≡ Ok (
+released_by_closing_prints : printed_text released_by_closing ≡ Ok (
     lines
     (codes "push 1 1 opened 1.1"
     ∷ codes "push 1 1 reply 1 0"
@@ -385,7 +385,7 @@ released_by_ejecting =
     ∷ codes "frame 4344010a01000200020000000201000200000001000000000100000000000000"
     ∷ codes "cast 1 2 9 3 -" ∷ [])
 
-released_by_ejecting_prints : printed released_by_ejecting ≡ Ok (
+released_by_ejecting_prints : printed_text released_by_ejecting ≡ Ok (
     lines
     (codes "push 1 1 opened 1.1"
     ∷ codes "push 1 1 reply 1 0"
@@ -433,7 +433,7 @@ released_by_denying =
     ∷ codes "frame 434401050100020002000000010e"
     ∷ codes "cast 1 2 5 3 -" ∷ [])
 
-released_by_denying_prints : printed released_by_denying ≡ Ok (
+released_by_denying_prints : printed_text released_by_denying ≡ Ok (
     lines
     (codes "push 1 1 opened 1.1"
     ∷ codes "push 1 1 reply 1 0"

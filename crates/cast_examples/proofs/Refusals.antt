@@ -2,7 +2,7 @@
 use Rattle.std.specs.Prelude.{◌≡◌, ℕ, List, [], ◌∷◌, codes, Ok, true, refl}
 use Rattle.std.specs.List.{list_all}
 use Rattle.cast_examples.proofs.Everything.{everything}
-use Rattle.cast_examples.specs.Printed.{lines, printed, rests}
+use Rattle.cast_examples.specs.Printed.{lines, printed_text, rests}
 
 -- order of the tests of join and cast: 4, 6; 4, 10, 5; each refusal changes nothing but its reply
 refusals_in_order : List ℕ
@@ -24,7 +24,7 @@ refusals_in_order =
     ∷ codes "join 1 2 14 1"
     ∷ codes "cast 1 2 15 1 -" ∷ [])
 
-refusals_in_order_prints : printed refusals_in_order ≡ Ok (
+refusals_in_order_prints : printed_text refusals_in_order ≡ Ok (
     lines
     (codes "push 1 1 opened 1.1"
     ∷ codes "push 1 1 reply 7 0"
@@ -62,7 +62,7 @@ own_abcast_elsewhere =
     ∷ codes "cast 1 1 21 2 -"
     ∷ codes "abcast 1 1 22 2 -" ∷ [])
 
-own_abcast_elsewhere_prints : printed own_abcast_elsewhere ≡ Ok (
+own_abcast_elsewhere_prints : printed_text own_abcast_elsewhere ≡ Ok (
     lines
     (codes "push 1 1 opened 2.1"
     ∷ codes "push 1 1 reply 7 0"

@@ -2,7 +2,7 @@
 use Rattle.std.specs.Prelude.{◌≡◌, ℕ, List, [], ◌∷◌, codes, Ok, true, refl}
 use Rattle.std.specs.List.{list_all}
 use Rattle.cast_examples.proofs.Everything.{everything}
-use Rattle.cast_examples.specs.Printed.{lines, printed, rests}
+use Rattle.cast_examples.specs.Printed.{lines, printed_text, rests}
 
 -- two programs at one site: requests one after the other, Asked from the home alone and for the first request alone, who an Install takes in
 two_programs_join : List ℕ
@@ -34,7 +34,7 @@ two_programs_join =
     ∷ codes "cast 1 1 11 1 -"
     ∷ codes "abcast 1 2 12 1 -" ∷ [])
 
-two_programs_join_prints : printed two_programs_join ≡ Ok (
+two_programs_join_prints : printed_text two_programs_join ≡ Ok (
     lines
     (codes "push 1 1 opened 1.1"
     ∷ codes "push 1 1 reply 8 0"
@@ -92,7 +92,7 @@ two_programs_in_a_view =
     ∷ codes "frame 4344010201000200010000000200010000000200000001"
     ∷ codes "frame 4344010201000200010000000200010000000100000001" ∷ [])
 
-two_programs_in_a_view_prints : printed two_programs_in_a_view ≡ Ok (
+two_programs_in_a_view_prints : printed_text two_programs_in_a_view ≡ Ok (
     lines
     (codes "push 1 1 opened 1.1"
     ∷ codes "push 1 1 reply 8 0"
@@ -141,7 +141,7 @@ joining_stops_at_its_view =
     ∷ codes "join 1 1 10 1"
     ∷ codes "frame 434401010100010002000000020001000000010000000101020001000000030000020000000201000100000001000000010000" ∷ [])
 
-joining_stops_at_its_view_prints : printed joining_stops_at_its_view ≡ Ok (
+joining_stops_at_its_view_prints : printed_text joining_stops_at_its_view ≡ Ok (
     lines
     (codes "push 1 1 opened 3.1"
     ∷ codes "push 1 1 reply 8 0"

@@ -2,7 +2,7 @@
 use Rattle.std.specs.Prelude.{◌≡◌, ℕ, List, [], ◌∷◌, codes, Ok, true, refl}
 use Rattle.std.specs.List.{list_all}
 use Rattle.cast_examples.proofs.Everything.{everything}
-use Rattle.cast_examples.specs.Printed.{lines, printed, rests}
+use Rattle.cast_examples.specs.Printed.{lines, printed_text, rests}
 
 -- set-order messages are received up to twice held, where Data is not
 room_of_orders : List ℕ
@@ -20,7 +20,7 @@ room_of_orders =
     ∷ codes "frame 4344010101000300010000000300030000000100000001020100010000000301000300000001000000010000"
     ∷ codes "tick 200" ∷ [])
 
-room_of_orders_prints : printed room_of_orders ≡ Ok (
+room_of_orders_prints : printed_text room_of_orders ≡ Ok (
     lines
     (codes "push 1 1 opened 2.1"
     ∷ codes "push 1 1 reply 7 0"
@@ -53,7 +53,7 @@ holder_without_room =
     ∷ codes "abcast 1 1 11 1 -"
     ∷ codes "tick 200" ∷ [])
 
-holder_without_room_prints : printed holder_without_room ≡ Ok (
+holder_without_room_prints : printed_text holder_without_room ≡ Ok (
     lines
     (codes "push 1 1 opened 1.1"
     ∷ codes "push 1 1 reply 7 0"
@@ -96,7 +96,7 @@ delivers_only_with_room =
     ∷ codes "frame 4344010101000200010000000200020000000100000004020100010000000201000200000001000000040000"
     ∷ codes "tick 200" ∷ [])
 
-delivers_only_with_room_prints : printed delivers_only_with_room ≡ Ok (
+delivers_only_with_room_prints : printed_text delivers_only_with_room ≡ Ok (
     lines
     (codes "push 1 1 opened 1.1"
     ∷ codes "push 1 1 reply 7 0"
@@ -138,7 +138,7 @@ holder_waits_at_twice_held =
     ∷ codes "cast 1 1 20 1 -"
     ∷ codes "frame 4344010301000200020000000200020000000100000001" ∷ [])
 
-holder_waits_at_twice_held_prints : printed holder_waits_at_twice_held ≡ Ok (
+holder_waits_at_twice_held_prints : printed_text holder_waits_at_twice_held ≡ Ok (
     lines
     (codes "push 1 1 opened 1.1"
     ∷ codes "push 1 1 reply 7 0"
@@ -184,7 +184,7 @@ set_order_waits_at_twice_held =
     ∷ codes "tick 200"
     ∷ codes "frame 4344010301000200030000000200020000000100000001" ∷ [])
 
-set_order_waits_at_twice_held_prints : printed set_order_waits_at_twice_held ≡ Ok (
+set_order_waits_at_twice_held_prints : printed_text set_order_waits_at_twice_held ≡ Ok (
     lines
     (codes "push 1 1 opened 1.1"
     ∷ codes "push 1 1 reply 7 0"
@@ -238,7 +238,7 @@ held_over_groups =
     ∷ codes "frame 4344010301000200020000000200020000000100000001"
     ∷ codes "cast 1 1 10 1 -" ∷ [])
 
-held_over_groups_prints : printed held_over_groups ≡ Ok (
+held_over_groups_prints : printed_text held_over_groups ≡ Ok (
     lines
     (codes "push 1 1 opened 1.1"
     ∷ codes "push 1 1 reply 7 0"

@@ -3,7 +3,7 @@ use Rattle.std.specs.Prelude.{◌≡◌, ℕ, List, [], ◌∷◌, codes, Ok, Er
 use Rattle.std.specs.List.{list_all}
 use Rattle.cast_script.specs.declared.words.Reason.TheVariants.{UnknownWord, WrongCount, BadNumber, Order}
 use Rattle.cast_examples.proofs.Everything.{everything}
-use Rattle.cast_examples.specs.Printed.{lines, printed, rests}
+use Rattle.cast_examples.specs.Printed.{lines, printed_text, rests}
 
 -- the greatest numbers and counts of a configuration are accepted
 greatest_configuration : List ℕ
@@ -15,7 +15,7 @@ greatest_configuration =
     ∷ codes "join 255 1 4294967295 65535"
     ∷ codes "join 255 4294967295 0 1" ∷ [])
 
-greatest_configuration_prints : printed greatest_configuration ≡ Ok (
+greatest_configuration_prints : printed_text greatest_configuration ≡ Ok (
     lines
     (codes "event 3 refused 2"
     ∷ codes "push 255 1 opened 65535.1"
@@ -33,7 +33,7 @@ domain_before_house =
     ∷ codes "site 1"
     ∷ codes "domain 0 house 1 sites 1 groups 1 quotas 16 256 256 200" ∷ [])
 
-domain_before_house_refused : printed domain_before_house ≡ Err (3, BadNumber)
+domain_before_house_refused : printed_text domain_before_house ≡ Err (3, BadNumber)
 unfolding everything domain_before_house
 domain_before_house_refused = refl
 
@@ -45,7 +45,7 @@ sites_before_group =
     ∷ codes "site 1"
     ∷ codes "domain 1 home 1 sites 2,1 group 1 quotas 16 256 256 200" ∷ [])
 
-sites_before_group_refused : printed sites_before_group ≡ Err (3, Order)
+sites_before_group_refused : printed_text sites_before_group ≡ Err (3, Order)
 unfolding everything sites_before_group
 sites_before_group_refused = refl
 
@@ -73,7 +73,7 @@ seventeenth_domain =
     ∷ codes "domain 16 home 1 sites 1 groups 1 quotas 16 256 256 200"
     ∷ codes "domain" ∷ [])
 
-seventeenth_domain_refused : printed seventeenth_domain ≡ Err (19, Order)
+seventeenth_domain_refused : printed_text seventeenth_domain ≡ Err (19, Order)
 unfolding everything seventeenth_domain
 seventeenth_domain_refused = refl
 
@@ -86,7 +86,7 @@ domain_again =
     ∷ codes "domain 1 home 1 sites 1 groups 1 quotas 16 256 256 200"
     ∷ codes "domain 1 house 0 sites x groups x quotas x x x x" ∷ [])
 
-domain_again_refused : printed domain_again ≡ Err (4, Order)
+domain_again_refused : printed_text domain_again ≡ Err (4, Order)
 unfolding everything domain_again
 domain_again_refused = refl
 
@@ -99,7 +99,7 @@ domain_again_with_few_words =
     ∷ codes "domain 1 home 1 sites 1 groups 1 quotas 16 256 256 200"
     ∷ codes "domain 1 home 1" ∷ [])
 
-domain_again_with_few_words_refused : printed domain_again_with_few_words ≡ Err (4, WrongCount)
+domain_again_with_few_words_refused : printed_text domain_again_with_few_words ≡ Err (4, WrongCount)
 unfolding everything domain_again_with_few_words
 domain_again_with_few_words_refused = refl
 
@@ -113,7 +113,7 @@ domain_after_an_event =
     ∷ codes "open 1"
     ∷ codes "domain" ∷ [])
 
-domain_after_an_event_refused : printed domain_after_an_event ≡ Err (5, Order)
+domain_after_an_event_refused : printed_text domain_after_an_event ≡ Err (5, Order)
 unfolding everything domain_after_an_event
 domain_after_an_event_refused = refl
 
@@ -125,7 +125,7 @@ event_before_domains =
     ∷ codes "site 1"
     ∷ codes "quota 1 kept 1" ∷ [])
 
-event_before_domains_refused : printed event_before_domains ≡ Err (3, Order)
+event_before_domains_refused : printed_text event_before_domains ≡ Err (3, Order)
 unfolding everything event_before_domains
 event_before_domains_refused = refl
 
@@ -138,7 +138,7 @@ second_domain_without_the_site =
     ∷ codes "domain 1 home 1 sites 1 groups 1 quotas 16 256 256 200"
     ∷ codes "domain 2 home 2 sites 2 groups 1 quotas 16 256 256 200" ∷ [])
 
-second_domain_without_the_site_refused : printed second_domain_without_the_site ≡ Err (4, Order)
+second_domain_without_the_site_refused : printed_text second_domain_without_the_site ≡ Err (4, Order)
 unfolding everything second_domain_without_the_site
 second_domain_without_the_site_refused = refl
 
@@ -151,7 +151,7 @@ unknown_quota =
     ∷ codes "domain 1 home 1 sites 1 groups 1 quotas 16 256 256 200"
     ∷ codes "quota 1 kept x" ∷ [])
 
-unknown_quota_refused : printed unknown_quota ≡ Err (4, UnknownWord)
+unknown_quota_refused : printed_text unknown_quota ≡ Err (4, UnknownWord)
 unfolding everything unknown_quota
 unknown_quota_refused = refl
 
@@ -164,7 +164,7 @@ quota_of_domain_0 =
     ∷ codes "domain 1 home 1 sites 1 groups 1 quotas 16 256 256 200"
     ∷ codes "quota 0 kept 1" ∷ [])
 
-quota_of_domain_0_refused : printed quota_of_domain_0 ≡ Err (4, BadNumber)
+quota_of_domain_0_refused : printed_text quota_of_domain_0 ≡ Err (4, BadNumber)
 unfolding everything quota_of_domain_0
 quota_of_domain_0_refused = refl
 
@@ -177,7 +177,7 @@ quota_past_its_type =
     ∷ codes "domain 1 home 1 sites 1 groups 1 quotas 16 256 256 200"
     ∷ codes "quota 1 held 4294967296" ∷ [])
 
-quota_past_its_type_refused : printed quota_past_its_type ≡ Err (4, BadNumber)
+quota_past_its_type_refused : printed_text quota_past_its_type ≡ Err (4, BadNumber)
 unfolding everything quota_past_its_type
 quota_past_its_type_refused = refl
 
@@ -190,7 +190,7 @@ take_with_few_words =
     ∷ codes "domain 1 home 1 sites 1 groups 1 quotas 16 256 256 200"
     ∷ codes "take 1 1" ∷ [])
 
-take_with_few_words_refused : printed take_with_few_words ≡ Err (4, WrongCount)
+take_with_few_words_refused : printed_text take_with_few_words ≡ Err (4, WrongCount)
 unfolding everything take_with_few_words
 take_with_few_words_refused = refl
 
@@ -203,7 +203,7 @@ take_with_a_sign =
     ∷ codes "domain 1 home 1 sites 1 groups 1 quotas 16 256 256 200"
     ∷ codes "take 1 1 -1" ∷ [])
 
-take_with_a_sign_refused : printed take_with_a_sign ≡ Err (4, BadNumber)
+take_with_a_sign_refused : printed_text take_with_a_sign ≡ Err (4, BadNumber)
 unfolding everything take_with_a_sign
 take_with_a_sign_refused = refl
 

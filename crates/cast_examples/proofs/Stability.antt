@@ -2,7 +2,7 @@
 use Rattle.std.specs.Prelude.{◌≡◌, ℕ, List, [], ◌∷◌, codes, Ok, true, refl}
 use Rattle.std.specs.List.{list_all}
 use Rattle.cast_examples.proofs.Everything.{everything}
-use Rattle.cast_examples.specs.Printed.{lines, printed, rests}
+use Rattle.cast_examples.specs.Printed.{lines, printed_text, rests}
 
 -- a Stable of count n pays the Acks of all counts to n, and counts from the process's own site alone
 stable_pays_lower : List ℕ
@@ -26,7 +26,7 @@ stable_pays_lower =
     ∷ codes "frame 4344010301000200010000000200020000000100000003"
     ∷ codes "tick 600" ∷ [])
 
-stable_pays_lower_prints : printed stable_pays_lower ≡ Ok (
+stable_pays_lower_prints : printed_text stable_pays_lower ≡ Ok (
     lines
     (codes "push 1 1 opened 1.1"
     ∷ codes "push 1 1 reply 7 0"
@@ -63,7 +63,7 @@ stable_before_data =
     ∷ codes "frame 4344010101000200010000000200020000000100000003010100010000000201000200000001000000030000"
     ∷ codes "tick 200" ∷ [])
 
-stable_before_data_prints : printed stable_before_data ≡ Ok (
+stable_before_data_prints : printed_text stable_before_data ≡ Ok (
     lines
     (codes "push 1 1 opened 1.1"
     ∷ codes "push 1 1 reply 7 0"
@@ -102,7 +102,7 @@ last_stable =
     ∷ codes "frame 4344010201000300010000000300010000000100000002"
     ∷ codes "tick 400" ∷ [])
 
-last_stable_prints : printed last_stable ≡ Ok (
+last_stable_prints : printed_text last_stable ≡ Ok (
     lines
     (codes "push 1 1 opened 1.1"
     ∷ codes "push 1 1 reply 7 0"
@@ -141,7 +141,7 @@ acknowledged_before_it_is_sent =
     ∷ codes "cast 1 1 9 1 -"
     ∷ codes "tick 200" ∷ [])
 
-acknowledged_before_it_is_sent_prints : printed acknowledged_before_it_is_sent ≡ Ok (
+acknowledged_before_it_is_sent_prints : printed_text acknowledged_before_it_is_sent ≡ Ok (
     lines
     (codes "push 1 1 opened 1.1"
     ∷ codes "push 1 1 reply 7 0"
@@ -179,7 +179,7 @@ released_at_once =
     ∷ codes "cast 1 1 11 1 -"
     ∷ codes "abcast 1 1 12 1 -" ∷ [])
 
-released_at_once_prints : printed released_at_once ≡ Ok (
+released_at_once_prints : printed_text released_at_once ≡ Ok (
     lines
     (codes "push 1 1 opened 1.1"
     ∷ codes "push 1 1 reply 7 0"
@@ -216,7 +216,7 @@ two_members_at_a_site =
     ∷ codes "frame 4344010201000200010000000400010000000100000001"
     ∷ codes "tick 400" ∷ [])
 
-two_members_at_a_site_prints : printed two_members_at_a_site ≡ Ok (
+two_members_at_a_site_prints : printed_text two_members_at_a_site ≡ Ok (
     lines
     (codes "push 1 1 opened 1.1"
     ∷ codes "push 1 1 reply 7 0"

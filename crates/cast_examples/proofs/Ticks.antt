@@ -2,7 +2,7 @@
 use Rattle.std.specs.Prelude.{◌≡◌, ℕ, List, [], ◌∷◌, codes, Ok, true, refl}
 use Rattle.std.specs.List.{list_all}
 use Rattle.cast_examples.proofs.Everything.{everything}
-use Rattle.cast_examples.specs.Printed.{lines, printed, rests}
+use Rattle.cast_examples.specs.Printed.{lines, printed_text, rests}
 
 -- the moment is the greatest tick, at most 2^62
 moments_rise : List ℕ
@@ -26,7 +26,7 @@ moments_rise =
     ∷ codes "tick 18446744073709551615"
     ∷ codes "tick 4611686018427387905" ∷ [])
 
-moments_rise_prints : printed moments_rise ≡ Ok (
+moments_rise_prints : printed_text moments_rise ≡ Ok (
     lines
     (codes "push 1 1 opened 1.1"
     ∷ codes "push 1 1 reply 7 0"
@@ -62,7 +62,7 @@ repeat_moves_nothing =
     ∷ codes "tick 1199"
     ∷ codes "tick 1200" ∷ [])
 
-repeat_moves_nothing_prints : printed repeat_moves_nothing ≡ Ok (
+repeat_moves_nothing_prints : printed_text repeat_moves_nothing ≡ Ok (
     lines
     (codes "push 1 1 opened 1.1"
     ∷ codes "push 1 1 reply 7 0"
@@ -94,7 +94,7 @@ equal_dues =
     ∷ codes "cast 1 1 10 1 -"
     ∷ codes "tick 200" ∷ [])
 
-equal_dues_prints : printed equal_dues ≡ Ok (
+equal_dues_prints : printed_text equal_dues ≡ Ok (
     lines
     (codes "push 1 1 opened 1.1"
     ∷ codes "push 1 1 reply 7 0"

@@ -2,7 +2,7 @@
 use Rattle.std.specs.Prelude.{◌≡◌, ℕ, List, [], ◌∷◌, codes, Ok, true, refl}
 use Rattle.std.specs.List.{list_all}
 use Rattle.cast_examples.proofs.Everything.{everything}
-use Rattle.cast_examples.specs.Printed.{lines, printed, rests}
+use Rattle.cast_examples.specs.Printed.{lines, printed_text, rests}
 
 -- who handed the token over holds it no more: it orders nothing, and waits for its own ABCAST like any other member
 token_is_handed_over : List ℕ
@@ -21,7 +21,7 @@ token_is_handed_over =
     ∷ codes "frame 43440101010002000100000002000200000001000000010301000100000002020001000000010000000200020000000100000001000000010100010000000100000002"
     ∷ codes "pass 1 1 13 1 2.1" ∷ [])
 
-token_is_handed_over_prints : printed token_is_handed_over ≡ Ok (
+token_is_handed_over_prints : printed_text token_is_handed_over ≡ Ok (
     lines
     (codes "push 1 1 opened 1.1"
     ∷ codes "push 1 1 reply 7 0"
@@ -55,7 +55,7 @@ token_comes =
     ∷ codes "frame 4344020101000100010000000200010000000100000001030100010000000201000100000001000000010000000100000200000001"
     ∷ codes "abcast 1 1 9 1 -" ∷ [])
 
-token_comes_prints : printed token_comes ≡ Ok (
+token_comes_prints : printed_text token_comes ≡ Ok (
     lines
     (codes "push 1 1 opened 2.1"
     ∷ codes "push 1 1 reply 7 0"
@@ -87,7 +87,7 @@ token_is_taken_at_delivery =
     ∷ codes "frame 4344010101000100010000000200010000000100000001010100010000000201000100000001000000010000"
     ∷ codes "pass 1 1 9 1 1.1" ∷ [])
 
-token_is_taken_at_delivery_prints : printed token_is_taken_at_delivery ≡ Ok (
+token_is_taken_at_delivery_prints : printed_text token_is_taken_at_delivery ≡ Ok (
     lines
     (codes "push 1 1 opened 2.1"
     ∷ codes "push 1 1 reply 7 0"
@@ -124,7 +124,7 @@ token_stays_until_all_is_stable =
     ∷ codes "frame 4344010201000300010000000300010000000100000002"
     ∷ codes "pass 1 1 12 1 2.1" ∷ [])
 
-token_stays_until_all_is_stable_prints : printed token_stays_until_all_is_stable ≡ Ok (
+token_stays_until_all_is_stable_prints : printed_text token_stays_until_all_is_stable ≡ Ok (
     lines
     (codes "push 1 1 opened 1.1"
     ∷ codes "push 1 1 reply 7 0"
@@ -166,7 +166,7 @@ token_stays_with_its_holder =
     ∷ codes "abcast 1 1 10 1 -"
     ∷ codes "pass 1 1 11 1 1.1" ∷ [])
 
-token_stays_with_its_holder_prints : printed token_stays_with_its_holder ≡ Ok (
+token_stays_with_its_holder_prints : printed_text token_stays_with_its_holder ≡ Ok (
     lines
     (codes "push 1 1 opened 1.1"
     ∷ codes "push 1 1 reply 7 0"
@@ -199,7 +199,7 @@ known_places_are_not_set_again =
     ∷ codes "frame 4344020101000100010000000200010000000100000003030100010000000201000100000001000000030000000200000200000001"
     ∷ codes "abcast 1 1 8 1 -" ∷ [])
 
-known_places_are_not_set_again_prints : printed known_places_are_not_set_again ≡ Ok (
+known_places_are_not_set_again_prints : printed_text known_places_are_not_set_again ≡ Ok (
     lines
     (codes "push 1 1 opened 2.1"
     ∷ codes "push 1 1 reply 7 0"
@@ -251,7 +251,7 @@ pass_is_refused_in_order =
     ∷ codes "pass 1 1 18 1 2.1"
     ∷ codes "pass 1 3 19 1 2.1" ∷ [])
 
-pass_is_refused_in_order_prints : printed pass_is_refused_in_order ≡ Ok (
+pass_is_refused_in_order_prints : printed_text pass_is_refused_in_order ≡ Ok (
     lines
     (codes "event 26 refused 2"
     ∷ codes "push 1 1 opened 1.1"

@@ -16,7 +16,7 @@ use Rattle.cast_events.specs.Events.{domain_of}
 use Rattle.cast_rules.specs.State.{State, opening, serials}
 use Rattle.cast_rules.specs.AtRest.{is_at_rest}
 use Rattle.cast_rules.specs.Run.{Ran, before_event, entries_for, ran_on}
-use Rattle.cast_rules.specs.Step.{answered}
+use Rattle.cast_rules.specs.Step.{answer_of_event}
 use Rattle.cast_script.specs.declared.words.Reason.{Reason}
 use Rattle.cast_script.specs.declared.script.Script.{Script}
 use Rattle.cast_script.specs.Readings.{script_of}
@@ -39,15 +39,15 @@ abbrev pub concerns : Option DomainNo → Tenant → Bool
 concerns (Some d) tenant = is_of d tenant
 concerns None tenant = true
 
-abbrev pub begun : SiteNo → DomainConfig → Tenant
-begun site config = (config, record { answers = []; sent = []; pushed = []; state = opening site config })
+abbrev pub begin_tenant : SiteNo → DomainConfig → Tenant
+begin_tenant site config = (config, record { answers = []; sent = []; pushed = []; state = opening site config })
 
 -- each event of the domain is followed by two passes
-abbrev pub served : Event → Tenant → Tenant
-served event tenant = if concerns (domain_of event) tenant then (tenant.0, ran_on 2 tenant.1 event) else tenant
+abbrev pub serve_tenant : Event → Tenant → Tenant
+serve_tenant event tenant = if concerns (domain_of event) tenant then (tenant.0, ran_on 2 tenant.1 event) else tenant
 
 abbrev pub answer_by : Event → Option Tenant → Result Taken Fault
-answer_by event (Some tenant) = Ok (answered (before_event tenant.1.state) event)
+answer_by event (Some tenant) = Ok (answer_of_event (before_event tenant.1.state) event)
 answer_by event None = Err NoDomain
 
 -- what an event is answered: by the domain that it names, and an event of all domains by none
@@ -59,7 +59,7 @@ answer_to None tenants event = Ok Nothing
 abbrev pub all_served : List Tenant → List Event → List (Result Taken Fault) × List Tenant
 all_served tenants [] = ([], tenants)
 all_served tenants (event ∷ events) =
-    let rest : List (Result Taken Fault) × List Tenant = all_served (map (served event) tenants) events in
+    let rest : List (Result Taken Fault) × List Tenant = all_served (map (serve_tenant event) tenants) events in
     (answer_to (domain_of event) tenants event ∷ rest.0, rest.1)
 
 -- what a run of a domain gave
@@ -78,24 +78,24 @@ log_by ran = record { answers = ran.0; given = map given_by ran.1 }
 -- the text of a script's log
 abbrev pub script_text : Script → List ℕ
 script_text script =
-    log_text script.config.site (log_by (all_served (map (begun script.config.site) script.config.domains) script.events))
+    log_text script.config.site (log_by (all_served (map (begin_tenant script.config.site) script.config.domains) script.events))
 
 abbrev pub text_by : Result Script (ℕ × Reason) → Result (List ℕ) (ℕ × Reason)
 text_by (Ok script) = Ok (script_text script)
 text_by (Err fault) = Err fault
 
-abbrev pub printed : List ℕ → Result (List ℕ) (ℕ × Reason)
-printed text = text_by (script_of text)
+abbrev pub printed_text : List ℕ → Result (List ℕ) (ℕ × Reason)
+printed_text text = text_by (script_of text)
 
 -- the states of all domains behind each event
 abbrev pub states_behind : List Tenant → List Event → List State
 states_behind tenants [] = []
 states_behind tenants (event ∷ events) =
-    let now : List Tenant = map (served event) tenants in
+    let now : List Tenant = map (serve_tenant event) tenants in
     map (λ tenant. tenant.1.state) now ++ states_behind now events
 
 abbrev pub states_by : Result Script (ℕ × Reason) → List State
-states_by (Ok script) = states_behind (map (begun script.config.site) script.config.domains) script.events
+states_by (Ok script) = states_behind (map (begin_tenant script.config.site) script.config.domains) script.events
 states_by (Err fault) = []
 
 -- whether nothing is left to be done in any of them

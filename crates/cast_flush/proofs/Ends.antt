@@ -10,7 +10,7 @@ use Rattle.cast_types.specs.Sets.{is_among, apart_from}
 use Rattle.cast_types.specs.Counts.{CountList, is_within}
 use Rattle.cast_message.specs.Tail.{Tail}
 use Rattle.cast_flush.specs.Reports.{Reports}
-use Rattle.cast_flush.specs.Decisions.{end_of, no_stretch, longest, unplaced, added, ids_from}
+use Rattle.cast_flush.specs.Decisions.{end_of, no_stretch, longest, unplaced_entries, added_entries, ids_from}
 use Rattle.cast_flush.specs.Laws.{LongestInWords, OrderIsWhole, OrderIsWithinTheCut}
 use Rattle.cast_flush.proofs.Each.{all_filter, all_take, all_append, length_filter}
 use Rattle.cast_types.proofs.Rising.{all_kept}
@@ -78,16 +78,16 @@ pub order_is_whole : OrderIsWhole
 order_is_whole cut reports all =
     let few : length (longest reports).ids ≤ 512 = few_ids 512 no_stretch reports (omega arith) all in
     let placed : length (placed_in cut reports) ≤ length (longest reports).ids = length_filter (is_within cut) (longest reports).ids in
-    let more = length-take 64 (apart_from entry_eq (filter (is_within cut) (unplaced reports)) (placed_in cut reports)) in
-    let whole = length-append (placed_in cut reports) (added cut reports (placed_in cut reports)) in
+    let more = length-take 64 (apart_from entry_eq (filter (is_within cut) (unplaced_entries reports)) (placed_in cut reports)) in
+    let whole = length-append (placed_in cut reports) (added_entries cut reports (placed_in cut reports)) in
     take_all 576 (ids_from cut reports) (omega (arith, few, placed, more, whole))
 
 -- both parts of the order are within the cut
 pub order_is_within : OrderIsWithinTheCut
 order_is_within cut reports =
-    let fits : List Entry = filter (is_within cut) (unplaced reports) in
+    let fits : List Entry = filter (is_within cut) (unplaced_entries reports) in
     all_take (is_within cut) 576 (ids_from cut reports)
-    (all_append (is_within cut) (placed_in cut reports) (added cut reports (placed_in cut reports))
+    (all_append (is_within cut) (placed_in cut reports) (added_entries cut reports (placed_in cut reports))
     (all_filter (is_within cut) (longest reports).ids)
     (all_take (is_within cut) 64 (apart_from entry_eq fits (placed_in cut reports))
-    (all_kept (is_within cut) (λ x. not (is_among entry_eq x (placed_in cut reports))) fits (all_filter (is_within cut) (unplaced reports)))))
+    (all_kept (is_within cut) (λ x. not (is_among entry_eq x (placed_in cut reports))) fits (all_filter (is_within cut) (unplaced_entries reports)))))

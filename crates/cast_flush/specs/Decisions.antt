@@ -20,17 +20,17 @@ abbrev pub longest : Reports → Tail
 longest reports = fold (λ t r. if nat_lt (end_of t) (end_of r.1.tail) then r.1.tail else t) no_stretch reports
 
 -- the ABCASTs that some site keeps and knows no place for, by process and count
-abbrev pub unplaced : Reports → List Entry
-unplaced reports = set_of entry_cmp (flat_map (λ r. map (λ k. k.0) (filter (λ k. k.1) r.1.kept)) reports)
+abbrev pub unplaced_entries : Reports → List Entry
+unplaced_entries reports = set_of entry_cmp (flat_map (λ r. map (λ k. k.0) (filter (λ k. k.1) r.1.kept)) reports)
 
 -- those of them within the cut that an order lacks, at most 64
-abbrev pub added : CountList → Reports → List Entry → List Entry
-added cut reports placed = take MAX_PLACED (apart_from entry_eq (filter (is_within cut) (unplaced reports)) placed)
+abbrev pub added_entries : CountList → Reports → List Entry → List Entry
+added_entries cut reports placed = take MAX_PLACED (apart_from entry_eq (filter (is_within cut) (unplaced_entries reports)) placed)
 
 -- an order within the cut, and behind it the ABCASTs without a place
 abbrev pub ids_behind : CountList → Reports → List Entry → List Entry
 ids_behind cut reports order =
-    let placed : List Entry = filter (is_within cut) order in placed ++ added cut reports placed
+    let placed : List Entry = filter (is_within cut) order in placed ++ added_entries cut reports placed
 
 -- the order that the old view ends with, within the cut: the longest one, and behind it the ABCASTs without a place. No
 -- report of a site has more ids than leave room for them

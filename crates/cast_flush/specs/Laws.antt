@@ -8,8 +8,8 @@ use Rattle.cast_types.specs.declared.names.Proc.{Proc}
 use Rattle.cast_types.specs.Names.{Entry, site_eq, proc_eq, entry_eq}
 use Rattle.cast_types.specs.Sets.{is_among}
 use Rattle.cast_types.specs.Counts.{CountList, count_of, is_within}
-use Rattle.cast_flush.specs.Reports.{Reports, cut_from, keeps, needed, keeper_of}
-use Rattle.cast_flush.specs.Decisions.{end_of, no_stretch, longest, unplaced, ids_from, order_from}
+use Rattle.cast_flush.specs.Reports.{Reports, cut_from, keeps, needed_entries, keeper_of}
+use Rattle.cast_flush.specs.Decisions.{end_of, no_stretch, longest, unplaced_entries, ids_from, order_from}
 
 -- The cut covers of each member the least number of messages that is as great as each report, and of nobody else any
 abbrev pub CutInWords : Type 0
@@ -23,13 +23,13 @@ CutInWords =
 abbrev pub NeededInWords : Type 0
 NeededInWords =
     (cut : CountList) (reports : Reports) (e : Entry)
-    → is_among entry_eq e (needed cut reports)
+    → is_among entry_eq e (needed_entries cut reports)
     ≡ (is_within cut e && (list_any (λ r. keeps r.1 e) reports && not (list_all (λ r. keeps r.1 e) reports)))
 
 -- Each of them is wanted from a site that keeps it
 abbrev pub KeeperInWords : Type 0
 KeeperInWords =
-    (cut : CountList) (reports : Reports) (e : Entry) → is_among entry_eq e (needed cut reports) ≡ true
+    (cut : CountList) (reports : Reports) (e : Entry) → is_among entry_eq e (needed_entries cut reports) ≡ true
     → (s : SiteNo) × (keeper_of reports e ≡ Some s) × (list_any (λ r. site_eq r.0 s && keeps r.1 e) reports ≡ true)
 
 -- The longest order is that of a report, if any reaches anywhere, and no report's order reaches farther
@@ -43,7 +43,7 @@ LongestInWords =
 abbrev pub UnplacedInWords : Type 0
 UnplacedInWords =
     (reports : Reports) (e : Entry)
-    → is_among entry_eq e (unplaced reports) ≡ list_any (λ r. list_any (λ k. k.1 && entry_eq k.0 e) r.1.kept) reports
+    → is_among entry_eq e (unplaced_entries reports) ≡ list_any (λ r. list_any (λ k. k.1 && entry_eq k.0 e) r.1.kept) reports
 
 -- From reports of at most 512 ids each, as sites send them, nothing is cut off the order that is decided
 abbrev pub OrderIsWhole : Type 0

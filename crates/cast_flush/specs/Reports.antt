@@ -7,7 +7,7 @@ use Rattle.cast_types.specs.declared.limits.TheConstants.{MAX_PLACED}
 use Rattle.cast_types.specs.declared.names.SiteNo.{SiteNo}
 use Rattle.cast_types.specs.declared.names.GroupNo.{GroupNo}
 use Rattle.cast_types.specs.declared.names.Proc.{Proc}
-use Rattle.cast_types.specs.Names.{Entry, site_eq, entry_eq, entry_cmp, uid_eq, named}
+use Rattle.cast_types.specs.Names.{Entry, site_eq, entry_eq, entry_cmp, uid_eq, uid_in}
 use Rattle.cast_types.specs.Sets.{set_of}
 use Rattle.cast_types.specs.Counts.{CountList, count_of, is_within}
 use Rattle.cast_message.specs.declared.message.Message.{Message}
@@ -49,8 +49,8 @@ abbrev pub is_needed : CountList → Reports → Entry → Bool
 is_needed cut reports e = is_within cut e && not (list_all (λ r. keeps r.1 e) reports)
 
 -- the messages within the cut that some of the sites keep, and not all
-abbrev pub needed : CountList → Reports → List Entry
-needed cut reports = filter (is_needed cut reports) (all_kept reports)
+abbrev pub needed_entries : CountList → Reports → List Entry
+needed_entries cut reports = filter (is_needed cut reports) (all_kept reports)
 
 -- the first site that keeps a message: the least one
 abbrev pub keeper_of : Reports → Entry → Option SiteNo
@@ -58,11 +58,11 @@ keeper_of reports e = option_map (λ r. r.0) (find (λ r. keeps r.1 e) reports)
 
 -- the message of the view is there
 abbrev pub has_body : GroupNo → ℕ → List Message → Entry → Bool
-has_body g view bodies e = list_any (λ m. uid_eq m.id (named g view e)) bodies
+has_body g view bodies e = list_any (λ m. uid_eq m.id (uid_in g view e)) bodies
 
 -- the needed messages that are not there
 abbrev pub wanting : GroupNo → ℕ → CountList → Reports → List Message → List Entry
-wanting g view cut reports bodies = filter (λ e. not (has_body g view bodies e)) (needed cut reports)
+wanting g view cut reports bodies = filter (λ e. not (has_body g view bodies e)) (needed_entries cut reports)
 
 -- a message with the site that it is wanted from
 abbrev pub want_of : Reports → Entry → Option (SiteNo × Entry)

@@ -4,7 +4,7 @@ ghost use Rattle.cast_types.specs.Names.{entry_eq, entry_cmp};
 ghost use Rattle.cast_types.specs.Sets.{with_items, is_among, apart_from};
 ghost use Rattle.cast_types.specs.Counts.{is_within};
 ghost use Rattle.cast_types.specs.declared.limits.TheConstants.{MAX_PLACED, MAX_ORDER};
-ghost use Rattle.cast_flush.specs.Decisions.{end_of, no_stretch, longest, unplaced, added, ids_behind, order_from};
+ghost use Rattle.cast_flush.specs.Decisions.{end_of, no_stretch, longest, unplaced_entries, added_entries, ids_behind, order_from};
 
 use crate::report::Report;
 use crate::reports::is_within;
@@ -51,7 +51,7 @@ fn add_unplaced(ids: &mut Ids, report: &Report) -> Result<(), NoMemory>
 
 // The ABCASTs that some site keeps and knows no place for.
 fn unplaced_ids(alloc: Global, reports: &[(SiteNo, Report)]) -> Result<Vec<(Proc, u32)>, NoMemory>
-    ensures { IfOk result (λ l. l.items ≡ unplaced reports.now) }
+    ensures { IfOk result (λ l. l.items ≡ unplaced_entries reports.now) }
 {
     let mut ids = Ids::new(alloc);
     for (_, report) in reports {

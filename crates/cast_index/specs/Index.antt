@@ -28,8 +28,8 @@ is_behind None u = true
 is_behind (Some s) u = is_lt (source_cmp s (source_of u))
 
 -- how many pairs have an id whose source does
-abbrev pub left : List Entry → Option Source → ℕ
-left entries after = length (filter (λ e. is_behind after e.id) entries)
+abbrev pub count_of_source : List Entry → Option Source → ℕ
+count_of_source entries after = length (filter (λ e. is_behind after e.id) entries)
 
 -- the lowest entry that is of a source behind another
 abbrev pub lowest_past : Source → Entry

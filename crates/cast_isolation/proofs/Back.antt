@@ -15,7 +15,7 @@ use Rattle.cast_events.specs.Events.{domain_of}
 use Rattle.cast_domain.specs.Records.{number_of}
 use Rattle.cast_events.specs.declared.log.Fault.{Fault}
 use Rattle.cast_events.specs.declared.log.Fault.TheVariants.{NoMemory, Halted, NoDomain}
-use Rattle.cast_table.specs.Tables.{domain_eq, put_in, by_number, without, picked, IsLeastOf}
+use Rattle.cast_table.specs.Tables.{domain_eq, put_in, by_number, without, pick_domains, IsLeastOf}
 use Rattle.cast_table.specs.Owns.{is_configured}
 use Rattle.cast_table.proofs.Parts.{same_domain, domain_itself}
 use Rattle.cast_table.proofs.Places.{none_some, same_some}
@@ -154,7 +154,7 @@ module _ (R : Served → Domain → Type 0) (number : (s : Served) (d : Domain) 
   pub record IsBack (cs : List DomainConfig) (served : List Served) (ds : List Domain) : Type 0 where
     pub order : List Served
     pub configs : configs_of order ≡ cs
-    pub given : AllZip R order (picked cs ds)
+    pub given : AllZip R order (pick_domains cs ds)
     pub any : (p : Served → Bool) → list_any p order ≡ list_any p served
     pub named : (n : DomainNo) → served_as n order ≡ served_as n served
 
@@ -167,7 +167,7 @@ module _ (R : Served → Domain → Type 0) (number : (s : Served) (d : Domain) 
       record {
         order = put.s ∷ rest.order;
         configs = λ i. put.its i ∷ rest.configs i;
-        given = subst (λ o. AllZip R (put.s ∷ rest.order) (option_to_list o ++ picked cs (without c.domain ds))) (sym put.found) (put.given, rest.given);
+        given = subst (λ o. AllZip R (put.s ∷ rest.order) (option_to_list o ++ pick_domains cs (without c.domain ds))) (sym put.found) (put.given, rest.given);
         any = λ p. ap (λ more. p put.s || more) (rest.any p) ∙ put.any p;
         named = λ n. ap (λ o. cond (domain_eq put.s.config.domain n) (Some put.s) o) (rest.named n) ∙ put.named n;
       }
@@ -276,11 +276,11 @@ some_first n place ds some d read =
 
 -- What is given by the domains that are left
 
-pub picked_more : {X : Type 0} (f : Domain → X) (given : List X) (cs : List DomainConfig) (i : ℕ) (c : DomainConfig) (ds : List Domain) → i < length cs → c ≡ get_or cs i c → (o : Option Domain) → o ≡ find (λ d. domain_eq (number_of d) c.domain) ds → given ++ map f (picked (drop i cs) ds) ≡ (given ++ map f (option_to_list o)) ++ map f (picked (drop (i + 1) cs) (without c.domain ds))
+pub picked_more : {X : Type 0} (f : Domain → X) (given : List X) (cs : List DomainConfig) (i : ℕ) (c : DomainConfig) (ds : List Domain) → i < length cs → c ≡ get_or cs i c → (o : Option Domain) → o ≡ find (λ d. domain_eq (number_of d) c.domain) ds → given ++ map f (pick_domains (drop i cs) ds) ≡ (given ++ map f (option_to_list o)) ++ map f (pick_domains (drop (i + 1) cs) (without c.domain ds))
 picked_more f given cs i c ds below read o is =
     let next : drop i cs ≡ c ∷ drop (i + 1) cs = drop_more cs i c below ∙ ap (λ x. x ∷ drop (i + 1) cs) (sym read) in
-    let later : List Domain = picked (drop (i + 1) cs) (without c.domain ds) in
-    ap (λ rest. given ++ map f (picked rest ds)) next
+    let later : List Domain = pick_domains (drop (i + 1) cs) (without c.domain ds) in
+    ap (λ rest. given ++ map f (pick_domains rest ds)) next
     ∙ ap (λ first. given ++ map f (option_to_list first ++ later)) (sym is)
     ∙ ap (λ rest. given ++ rest) (map-append f (option_to_list o) later)
     ∙ sym (append_assoc given (map f (option_to_list o)) (map f later))

@@ -5,11 +5,11 @@ use Rattle.std.proofs.lemmas.List.{map-append}
 use Rattle.std.proofs.lemmas.List.Elements.{filter-append}
 use Rattle.cast_types.specs.declared.names.DomainNo.{DomainNo}
 use Rattle.cast_events.specs.declared.event.Event.{Event}
-use Rattle.cast_domain.specs.Fits.{tagged}
+use Rattle.cast_domain.specs.Fits.{with_domain}
 use Rattle.cast_table.specs.Tables.{domain_eq}
 use Rattle.cast_table.specs.Owns.{names, is_own}
 use Rattle.cast_table.proofs.Parts.{domain_itself}
-use Rattle.cast_isolation.specs.Replays.{own, named_answers, of_domain, untagged, is_own_at}
+use Rattle.cast_isolation.specs.Replays.{own, named_answers, of_domain, without_domain, is_own_at}
 
 -- one more event
 
@@ -67,20 +67,20 @@ named_front d (e ∷ events) (a ∷ answers) more few =
 
 -- more with the numbers of domains
 
-pub tagged_more : {A B : Type 0} (d : DomainNo) (before more : List (DomainNo × A × B)) → untagged (of_domain d (before ++ more)) ≡ untagged (of_domain d before) ++ untagged (of_domain d more)
+pub tagged_more : {A B : Type 0} (d : DomainNo) (before more : List (DomainNo × A × B)) → without_domain (of_domain d (before ++ more)) ≡ without_domain (of_domain d before) ++ without_domain (of_domain d more)
 tagged_more {A} {B} d before more =
-    ap untagged (filter-append (λ (x : DomainNo × A × B). domain_eq x.0 d) before more)
+    ap without_domain (filter-append (λ (x : DomainNo × A × B). domain_eq x.0 d) before more)
     ∙ map-append (λ (x : DomainNo × A × B). (x.1, x.2)) (of_domain d before) (of_domain d more)
 
-pub tagged_own : {A B : Type 0} (d : DomainNo) (xs : List (A × B)) → untagged (of_domain d (tagged d xs)) ≡ xs
+pub tagged_own : {A B : Type 0} (d : DomainNo) (xs : List (A × B)) → without_domain (of_domain d (with_domain d xs)) ≡ xs
 tagged_own d [] = refl
 tagged_own {A} {B} d (x ∷ xs) =
-    let rest : List (DomainNo × A × B) = of_domain d (tagged d xs) in
-    ap (λ b. untagged (cond b ((d, x.0, x.1) ∷ rest) rest)) (domain_itself d)
+    let rest : List (DomainNo × A × B) = of_domain d (with_domain d xs) in
+    ap (λ b. without_domain (cond b ((d, x.0, x.1) ∷ rest) rest)) (domain_itself d)
     ∙ ap (λ (later : List (A × B)). x ∷ later) (tagged_own d xs)
 
-pub tagged_other : {A B : Type 0} (d q : DomainNo) (xs : List (A × B)) → domain_eq d q ≡ false → untagged (of_domain q (tagged d xs)) ≡ []
+pub tagged_other : {A B : Type 0} (d q : DomainNo) (xs : List (A × B)) → domain_eq d q ≡ false → without_domain (of_domain q (with_domain d xs)) ≡ []
 tagged_other d q [] differ = refl
 tagged_other {A} {B} d q (x ∷ xs) differ =
-    let rest : List (DomainNo × A × B) = of_domain q (tagged d xs) in
-    ap (λ b. untagged (cond b ((d, x.0, x.1) ∷ rest) rest)) differ ∙ tagged_other d q xs differ
+    let rest : List (DomainNo × A × B) = of_domain q (with_domain d xs) in
+    ap (λ b. without_domain (cond b ((d, x.0, x.1) ∷ rest) rest)) differ ∙ tagged_other d q xs differ

@@ -11,7 +11,7 @@ use Rattle.cast_events.specs.declared.event.Taken.{Taken}
 use Rattle.cast_events.specs.declared.log.Fault.{Fault}
 use Rattle.cast_events.specs.declared.log.Log.{Log}
 use Rattle.cast_table.specs.Owns.{are_distinct, have_rising_groups}
-use Rattle.cast_table.specs.Tables.{Lent, picked}
+use Rattle.cast_table.specs.Tables.{Lent, pick_domains}
 use Rattle.cast_table.proofs.Ordered.{distinct_by_number, rising_by_number}
 use Rattle.cast_isolation.specs.Replays.{Served, IsServed, IsReplay, frames_of, pushes_of, given_of, TellsNoDomain}
 use Rattle.cast_isolation.proofs.Served.{HasGiven, given_with}
@@ -27,7 +27,7 @@ all_served here events answers l (s ∷ served) (d ∷ ds) given = (
   all_served here events answers l served ds given.1,
 )
 
-pub replayed : (config : Config) (events : List Event) (log : Log) (l : Lent) (ds : List Domain) → log.given ≡ map (given_of l.outs) (picked config.domains ds) → SoFar (ordered config) events log.answers l ds → are_distinct config.domains ≡ true → have_rising_groups config.domains ≡ true → IsReplay config events log
+pub replayed : (config : Config) (events : List Event) (log : Log) (l : Lent) (ds : List Domain) → log.given ≡ map (given_of l.outs) (pick_domains config.domains ds) → SoFar (ordered config) events log.answers l ds → are_distinct config.domains ≡ true → have_rising_groups config.domains ≡ true → IsReplay config events log
 replayed config events log l ds given so_far distinct rising =
     let was = so_far.serves (distinct_by_number config.domains distinct) (rising_by_number config.domains ∙ rising) in
     let again =
@@ -37,7 +37,7 @@ replayed config events log l ds given so_far distinct rising =
       configured = again.configs;
       given =
           subst (AllZip (IsServed config.site events log.answers) again.order) (sym given)
-          (all_served config.site events log.answers l again.order (picked config.domains ds) again.given);
+          (all_served config.site events log.answers l again.order (pick_domains config.domains ds) again.given);
       answers = answers_same was.served again.order again.any again.named 0 events log.answers was.answered;
     }
 

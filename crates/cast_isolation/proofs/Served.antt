@@ -19,7 +19,7 @@ use Rattle.cast_events.specs.Outs.{no_outs}
 use Rattle.cast_domain.specs.Records.{number_of, is_halted}
 use Rattle.cast_domain.specs.Shared.{Part, part_of, no_part, LeavesOthers}
 use Rattle.cast_rules.specs.State.{State, opening}
-use Rattle.cast_domain.specs.Fits.{Represents, tagged}
+use Rattle.cast_domain.specs.Fits.{Represents, with_domain}
 use Rattle.cast_rules.specs.Run.{IsRun}
 use Rattle.cast_domain.specs.Stepped.{IsStepOf}
 use Rattle.cast_events.specs.declared.log.Fault.{Fault}
@@ -178,17 +178,17 @@ module _ (here : SiteNo) (events : List Event) (answers : List (Result Taken Fau
   step_number : (t : State) (taken : Taken) (step : IsStepOf t e taken new (part_in after old) before.outs after.outs) → number_of new ≡ number_of old → step.end.config.domain ≡ s.config.domain
   step_number t taken step number = sym (ap (λ c. c.config.domain) step.means.fits.core) ∙ number ∙ so_far.served.domain
 
-  step_frames : (t : State) (taken : Taken) (step : IsStepOf t e taken new (part_in after old) before.outs after.outs) (r : DomainNo) → number_of new ≡ number_of old → frames_of r after.outs.frames ≡ frames_of r before.outs.frames ++ frames_of r (tagged s.config.domain step.end.frames)
+  step_frames : (t : State) (taken : Taken) (step : IsStepOf t e taken new (part_in after old) before.outs after.outs) (r : DomainNo) → number_of new ≡ number_of old → frames_of r after.outs.frames ≡ frames_of r before.outs.frames ++ frames_of r (with_domain s.config.domain step.end.frames)
   step_frames t taken step r number =
       ap (λ (o : Outs). frames_of r o.frames) step.outs
-      ∙ tagged_more r before.outs.frames (tagged step.end.config.domain step.end.frames)
-      ∙ ap (λ d. frames_of r before.outs.frames ++ frames_of r (tagged d step.end.frames)) (step_number t taken step number)
+      ∙ tagged_more r before.outs.frames (with_domain step.end.config.domain step.end.frames)
+      ∙ ap (λ d. frames_of r before.outs.frames ++ frames_of r (with_domain d step.end.frames)) (step_number t taken step number)
 
-  step_pushes : (t : State) (taken : Taken) (step : IsStepOf t e taken new (part_in after old) before.outs after.outs) (r : DomainNo) → number_of new ≡ number_of old → pushes_of r after.outs.pushed ≡ pushes_of r before.outs.pushed ++ pushes_of r (tagged s.config.domain step.end.pushes)
+  step_pushes : (t : State) (taken : Taken) (step : IsStepOf t e taken new (part_in after old) before.outs after.outs) (r : DomainNo) → number_of new ≡ number_of old → pushes_of r after.outs.pushed ≡ pushes_of r before.outs.pushed ++ pushes_of r (with_domain s.config.domain step.end.pushes)
   step_pushes t taken step r number =
       ap (λ (o : Outs). pushes_of r o.pushed) step.outs
-      ∙ tagged_more r before.outs.pushed (tagged step.end.config.domain step.end.pushes)
-      ∙ ap (λ d. pushes_of r before.outs.pushed ++ pushes_of r (tagged d step.end.pushes)) (step_number t taken step number)
+      ∙ tagged_more r before.outs.pushed (with_domain step.end.config.domain step.end.pushes)
+      ∙ ap (λ d. pushes_of r before.outs.pushed ++ pushes_of r (with_domain d step.end.pushes)) (step_number t taken step number)
 
   -- what others have stays
   pub turn_keeps : (b : Result Taken Fault) → IsTurn b e old new before after → (r : DomainNo) → domain_eq s.config.domain r ≡ false → Keeps r before after

@@ -17,7 +17,7 @@ use Rattle.cast_events.specs.Outs.{no_outs}
 use Rattle.cast_domain.specs.Shared.{part_of, no_part}
 use Rattle.cast_events.specs.declared.log.Fault.{Fault}
 use Rattle.cast_events.specs.declared.log.Fault.TheVariants.{NoMemory, Halted, NoDomain}
-use Rattle.cast_table.specs.Tables.{domain_eq, by_number, IsNew, IsTurn, IsAppliedAt, IsAppliedTo, IsApplied, IsTicked, AreApplied, AreTurns, Lent, place_named, stopped}
+use Rattle.cast_table.specs.Tables.{domain_eq, by_number, IsNew, IsTurn, IsAppliedAt, IsAppliedTo, IsApplied, IsTicked, AreApplied, AreTurns, Lent, place_named, halted_in_turn}
 use Rattle.cast_table.specs.Owns.{is_configured, are_distinct, have_rising_groups}
 use Rattle.cast_table.proofs.Places.{IsNumbered, named_there}
 use Rattle.cast_isolation.specs.Replays.{Served, finds_domain, served_as, IsTickAnswer, IsAnswerOf, IsAnswerTo, IsAnswer, AreAnswers, TellsNoDomain}
@@ -87,7 +87,7 @@ module _ (e : Event) (old new : List Domain) (before after : Lent) where
   ticked_turns (Err (Halted m)) begun ticked = ticked.1
   ticked_turns (Err NoDomain) begun ticked = absurd ticked
 
-  ticked_answer : (a : Result Taken Fault) → a ≢ Err NoMemory → IsTicked a e old new before after → IsTickAnswer (stopped old new) a
+  ticked_answer : (a : Result Taken Fault) → a ≢ Err NoMemory → IsTicked a e old new before after → IsTickAnswer (halted_in_turn old new) a
   ticked_answer (Ok t) begun ticked = (ticked.0, ticked.1)
   ticked_answer (Err NoMemory) begun ticked = absurd (begun refl)
   ticked_answer (Err (Halted m)) begun ticked = ticked.0

@@ -15,7 +15,7 @@ use Rattle.cast_events.specs.Events.{domain_of}
 use Rattle.cast_domain.specs.Records.{number_of, is_halted}
 use Rattle.cast_events.specs.declared.log.Fault.{Fault}
 use Rattle.cast_events.specs.declared.log.Fault.TheVariants.{NoMemory, Halted}
-use Rattle.cast_table.specs.Tables.{domain_eq, AreTurns, Lent, answer_in_turn, stopped}
+use Rattle.cast_table.specs.Tables.{domain_eq, AreTurns, Lent, answer_in_turn, halted_in_turn}
 use Rattle.cast_table.specs.Owns.{is_configured, are_distinct, names, is_own}
 use Rattle.cast_table.proofs.Places.{IsNumbered}
 use Rattle.cast_isolation.specs.Replays.{Served, halted_at}
@@ -44,7 +44,7 @@ module _ (here : SiteNo) (events : List Event) (answers : List (Result Taken Fau
     pub now : List Served
     pub given : AllZip (HasGiven here (events ++ e ∷ []) (answers ++ a ∷ []) after) now news
     pub later : AllZip (IsLater (length events)) was now
-    pub halts : halted_at (length events) now ≡ stopped olds news
+    pub halts : halted_at (length events) now ≡ halted_in_turn olds news
     pub keeps : (q : DomainNo) → is_configured q (configs_of was) ≡ false → Keeps q before after
 
   pub turns_given : (served : List Served) (olds news : List Domain) (before after : Lent) → are_distinct (configs_of served) ≡ true → AreTurns e olds news before after → AllZip (HasGiven here events answers before) served olds → HaveTurned served olds news before after

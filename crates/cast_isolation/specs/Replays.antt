@@ -44,16 +44,16 @@ abbrev pub of_domain : {A B : Type 0} → DomainNo → List (DomainNo × A × B)
 of_domain d xs = filter (λ x. domain_eq x.0 d) xs
 
 -- the same without the number
-abbrev pub untagged : {A B : Type 0} → List (DomainNo × A × B) → List (A × B)
-untagged xs = map (λ x. (x.1, x.2)) xs
+abbrev pub without_domain : {A B : Type 0} → List (DomainNo × A × B) → List (A × B)
+without_domain xs = map (λ x. (x.1, x.2)) xs
 
 -- the frames sent for a domain, each with the site that it goes to
 abbrev pub frames_of : DomainNo → List (DomainNo × SiteNo × SiteFrame) → List (SiteNo × SiteFrame)
-frames_of d frames = untagged (of_domain d frames)
+frames_of d frames = without_domain (of_domain d frames)
 
 -- the entries pushed for a domain, each with the serial of the session that it went to
 abbrev pub pushes_of : DomainNo → List (DomainNo × ℕ × Push) → List (ℕ × Push)
-pushes_of d pushed = untagged (of_domain d pushed)
+pushes_of d pushed = without_domain (of_domain d pushed)
 
 -- the highest serial whose session was pushed something, 0 where none was
 abbrev pub last_serial : List (ℕ × Push) → ℕ

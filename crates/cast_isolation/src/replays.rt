@@ -1,8 +1,8 @@
 ghost use Rattle.std.specs.Prelude.{◌≡◌, ◌-◌, ◌++◌, [], IfOk, OnOk, length, map, replicate};
 ghost use Rattle.std.specs.List.{find};
 ghost use Rattle.cast_domain.specs.Records.{number_of};
-ghost use Rattle.cast_table.specs.Tables.{AreApplied, domain_eq, domains_of, picked, without, InTable};
-ghost use Rattle.cast_isolation.specs.Replays.{AddsEntry, AnswersNoDomain, by_session, frames_of, given_of, lacks_memory, of_domain, untagged, SaysReplay};
+ghost use Rattle.cast_table.specs.Tables.{AreApplied, domain_eq, domains_of, pick_domains, without, InTable};
+ghost use Rattle.cast_isolation.specs.Replays.{AddsEntry, AnswersNoDomain, by_session, frames_of, given_of, lacks_memory, of_domain, without_domain, SaysReplay};
 
 use crate::watch::{Unwatched, Watch};
 use cast_domain::Domain;
@@ -79,7 +79,7 @@ fn given_by_all(
     table: Table,
     outs: &Outs,
 ) -> Result<List<Given>, NoMemory>
-    ensures { IfOk result (λ given. given ≡ map (given_of outs.now) (picked config.now.domains (domains_of table))) }
+    ensures { IfOk result (λ given. given ≡ map (given_of outs.now) (pick_domains config.now.domains (domains_of table))) }
 {
     let mut domains = table.into_domains();
     let mut given = List::new(alloc);
@@ -153,7 +153,7 @@ fn by_session(
     alloc: Global,
     pushed: List<(DomainNo, u32, Push)>,
 ) -> Result<List<List<Push>>, NoMemory>
-    ensures { IfOk result (λ sessions. sessions ≡ by_session (untagged pushed)) }
+    ensures { IfOk result (λ sessions. sessions ≡ by_session (without_domain pushed)) }
 {
     let mut sessions = Vec::new(alloc);
     for (_, serial, entry) in pushed.into_vec() {

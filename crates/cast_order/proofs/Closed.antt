@@ -12,7 +12,7 @@ use Rattle.cast_types.specs.declared.names.Proc.{Proc}
 use Rattle.cast_types.specs.Names.{Entry, proc_cmp}
 use Rattle.cast_types.proofs.Orders.{proc_exact, tie_same}
 use Rattle.cast_order.specs.Order.{known_order, closed_order}
-use Rattle.cast_order.specs.Log.{Log, place_of, next_in, passed, closed_by}
+use Rattle.cast_order.specs.Log.{Log, place_of, next_in, pass_ids, closed_by}
 use Rattle.cast_order.specs.Laws.{CloseEndsTheOrder, ClosedLearnsNothing, PassKeepsClosed, MoreKeepsClosed, HandKeepsClosed, NextIsOfTheClosed}
 use Rattle.cast_order.proofs.Lists.{none_fails, none_fails_more, none_kept, take_on, none_first}
 use Rattle.cast_order.proofs.Meanings.{taken_in, at_place}
@@ -58,7 +58,7 @@ pub closed_learns : ClosedLearnsNothing
 closed_learns order goes_on has_passed l fits s = ap (λ b. if b then l else taken_in s l) fits.closed
 
 -- how many of the kept ids a process has passed, after some process passed ids
-kept_place : (p : Proc) (n : ℕ) (l : Log) (q : Proc) (b : Bool) → eq_by_cmp proc_cmp q p ≡ b → place_of (passed p n l) q - l.base ≡ cond b (place_of l p - l.base + min n (length (next_in l p))) (place_of l q - l.base)
+kept_place : (p : Proc) (n : ℕ) (l : Log) (q : Proc) (b : Bool) → eq_by_cmp proc_cmp q p ≡ b → place_of (pass_ids p n l) q - l.base ≡ cond b (place_of l p - l.base + min n (length (next_in l p))) (place_of l q - l.base)
 kept_place p n l q true is = let at = at_place p n l q true is in omega (arith, at)
 kept_place p n l q false is = ap (λ k. k - l.base) (at_place p n l q false is)
 

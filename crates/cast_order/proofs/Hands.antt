@@ -16,7 +16,7 @@ use Rattle.cast_types.proofs.Orders.{same_proc, proc_itself, proc_total, proc_ex
 use Rattle.cast_types.proofs.Rising.{rising-with_item}
 use Rattle.cast_message.proofs.Places.{position_or_len_found}
 use Rattle.cast_order.specs.Order.{Listing, last_listed, last_upto, still_to_list, settled_places}
-use Rattle.cast_order.specs.Hand.{Hand, new_hand, placed, hand_of, hand_in, hand_place, hand_opened, change_hand, hands_rise}
+use Rattle.cast_order.specs.Hand.{Hand, new_hand, note_placed, hand_of, hand_in, hand_place, hand_opened, change_hand, hands_rise}
 use Rattle.cast_order.specs.Log.{hand_here}
 use Rattle.cast_order.specs.Laws.{NewHandFits, HoldKeepsHand, HandOverKeepsHand, TellKeepsHand, FollowKeepsHand, PlaceKeepsHand, NoteKeepsHand, SettledIsTheRule, HandChangeIsOfOne, LearntIsOfAll, ChangeKeepsOrder, PlaceKeepsOrder}
 use Rattle.cast_order.proofs.Meanings.{added, learnt_open, order_on}
@@ -186,7 +186,7 @@ change_rises g f hands keeps rise = ap (is_rising proc_cmp) (names_kept g f keep
 pub place_rises : PlaceKeepsOrder
 place_rises ids hands rise = ap (is_rising proc_cmp) (names hands) ∙ rise
   where
-    names : (hs : List Hand) → map (λ h. h.process) (map (placed ids) hs) ≡ map (λ h. h.process) hs
+    names : (hs : List Hand) → map (λ h. h.process) (map (note_placed ids) hs) ≡ map (λ h. h.process) hs
     names [] = refl
     names (h ∷ hs) = ap (λ ps. h.process ∷ ps) (names hs)
 
@@ -309,10 +309,10 @@ settled_rules order token delivered listed stable h fits n le = λ i. settled_pl
 
 -- What is learnt joins the order for each
 
-placed_each : (ids : List Entry) (hands : List Hand) (p : Proc) → hand_of (map (placed ids) hands) p ≡ placed ids (hand_of hands p)
+placed_each : (ids : List Entry) (hands : List Hand) (p : Proc) → hand_of (map (note_placed ids) hands) p ≡ note_placed ids (hand_of hands p)
 placed_each ids [] p = refl
 placed_each ids (h ∷ hands) p =
-    elim (proc_eq h.process p) as (λ b. unwrap_or (cond b (Some (placed ids h)) (find (of_process p) (map (placed ids) hands))) (new_hand p) ≡ placed ids (unwrap_or (cond b (Some h) (find (of_process p) hands)) (new_hand p))) [
+    elim (proc_eq h.process p) as (λ b. unwrap_or (cond b (Some (note_placed ids h)) (find (of_process p) (map (note_placed ids) hands))) (new_hand p) ≡ note_placed ids (unwrap_or (cond b (Some h) (find (of_process p) hands)) (new_hand p))) [
       | true ↦ refl
       | false ↦ placed_each ids hands p
     ]
@@ -324,5 +324,5 @@ learnt_each facts goes_on has_passed l fits s = (
   λ p.
       ap (λ x. hand_here x p) (learnt_open s l fits.still_open)
       ∙ placed_each (drop (length l.window) (l.window ++ added s l)) l.hands p
-      ∙ ap (λ ids. placed ids (hand_here l p)) (drop_at l.window (added s l) (length l.window) refl),
+      ∙ ap (λ ids. note_placed ids (hand_here l p)) (drop_at l.window (added s l) (length l.window) refl),
 )

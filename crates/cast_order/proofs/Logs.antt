@@ -10,7 +10,7 @@ use Rattle.cast_types.specs.declared.limits.TheConstants.{MAX_POSITION}
 use Rattle.cast_types.specs.declared.names.GroupNo.{GroupNo}
 use Rattle.cast_types.specs.Names.{group_eq}
 use Rattle.cast_types.proofs.Orders.{same_group, group_itself}
-use Rattle.cast_order.specs.Log.{Log, new_log, log_of, change_in, opened, change_log, but_log, forgot}
+use Rattle.cast_order.specs.Log.{Log, new_log, log_of, change_in, open_log, change_log, but_log, forgot}
 use Rattle.cast_order.specs.Laws.{ChangeIsOfOneGroup, ForgetFirstIsOfOneGroup, ForgetIsOfOneGroup}
 use Rattle.cast_order.proofs.Lists.{or_none}
 
@@ -31,7 +31,7 @@ none_found g (l ∷ logs) none =
     ap (λ b. cond b (Some l) (find (of_group g) logs)) parts.0 ∙ none_found g logs parts.1
 
 -- to change a group's log is to open it, and to change it
-pub change_opened : (g : GroupNo) (f : Log → Log) (logs : List Log) → change_in g f (opened g logs) ≡ change_log g f logs
+pub change_opened : (g : GroupNo) (f : Log → Log) (logs : List Log) → change_in g f (open_log g logs) ≡ change_log g f logs
 change_opened g f logs =
     elim (list_any (of_group g) logs) as (λ b. list_any (of_group g) logs ≡ b → change_in g f (cond b logs (logs ++ new_log g ∷ [])) ≡ cond b (change_in g f logs) (logs ++ f (new_log g) ∷ [])) [
       | true ↦ λ _. refl

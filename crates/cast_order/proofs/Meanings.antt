@@ -14,7 +14,7 @@ use Rattle.cast_types.specs.Names.{Entry, proc_cmp}
 use Rattle.cast_types.proofs.Orders.{proc_total, proc_exact, tie_same}
 use Rattle.cast_message.specs.Placement.{Placement}
 use Rattle.cast_order.specs.Order.{Facts, facts_of, id_at, order_from, known_order, ids_to_list, tail_start, next_of}
-use Rattle.cast_order.specs.Log.{Log, length_of, with_facts, place_of, next_in, passed, settled, learnt, waiting_of, tail_start_in, forgot}
+use Rattle.cast_order.specs.Log.{Log, length_of, with_facts, place_of, next_in, pass_ids, settle_log, learnt, waiting_of, tail_start_in, forgot}
 use Rattle.cast_order.specs.Fits.{Fits}
 use Rattle.cast_order.specs.Laws.{NewFits, LearnKeepsMeaning, HandKeepsMeaning, PassKeepsMeaning, MoreKeepsMeaning, ForgetKeepsMeaning, AreOldest, OldestMayBeForgotten, NextIsTheRule, LengthIsTheRule, PastIsTheRule, AssignIsTheRule, WholeIsTheRule, TailIsTheRule}
 use Rattle.cast_order.proofs.Lists.{none_fails, none_fails_more, all_first, none_first, take_on}
@@ -32,7 +32,7 @@ new_fits g goes_on has_passed = record {
 
 -- an open log takes in a set-order message
 abbrev pub taken_in : Placement → Log → Log
-taken_in s l = settled (record l { later = with_facts (length_of l) l.later (facts_of s) })
+taken_in s l = settle_log (record l { later = with_facts (length_of l) l.later (facts_of s) })
 
 pub learnt_open : (s : Placement) (l : Log) → l.closed ≡ false → learnt s l ≡ taken_in s l
 learnt_open s l still = ap (λ b. if b then l else taken_in s l) still
@@ -140,14 +140,14 @@ hand_fits facts goes_on has_passed l fits p f = record {
 }
 
 -- where a process stands after some process passed ids
-passed_place : (p : Proc) (n : ℕ) (l : Log) (q : Proc) → place_of (passed p n l) q ≡ cond (eq_by_cmp proc_cmp q p) (place_of l p + min n (length (next_in l p))) (place_of l q)
+passed_place : (p : Proc) (n : ℕ) (l : Log) (q : Proc) → place_of (pass_ids p n l) q ≡ cond (eq_by_cmp proc_cmp q p) (place_of l p + min n (length (next_in l p))) (place_of l q)
 passed_place p n l q =
     let place = place_of l p + min n (length (next_in l p)) in
     ap (λ (o : Option ℕ). max l.base (unwrap_or o 0)) (find-put proc_cmp proc_total q p place l.places)
     ∙ elim (eq_by_cmp proc_cmp q p) as (λ b. max l.base (unwrap_or (cond b (Some place) (find_key proc_cmp q l.places)) 0) ≡ cond b place (place_of l q)) [ true ↦ omega arith | false ↦ refl ]
 
 -- and that by whether it is the one that passed them
-pub at_place : (p : Proc) (n : ℕ) (l : Log) (q : Proc) (b : Bool) → eq_by_cmp proc_cmp q p ≡ b → place_of (passed p n l) q ≡ cond b (place_of l p + min n (length (next_in l p))) (place_of l q)
+pub at_place : (p : Proc) (n : ℕ) (l : Log) (q : Proc) (b : Bool) → eq_by_cmp proc_cmp q p ≡ b → place_of (pass_ids p n l) q ≡ cond b (place_of l p + min n (length (next_in l p))) (place_of l q)
 at_place p n l q b is = passed_place p n l q ∙ ap (λ c. cond c (place_of l p + min n (length (next_in l p))) (place_of l q)) is
 
 -- each process that goes on has delivered the ids before its place, which is within the order known
@@ -158,7 +158,7 @@ abbrev pub IsWithin : List Entry → Log → Type 0
 IsWithin order l = (p : Proc) → place_of l p ≤ length order
 
 -- both hold after a process passed ids that it has delivered
-pub pass_passes : (goes_on : Proc → Bool) (has_passed : Proc → Entry → Bool) (order : List Entry) (l : Log) → IsKept order l → HasPassed goes_on has_passed order l → (p : Proc) (n : ℕ) → list_all (has_passed p) (take n (next_in l p)) ≡ true → HasPassed goes_on has_passed order (passed p n l)
+pub pass_passes : (goes_on : Proc → Bool) (has_passed : Proc → Entry → Bool) (order : List Entry) (l : Log) → IsKept order l → HasPassed goes_on has_passed order l → (p : Proc) (n : ℕ) → list_all (has_passed p) (take n (next_in l p)) ≡ true → HasPassed goes_on has_passed order (pass_ids p n l)
 pass_passes goes_on has_passed order l kept before p n all q on = elim (cases_Bool (eq_by_cmp proc_cmp q p)) [
   | inl tie ↦
       ap (λ k. find (λ e. not (has_passed q e)) (take k order)) (at_place p n l q true tie)
@@ -177,7 +177,7 @@ pass_passes goes_on has_passed order l kept before p n all q on = elim (cases_Bo
         ∙ ap (find t) (take_min n (next_in l p))
         ∙ none_fails (has_passed p) (take n (next_in l p)) all
 
-pub pass_within : (order : List Entry) (l : Log) → IsKept order l → IsWithin order l → (p : Proc) (n : ℕ) → IsWithin order (passed p n l)
+pub pass_within : (order : List Entry) (l : Log) → IsKept order l → IsWithin order l → (p : Proc) (n : ℕ) → IsWithin order (pass_ids p n l)
 pass_within order l kept before p n q = elim (cases_Bool (eq_by_cmp proc_cmp q p)) [
   | inl tie ↦ subst (λ k. k ≤ length order) (sym (at_place p n l q true tie)) moved_within
   | inr other ↦ subst (λ k. k ≤ length order) (sym (at_place p n l q false other)) (before q)

@@ -24,24 +24,24 @@ new_hand p = record { process = p; first = None; reached = 0; lists = []; waitin
 -- What it does, and what becomes of what it did
 
 -- it holds the token, and orders from a place on
-abbrev pub held : ℕ → Hand → Hand
-held first h = record h { first = Some first }
+abbrev pub hold_from : ℕ → Hand → Hand
+hold_from first h = record h { first = Some first }
 
 -- it holds the token no more
-abbrev pub handed : Hand → Hand
-handed h = record h { first = None }
+abbrev pub hand_over : Hand → Hand
+hand_over h = record h { first = None }
 
 -- it delivered an ABCAST that is not in the order known
-abbrev pub told : Entry → Hand → Hand
-told e h = record h { waiting = h.waiting ++ e ∷ [] }
+abbrev pub note_unlisted : Entry → Hand → Hand
+note_unlisted e h = record h { waiting = h.waiting ++ e ∷ [] }
 
 -- ids joined the order known
-abbrev pub placed : List Entry → Hand → Hand
-placed ids h = record h { waiting = filter (λ e. not (is_among entry_eq e ids)) h.waiting }
+abbrev pub note_placed : List Entry → Hand → Hand
+note_placed ids h = record h { waiting = filter (λ e. not (is_among entry_eq e ids)) h.waiting }
 
 -- it sent a set-order message of this count, which sets places up to the last, and its messages up to a count are stable
-abbrev pub noted : ℕ → ℕ → ℕ → Hand → Hand
-noted count last stable h =
+abbrev pub note_order_sent : ℕ → ℕ → ℕ → Hand → Hand
+note_order_sent count last stable h =
     record h {
       reached = max h.reached (last_upto stable h.lists);
       lists = filter (λ x. nat_lt stable x.0) h.lists ++ (count, last) ∷ [];

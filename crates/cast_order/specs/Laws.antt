@@ -9,8 +9,8 @@ use Rattle.cast_types.specs.Names.{Entry, entry_eq, group_eq, proc_eq}
 use Rattle.cast_types.specs.Sets.{is_among}
 use Rattle.cast_message.specs.Placement.{Placement}
 use Rattle.cast_order.specs.Order.{Facts, facts_of, known_order, next_of, Listing, last_upto, still_to_list, settled_places, ids_to_list, place_after, tail_start, tail_ids, closed_order}
-use Rattle.cast_order.specs.Hand.{Hand, new_hand, held, handed, told, placed, noted, settled_by, hand_of, change_hand, hands_rise, FitsHand}
-use Rattle.cast_order.specs.Log.{Log, new_log, length_of, log_of, change_in, change_log, but_log, learnt, next_in, passed, hand_here, with_hand, next_places, known_past, waiting_of, whole_kept, tail_start_in, tail_ids_in, closed_by, oldest_in, forgot}
+use Rattle.cast_order.specs.Hand.{Hand, new_hand, hold_from, hand_over, note_unlisted, note_placed, note_order_sent, settled_by, hand_of, change_hand, hands_rise, FitsHand}
+use Rattle.cast_order.specs.Log.{Log, new_log, length_of, log_of, change_in, change_log, but_log, learnt, next_in, pass_ids, hand_here, with_hand, next_places, known_past, waiting_of, whole_kept, tail_start_in, tail_ids_in, closed_by, oldest_in, forgot}
 use Rattle.cast_order.specs.Fits.{Fits, FitsClosed}
 
 -- a new log means that nothing was told, delivered or listed
@@ -35,7 +35,7 @@ abbrev pub PassKeepsMeaning : Type 0
 PassKeepsMeaning =
     (facts : Facts) (goes_on : Proc → Bool) (has_passed : Proc → Entry → Bool) (l : Log)
     → Fits facts goes_on has_passed l → (p : Proc) (n : ℕ) → list_all (has_passed p) (take n (next_in l p)) ≡ true
-    → Fits facts goes_on has_passed (passed p n l)
+    → Fits facts goes_on has_passed (pass_ids p n l)
 
 -- processes deliver more, and some go on no more
 abbrev pub MoreKeepsMeaning : Type 0
@@ -117,19 +117,19 @@ NewHandFits = (p : Proc) (order : List Entry) → FitsHand order None [] [] 0 (n
 abbrev pub HoldKeepsHand : Type 0
 HoldKeepsHand =
     (order : List Entry) (token : Option ℕ) (delivered : List Entry) (listed : Listing) (stable : ℕ) (h : Hand)
-    → FitsHand order token delivered listed stable h → (first : ℕ) → FitsHand order (Some first) delivered listed stable (held first h)
+    → FitsHand order token delivered listed stable h → (first : ℕ) → FitsHand order (Some first) delivered listed stable (hold_from first h)
 
 abbrev pub HandOverKeepsHand : Type 0
 HandOverKeepsHand =
     (order : List Entry) (token : Option ℕ) (delivered : List Entry) (listed : Listing) (stable : ℕ) (h : Hand)
-    → FitsHand order token delivered listed stable h → FitsHand order None delivered listed stable (handed h)
+    → FitsHand order token delivered listed stable h → FitsHand order None delivered listed stable (hand_over h)
 
 -- it delivers an ABCAST that is not in the order known, or one that is
 abbrev pub TellKeepsHand : Type 0
 TellKeepsHand =
     (order : List Entry) (token : Option ℕ) (delivered : List Entry) (listed : Listing) (stable : ℕ) (h : Hand)
     → FitsHand order token delivered listed stable h → (e : Entry) → is_among entry_eq e order ≡ false
-    → FitsHand order token (delivered ++ e ∷ []) listed stable (told e h)
+    → FitsHand order token (delivered ++ e ∷ []) listed stable (note_unlisted e h)
 
 abbrev pub FollowKeepsHand : Type 0
 FollowKeepsHand =
@@ -141,14 +141,14 @@ FollowKeepsHand =
 abbrev pub PlaceKeepsHand : Type 0
 PlaceKeepsHand =
     (order : List Entry) (token : Option ℕ) (delivered : List Entry) (listed : Listing) (stable : ℕ) (h : Hand)
-    → FitsHand order token delivered listed stable h → (ids : List Entry) → FitsHand (order ++ ids) token delivered listed stable (placed ids h)
+    → FitsHand order token delivered listed stable h → (ids : List Entry) → FitsHand (order ++ ids) token delivered listed stable (note_placed ids h)
 
 -- it sends a set-order message
 abbrev pub NoteKeepsHand : Type 0
 NoteKeepsHand =
     (order : List Entry) (token : Option ℕ) (delivered : List Entry) (listed : Listing) (stable : ℕ) (h : Hand)
     → FitsHand order token delivered listed stable h → (count last n : ℕ) → stable ≤ n
-    → FitsHand order token delivered (listed ++ (count, last) ∷ []) n (noted count last n h)
+    → FitsHand order token delivered (listed ++ (count, last) ∷ []) n (note_order_sent count last n h)
 
 -- the places that it has settled are those before its first one, and those up to the last one that its stable messages set
 abbrev pub SettledIsTheRule : Type 0
@@ -167,13 +167,13 @@ abbrev pub ChangeKeepsOrder : Type 0
 ChangeKeepsOrder = (p : Proc) (f : Hand → Hand) (hands : List Hand) → ((h : Hand) → (f h).process ≡ h.process) → hands_rise hands ≡ true → hands_rise (change_hand p f hands) ≡ true
 
 abbrev pub PlaceKeepsOrder : Type 0
-PlaceKeepsOrder = (ids : List Entry) (hands : List Hand) → hands_rise hands ≡ true → hands_rise (map (placed ids) hands) ≡ true
+PlaceKeepsOrder = (ids : List Entry) (hands : List Hand) → hands_rise hands ≡ true → hands_rise (map (note_placed ids) hands) ≡ true
 
 -- what joins the order known does so for each
 abbrev pub LearntIsOfAll : Type 0
 LearntIsOfAll =
     (facts : Facts) (goes_on : Proc → Bool) (has_passed : Proc → Entry → Bool) (l : Log) → Fits facts goes_on has_passed l → (s : Placement)
-    → (ids : List Entry) × (known_order (facts ++ facts_of s) ≡ known_order facts ++ ids) × ((p : Proc) → hand_here (learnt s l) p ≡ placed ids (hand_here l p))
+    → (ids : List Entry) × (known_order (facts ++ facts_of s) ≡ known_order facts ++ ids) × ((p : Proc) → hand_here (learnt s l) p ≡ note_placed ids (hand_here l p))
 
 -- the end of the order is told
 abbrev pub CloseEndsTheOrder : Type 0
@@ -193,7 +193,7 @@ abbrev pub PassKeepsClosed : Type 0
 PassKeepsClosed =
     (order : List Entry) (goes_on : Proc → Bool) (has_passed : Proc → Entry → Bool) (l : Log) → FitsClosed order goes_on has_passed l
     → (p : Proc) (n : ℕ) → list_all (has_passed p) (take n (next_in l p)) ≡ true
-    → FitsClosed order goes_on has_passed (passed p n l)
+    → FitsClosed order goes_on has_passed (pass_ids p n l)
 
 -- processes deliver more, and some go on no more
 abbrev pub MoreKeepsClosed : Type 0

@@ -10,7 +10,7 @@ use Rattle.cast_types.specs.declared.names.Proc.{Proc}
 use Rattle.cast_types.specs.Names.{Entry, proc_cmp, group_eq}
 use Rattle.cast_message.specs.Placement.{Placement}
 use Rattle.cast_order.specs.Order.{Facts, facts_of, id_at, order_from, ids_to_list}
-use Rattle.cast_order.specs.Hand.{Hand, hand_of, change_hand, placed}
+use Rattle.cast_order.specs.Hand.{Hand, hand_of, change_hand, note_placed}
 
 -- base: how many of the first ids known are forgotten; window: the ids known behind them; later: facts of places past a
 -- gap, one of each, in rising order of the places; places: how many of the first ids known local processes have passed,
@@ -42,8 +42,8 @@ abbrev pub change_in : GroupNo → (Log → Log) → List Log → List Log
 change_in g f logs = map (λ l. if group_eq l.group g then f l else l) logs
 
 -- a log of the group, where there is none
-abbrev pub opened : GroupNo → List Log → List Log
-opened g logs = if list_any (λ l. group_eq l.group g) logs then logs else logs ++ new_log g ∷ []
+abbrev pub open_log : GroupNo → List Log → List Log
+open_log g logs = if list_any (λ l. group_eq l.group g) logs then logs else logs ++ new_log g ∷ []
 
 -- the group's log changed, where there is none a new one
 abbrev pub change_log : GroupNo → (Log → Log) → List Log → List Log
@@ -79,18 +79,18 @@ abbrev pub past : ℕ → Facts → Facts
 past known facts = filter (λ f. nat_lt known f.0) facts
 
 -- what they add stands in the order then, and waits no more
-abbrev pub settled : Log → Log
-settled l =
+abbrev pub settle_log : Log → Log
+settle_log l =
     record l {
       window = longer l;
       later = past (l.base + length (longer l)) l.later;
-      hands = map (placed (drop (length l.window) (longer l))) l.hands;
+      hands = map (note_placed (drop (length l.window) (longer l))) l.hands;
     }
 
 -- a set-order message is taken in, unless the order is closed
 abbrev pub learnt : Placement → Log → Log
 learnt s l =
-    if l.closed then l else settled (record l { later = with_facts (length_of l) l.later (facts_of s) })
+    if l.closed then l else settle_log (record l { later = with_facts (length_of l) l.later (facts_of s) })
 
 -- the end of the order is told, from a place on: the order known becomes the first ids up to there, and behind them those
 -- that are told, all that are kept without ids beyond the cut; what is forgotten stays so up to there, and so does what is kept of processes
@@ -129,8 +129,8 @@ abbrev pub next_in : Log → Proc → List Entry
 next_in l p = drop (place_of l p - l.base) l.window
 
 -- a process passed the next n ids, at most all that are known
-abbrev pub passed : Proc → ℕ → Log → Log
-passed p n l = record l { places = put proc_cmp p (place_of l p + min n (length (next_in l p))) l.places }
+abbrev pub pass_ids : Proc → ℕ → Log → Log
+pass_ids p n l = record l { places = put proc_cmp p (place_of l p + min n (length (next_in l p))) l.places }
 
 -- What processes do that order the view's ABCASTs
 

@@ -5,7 +5,7 @@ ghost use Rattle.std.specs.Option.{option_copied};
 ghost use Rattle.cast_types.specs.Names.{entry_eq, proc_cmp, proc_eq};
 ghost use Rattle.cast_types.specs.Sets.{is_among};
 ghost use Rattle.cast_order.specs.Order.{last_upto};
-ghost use Rattle.cast_order.specs.Hand.{new_hand, held, handed, told, placed, noted, settled_by, hand_in, hand_opened};
+ghost use Rattle.cast_order.specs.Hand.{new_hand, hold_from, hand_over, note_unlisted, note_placed, note_order_sent, settled_by, hand_in, hand_opened};
 
 use cast_types::{NoMemory, Proc};
 use std::alloc::Global;
@@ -59,21 +59,21 @@ impl OrderHand {
 
     /// Takes in that the process holds the token, and orders from this place on.
     pub fn hold(&mut self, first: u32)
-        ensures { self.new ≡ held first self.old }
+        ensures { self.new ≡ hold_from first self.old }
     {
         self.first = Some(first);
     }
 
     /// Takes in that it holds the token no more.
     pub fn hand_over(&mut self)
-        ensures { self.new ≡ handed self.old }
+        ensures { self.new ≡ hand_over self.old }
     {
         self.first = None;
     }
 
     /// Takes in that it delivered an ABCAST that is not in the order known.
     pub fn tell(&mut self, id: (Proc, u32)) -> Result<(), NoMemory>
-        ensures { OnOk result (self.new ≡ told id self.old) }
+        ensures { OnOk result (self.new ≡ note_unlisted id self.old) }
     {
         self.waiting.push(id)?;
         Ok(())
@@ -81,14 +81,14 @@ impl OrderHand {
 
     /// Takes in that ids joined the order known.
     pub fn place(&mut self, ids: &[(Proc, u32)])
-        ensures { self.new ≡ placed ids.now self.old }
+        ensures { self.new ≡ note_placed ids.now self.old }
     {
         keep_without(&mut self.waiting, ids);
     }
 
     /// Takes in that it sent a set-order message of this count, which sets places up to the last.
     pub fn note(&mut self, count: u32, last: usize, stable: u32) -> Result<(), NoMemory>
-        ensures { OnOk result (self.new ≡ noted count last stable self.old) }
+        ensures { OnOk result (self.new ≡ note_order_sent count last stable self.old) }
     {
         self.reached = self.reached.max(last_upto(&self.lists, stable));
         keep_above(&mut self.lists, stable);
@@ -195,7 +195,7 @@ pub(crate) fn open_hand(hands: &mut Vec<OrderHand>, process: Proc) -> Result<(),
 
 // Each hand takes in that ids joined the order known.
 pub(crate) fn place_in(hands: &mut Vec<OrderHand>, ids: &[(Proc, u32)])
-    ensures { hands.new.items ≡ map (placed ids.now) hands.old.items }
+    ensures { hands.new.items ≡ map (note_placed ids.now) hands.old.items }
 {
     for hand in hands.iter_mut() {
         hand.place(ids);
@@ -222,7 +222,7 @@ pub(crate) fn copy_hands(alloc: Global, hands: &[OrderHand]) -> Result<Vec<Order
 
 // The hand of the process takes in that it holds the token.
 pub(crate) fn hold_in(hands: &mut Vec<OrderHand>, process: Proc, first: u32)
-    ensures { hands.new.items ≡ hand_in process (held first) hands.old.items }
+    ensures { hands.new.items ≡ hand_in process (hold_from first) hands.old.items }
 {
     for hand in hands.iter_mut() {
         if hand.process == process {
@@ -233,7 +233,7 @@ pub(crate) fn hold_in(hands: &mut Vec<OrderHand>, process: Proc, first: u32)
 
 // And that it holds it no more.
 pub(crate) fn hand_over_in(hands: &mut Vec<OrderHand>, process: Proc)
-    ensures { hands.new.items ≡ hand_in process handed hands.old.items }
+    ensures { hands.new.items ≡ hand_in process hand_over hands.old.items }
 {
     for hand in hands.iter_mut() {
         if hand.process == process {
@@ -248,7 +248,7 @@ pub(crate) fn tell_hand(
     process: Proc,
     id: (Proc, u32),
 ) -> Result<(), NoMemory>
-    ensures { OnOk result (hands.new.items ≡ hand_in process (told id) hands.old.items) }
+    ensures { OnOk result (hands.new.items ≡ hand_in process (note_unlisted id) hands.old.items) }
 {
     for hand in hands.iter_mut() {
         if hand.process == process {
@@ -266,7 +266,7 @@ pub(crate) fn note_hand(
     last: usize,
     stable: u32,
 ) -> Result<(), NoMemory>
-    ensures { OnOk result (hands.new.items ≡ hand_in process (noted count last stable) hands.old.items) }
+    ensures { OnOk result (hands.new.items ≡ hand_in process (note_order_sent count last stable) hands.old.items) }
 {
     for hand in hands.iter_mut() {
         if hand.process == process {

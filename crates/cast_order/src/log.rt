@@ -4,8 +4,8 @@ ghost use Rattle.cast_types.specs.Counts.{is_within};
 ghost use Rattle.cast_types.specs.Names.{entry_eq};
 ghost use Rattle.cast_types.specs.Sets.{is_among};
 ghost use Rattle.cast_order.specs.Order.{id_at};
-ghost use Rattle.cast_order.specs.Hand.{held, handed, told, noted, settled_by};
-ghost use Rattle.cast_order.specs.Log.{is_long, length_of, new_log, oldest_in, with_fact, with_facts, with_next, past, settled, learnt, place_of, next_in, passed, hand_here, with_hand, waits_in, next_places, places_by, known_past, waiting_of, whole_kept, tail_start_in, tail_ids_in, closed_by, forgot};
+ghost use Rattle.cast_order.specs.Hand.{hold_from, hand_over, note_unlisted, note_order_sent, settled_by};
+ghost use Rattle.cast_order.specs.Log.{is_long, length_of, new_log, oldest_in, with_fact, with_facts, with_next, past, settle_log, learnt, place_of, next_in, pass_ids, hand_here, with_hand, waits_in, next_places, places_by, known_past, waiting_of, whole_kept, tail_start_in, tail_ids_in, closed_by, forgot};
 
 use crate::hand::{
     OrderHand, copy_hands, hand_among, hand_over_in, hold_in, holds, note_hand, open_hand,
@@ -85,7 +85,7 @@ impl OrderLog {
 
     // Adds to the order known what follows it without a gap, and keeps only the facts past that. What it adds waits no more.
     fn settle(&mut self) -> Result<(), NoMemory>
-        ensures { OnOk result (self.new ≡ settled self.old) }
+        ensures { OnOk result (self.new ≡ settle_log self.old) }
     {
         let before = self.window.len();
         extend(&mut self.window, self.base, &self.later)?;
@@ -173,7 +173,7 @@ impl OrderLog {
 
     /// Takes in that a process passed so many of its next ids, at most all that are known.
     pub fn pass(&mut self, process: Proc, count: usize) -> Result<(), NoMemory>
-        ensures { OnOk result (self.new ≡ passed process count self.old) }
+        ensures { OnOk result (self.new ≡ pass_ids process count self.old) }
     {
         let place = self.place(process);
         let more = count.min(self.length().saturating_sub(place));
@@ -183,7 +183,7 @@ impl OrderLog {
 
     /// Takes in that a process here holds the token, and orders from this place on.
     pub fn hold(&mut self, process: Proc, first: u32) -> Result<(), NoMemory>
-        ensures { OnOk result (self.new ≡ with_hand process (held first) self.old) }
+        ensures { OnOk result (self.new ≡ with_hand process (hold_from first) self.old) }
     {
         open_hand(&mut self.hands, process)?;
         hold_in(&mut self.hands, process, first);
@@ -192,7 +192,7 @@ impl OrderLog {
 
     /// Takes in that it holds the token no more.
     pub fn hand_over(&mut self, process: Proc) -> Result<(), NoMemory>
-        ensures { OnOk result (self.new ≡ with_hand process handed self.old) }
+        ensures { OnOk result (self.new ≡ with_hand process hand_over self.old) }
     {
         open_hand(&mut self.hands, process)?;
         hand_over_in(&mut self.hands, process);
@@ -201,7 +201,7 @@ impl OrderLog {
 
     /// Takes in that a process here delivered an ABCAST that is not in the order known.
     pub fn tell(&mut self, process: Proc, id: (Proc, u32)) -> Result<(), NoMemory>
-        ensures { OnOk result (self.new ≡ with_hand process (told id) self.old) }
+        ensures { OnOk result (self.new ≡ with_hand process (note_unlisted id) self.old) }
     {
         open_hand(&mut self.hands, process)?;
         tell_hand(&mut self.hands, process, id)?;
@@ -216,7 +216,7 @@ impl OrderLog {
         last: usize,
         stable: u32,
     ) -> Result<(), NoMemory>
-        ensures { OnOk result (self.new ≡ with_hand process (noted count last stable) self.old) }
+        ensures { OnOk result (self.new ≡ with_hand process (note_order_sent count last stable) self.old) }
     {
         open_hand(&mut self.hands, process)?;
         note_hand(&mut self.hands, process, count, last, stable)?;

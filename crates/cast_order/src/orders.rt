@@ -4,8 +4,8 @@ ghost use Rattle.std.specs.Option.{option_copied};
 ghost use Rattle.cast_types.specs.Counts.{is_within};
 ghost use Rattle.cast_types.specs.Names.{entry_eq, group_eq};
 ghost use Rattle.cast_types.specs.Sets.{is_among};
-ghost use Rattle.cast_order.specs.Hand.{held, handed, told, noted, settled_by};
-ghost use Rattle.cast_order.specs.Log.{is_long, length_of, log_of, change_in, opened, change_log, but_log, learnt, next_in, passed, hand_here, with_hand, waits_in, next_places, known_past, whole_kept, tail_start_in, tail_ids_in, closed_by, oldest_in, forgot};
+ghost use Rattle.cast_order.specs.Hand.{hold_from, hand_over, note_unlisted, note_order_sent, settled_by};
+ghost use Rattle.cast_order.specs.Log.{is_long, length_of, log_of, change_in, open_log, change_log, but_log, learnt, next_in, pass_ids, hand_here, with_hand, waits_in, next_places, known_past, whole_kept, tail_start_in, tail_ids_in, closed_by, oldest_in, forgot};
 
 use crate::hand::OrderHand;
 use crate::log::OrderLog;
@@ -92,7 +92,7 @@ impl Orders {
     /// where that gives fewer, all of them.
     #[tactic(auto, using(crate::proofs::Logs::change_opened))]
     pub fn pass(&mut self, group: GroupNo, process: Proc, count: usize) -> Result<(), NoMemory>
-        ensures { OnOk result (self.new ≡ change_log group (passed process count) self.old) }
+        ensures { OnOk result (self.new ≡ change_log group (pass_ids process count) self.old) }
     {
         open_in(&mut self.logs, group)?;
         pass_in(&mut self.logs, group, process, count)?;
@@ -102,7 +102,7 @@ impl Orders {
     /// Takes in that a process here holds the token of the group's view, and orders from this place on.
     #[tactic(auto, using(crate::proofs::Logs::change_opened))]
     pub fn hold(&mut self, group: GroupNo, process: Proc, first: u32) -> Result<(), NoMemory>
-        ensures { OnOk result (self.new ≡ change_log group (with_hand process (held first)) self.old) }
+        ensures { OnOk result (self.new ≡ change_log group (with_hand process (hold_from first)) self.old) }
     {
         open_in(&mut self.logs, group)?;
         hold_token_in(&mut self.logs, group, process, first)?;
@@ -112,7 +112,7 @@ impl Orders {
     /// Takes in that a process here holds the token of the group's view no more.
     #[tactic(auto, using(crate::proofs::Logs::change_opened))]
     pub fn hand_over(&mut self, group: GroupNo, process: Proc) -> Result<(), NoMemory>
-        ensures { OnOk result (self.new ≡ change_log group (with_hand process handed) self.old) }
+        ensures { OnOk result (self.new ≡ change_log group (with_hand process hand_over) self.old) }
     {
         open_in(&mut self.logs, group)?;
         hand_token_in(&mut self.logs, group, process)?;
@@ -143,7 +143,7 @@ impl Orders {
     /// Takes in that a process here delivered this ABCAST, which is not in the order known.
     #[tactic(auto, using(crate::proofs::Logs::change_opened))]
     pub fn tell(&mut self, group: GroupNo, process: Proc, id: (Proc, u32)) -> Result<(), NoMemory>
-        ensures { OnOk result (self.new ≡ change_log group (with_hand process (told id)) self.old) }
+        ensures { OnOk result (self.new ≡ change_log group (with_hand process (note_unlisted id)) self.old) }
     {
         open_in(&mut self.logs, group)?;
         tell_in(&mut self.logs, group, process, id)?;
@@ -173,7 +173,7 @@ impl Orders {
         last: usize,
         stable: u32,
     ) -> Result<(), NoMemory>
-        ensures { OnOk result (self.new ≡ change_log group (with_hand process (noted count last stable)) self.old) }
+        ensures { OnOk result (self.new ≡ change_log group (with_hand process (note_order_sent count last stable)) self.old) }
     {
         open_in(&mut self.logs, group)?;
         note_in(&mut self.logs, group, process, count, last, stable)?;
@@ -327,7 +327,7 @@ fn has_log(logs: &[OrderLog], group: GroupNo) -> bool
 
 // Adds a new log for a group that has none.
 fn open_in(logs: &mut Vec<OrderLog>, group: GroupNo) -> Result<(), NoMemory>
-    ensures { OnOk result (logs.new.items ≡ opened group logs.old.items) }
+    ensures { OnOk result (logs.new.items ≡ open_log group logs.old.items) }
 {
     if has_log(logs, group) {
         return Ok(());
@@ -356,7 +356,7 @@ fn pass_in(
     process: Proc,
     count: usize,
 ) -> Result<(), NoMemory>
-    ensures { OnOk result (logs.new.items ≡ change_in group (passed process count) logs.old.items) }
+    ensures { OnOk result (logs.new.items ≡ change_in group (pass_ids process count) logs.old.items) }
 {
     for log in logs.iter_mut() {
         if log.group == group {
@@ -373,7 +373,7 @@ fn hold_token_in(
     process: Proc,
     first: u32,
 ) -> Result<(), NoMemory>
-    ensures { OnOk result (logs.new.items ≡ change_in group (with_hand process (held first)) logs.old.items) }
+    ensures { OnOk result (logs.new.items ≡ change_in group (with_hand process (hold_from first)) logs.old.items) }
 {
     for log in logs.iter_mut() {
         if log.group == group {
@@ -385,7 +385,7 @@ fn hold_token_in(
 
 // And that it holds it no more.
 fn hand_token_in(logs: &mut Vec<OrderLog>, group: GroupNo, process: Proc) -> Result<(), NoMemory>
-    ensures { OnOk result (logs.new.items ≡ change_in group (with_hand process handed) logs.old.items) }
+    ensures { OnOk result (logs.new.items ≡ change_in group (with_hand process hand_over) logs.old.items) }
 {
     for log in logs.iter_mut() {
         if log.group == group {
@@ -402,7 +402,7 @@ fn tell_in(
     process: Proc,
     id: (Proc, u32),
 ) -> Result<(), NoMemory>
-    ensures { OnOk result (logs.new.items ≡ change_in group (with_hand process (told id)) logs.old.items) }
+    ensures { OnOk result (logs.new.items ≡ change_in group (with_hand process (note_unlisted id)) logs.old.items) }
 {
     for log in logs.iter_mut() {
         if log.group == group {
@@ -421,7 +421,7 @@ fn note_in(
     last: usize,
     stable: u32,
 ) -> Result<(), NoMemory>
-    ensures { OnOk result (logs.new.items ≡ change_in group (with_hand process (noted count last stable)) logs.old.items) }
+    ensures { OnOk result (logs.new.items ≡ change_in group (with_hand process (note_order_sent count last stable)) logs.old.items) }
 {
     for log in logs.iter_mut() {
         if log.group == group {

@@ -19,7 +19,7 @@ use Rattle.cast_domain.specs.declared.shared.Shared.{Shared}
 use Rattle.cast_domain.specs.Records.{number_of, is_halted}
 use Rattle.cast_domain.specs.Shared.{part_of, LeavesOthers}
 use Rattle.cast_domain.proofs.Shares.{others_part}
-use Rattle.cast_table.specs.Tables.{domain_eq, place_named, IsTurn, Lent, IsTurnAt, IsAppliedAt, IsAppliedTo, IsApplied, IsTicked, AreTurns, NotesHalts, NotesHaltsOf, NotesOne, answer_in_turn, halted_by, stopped, IsLeast, IsLeastOf}
+use Rattle.cast_table.specs.Tables.{domain_eq, place_named, IsTurn, Lent, IsTurnAt, IsAppliedAt, IsAppliedTo, IsApplied, IsTicked, AreTurns, NotesHalts, NotesHaltsOf, NotesOne, answer_in_turn, halted_by, halted_in_turn, IsLeast, IsLeastOf}
 use Rattle.cast_table.specs.Owns.{names, is_own}
 use Rattle.cast_table.proofs.Parts.{same_domain, domain_itself, domain_flipped}
 use Rattle.cast_table.proofs.Places.{named_there, same_some, none_some}
@@ -114,14 +114,14 @@ module _ (e : Entry) (tick : domain_of e.event ≡ None) where
       ∙ others_part (number_of o) q first.shared turns.0.shared (turn_leaves (answer_in_turn o n) e.event o n first turns.0 (begun_in o n) turns.1) parts.0
 
   -- and none of them is halted
-  none_halted : (q : DomainNo) (olds news : List Domain) (first last : Lent) → AreTurns e.event olds news first last → is_among q (numbers_in olds) ≡ false → is_among q (stopped olds news) ≡ false
+  none_halted : (q : DomainNo) (olds news : List Domain) (first last : Lent) → AreTurns e.event olds news first last → is_among q (numbers_in olds) ≡ false → is_among q (halted_in_turn olds news) ≡ false
   none_halted q [] [] first last turns none = refl
   none_halted q [] (n ∷ news) first last turns none = absurd turns
   none_halted q (o ∷ olds) [] first last turns none = absurd turns
   none_halted q (o ∷ olds) (n ∷ news) first last turns none =
       let parts = or_parts (domain_eq q (number_of o)) (is_among q (numbers_in olds)) none in
-      list_any-append (domain_eq q) (halted_by (answer_in_turn o n)) (stopped olds news)
-      ∙ or_from (is_among q (halted_by (answer_in_turn o n))) (is_among q (stopped olds news))
+      list_any-append (domain_eq q) (halted_by (answer_in_turn o n)) (halted_in_turn olds news)
+      ∙ or_from (is_among q (halted_by (answer_in_turn o n))) (is_among q (halted_in_turn olds news))
       (halts_itself (answer_in_turn o n) e.event o n first turns.0 q turns.1 (domain_flipped q (number_of o) parts.0))
       (none_halted q olds news turns.0 last turns.2 parts.1)
 
@@ -133,7 +133,7 @@ module _ (e : Entry) (tick : domain_of e.event ≡ None) where
   rest_halted b c d same gone = same ∙ ap (λ x. x || d) gone
 
   pub ticked_follow : (olds news : List Domain) (first last : Lent) (start : Shared) → are_apart (numbers_in olds) ≡ true → AreTurns e.event olds news first last
-      → ((q : DomainNo) → is_among q (numbers_in olds) ≡ true → is_among q e.halted ≡ is_among q (stopped olds news))
+      → ((q : DomainNo) → is_among q (numbers_in olds) ≡ true → is_among q e.halted ≡ is_among q (halted_in_turn olds news))
       → ((q : DomainNo) → is_among q (numbers_in olds) ≡ true → part_of q first.shared ≡ part_of q start)
       → AllZip (Follows e start last.shared) olds news
   ticked_follow [] [] first last start apart turns halts parts = tt
@@ -149,13 +149,13 @@ module _ (e : Entry) (tick : domain_of e.event ≡ None) where
       λ q there. or_right (domain_eq q d) (is_among q (numbers_in olds)) there in
       let leaves = turn_leaves a e.event o n first between (begun_in o n) turns.1 in (
         turned e o n first between (own_all d) a (begun_in o n) (λ named. absurd (false≢true (sym (unnamed d) ∙ named)))
-            (first_halted (is_among d e.halted) (is_among d (halted_by a)) (is_among d (stopped olds news))
-            (halts d here ∙ list_any-append (domain_eq d) (halted_by a) (stopped olds news))
+            (first_halted (is_among d e.halted) (is_among d (halted_by a)) (is_among d (halted_in_turn olds news))
+            (halts d here ∙ list_any-append (domain_eq d) (halted_by a) (halted_in_turn olds news))
             (none_halted d olds news between last turns.2 alone))
             turns.1 start last.shared (parts d here) (turns_leave d olds news between last turns.2 alone),
         ticked_follow olds news between last start (rest_apart d (numbers_in olds) apart) turns.2
-            (λ q there. rest_halted (is_among q e.halted) (is_among q (halted_by a)) (is_among q (stopped olds news))
-            (halts q (later q there) ∙ list_any-append (domain_eq q) (halted_by a) (stopped olds news))
+            (λ q there. rest_halted (is_among q e.halted) (is_among q (halted_by a)) (is_among q (halted_in_turn olds news))
+            (halts q (later q there) ∙ list_any-append (domain_eq q) (halted_by a) (halted_in_turn olds news))
             (halts_itself a e.event o n first between q turns.1 (other_number d q (numbers_in olds) alone there)))
             (λ q there. others_part d q first.shared between.shared leaves (domain_flipped d q (other_number d q (numbers_in olds) alone there)) ∙ parts q (later q there)),
       )
@@ -231,7 +231,7 @@ module _ (e : Entry) (olds news : List Domain) (before after : Lent) (apart : ar
   taken_named a n says is notes (Some k) at applied = taken_at a n k says is at notes applied
 
   -- it is a tick
-  module _ (tick : domain_of e.event ≡ None) (halted : e.halted ≡ stopped olds news) where
+  module _ (tick : domain_of e.event ≡ None) (halted : e.halted ≡ halted_in_turn olds news) where
     ticked_all : AreTurns e.event olds news before after → AllZip (Follows e before.shared after.shared) olds news
     ticked_all turns = ticked_follow e tick olds news before after before.shared apart turns (λ q there. ap (is_among q) halted) (λ q there. refl)
 

@@ -8,7 +8,7 @@ use Rattle.cast_events.specs.declared.log.Fault.{Fault}
 use Rattle.cast_events.specs.declared.log.Fault.TheVariants.{NoMemory, Halted, NoDomain}
 use Rattle.cast_events.specs.Events.{domain_of}
 use Rattle.cast_domain.specs.declared.domain.Domain.{Domain}
-use Rattle.cast_table.specs.Tables.{Lent, IsAppliedAt, IsAppliedTo, IsApplied, NotesHalts, NotesHaltsOf, answer_in_turn, halted_by, stopped, place_named}
+use Rattle.cast_table.specs.Tables.{Lent, IsAppliedAt, IsAppliedTo, IsApplied, NotesHalts, NotesHaltsOf, answer_in_turn, halted_by, halted_in_turn, place_named}
 use Rattle.cast_table.proofs.Places.{none_some}
 
 one_at_most : (a : Result Taken Fault) → length (halted_by a) ≤ 1
@@ -17,11 +17,11 @@ one_at_most (Err NoMemory) = omega arith
 one_at_most (Err (Halted d)) = omega arith
 one_at_most (Err NoDomain) = omega arith
 
-stopped_few : (olds news : List Domain) → length (stopped olds news) ≤ length olds
+stopped_few : (olds news : List Domain) → length (halted_in_turn olds news) ≤ length olds
 stopped_few [] news = omega arith
 stopped_few (o ∷ olds) [] = omega arith
 stopped_few (o ∷ olds) (n ∷ news) =
-    let sizes = length-append (halted_by (answer_in_turn o n)) (stopped olds news) in
+    let sizes = length-append (halted_by (answer_in_turn o n)) (halted_in_turn olds news) in
     let one = one_at_most (answer_in_turn o n) in
     let rest = stopped_few olds news in
     omega (arith, sizes, one, rest)

@@ -22,7 +22,7 @@ use Rattle.cast_domain.specs.Fits.{Fits, Represents, AreDismissed}
 use Rattle.cast_domain.specs.Freed.{AreNotFree}
 use Rattle.cast_domain.specs.Copies.{IsCopyOf as IsDomainCopy}
 use Rattle.cast_table.specs.declared.table.Table.{Table}
-use Rattle.cast_table.specs.Tables.{domains_of, shared_of, lent, by_number, IsNew, SharesNothing, IsApplied, NotesHalts}
+use Rattle.cast_table.specs.Tables.{domains_of, shared_of, lent_of, by_number, IsNew, SharesNothing, IsApplied, NotesHalts}
 use Rattle.cast_table.specs.Copies.{IsCopyOf}
 use Rattle.cast_table.specs.Owns.{are_distinct, have_rising_groups}
 use Rattle.cast_table.proofs.Places.{IsNumbered}
@@ -68,11 +68,11 @@ kept_numbers base trace table replays =
     same_numbers (IsReplayed (shared_of base) trace (shared_of table)) (λ x y replayed. replayed.number) (domains_of base) (domains_of table) replays.domains
 
 pub replays_push : (base : Table) (trace : List Entry) (old new : Table) (e : Entry) (a : Result Taken Fault) (before after : Outs) → Replays base trace old → noted_of a ≡ Some e.answer
-    → IsApplied a e.event (domains_of old) (domains_of new) (lent old before) (lent new after) → NotesHalts a e.event (domains_of old) (domains_of new) [] e.halted → Replays base (trace ++ e ∷ []) new
+    → IsApplied a e.event (domains_of old) (domains_of new) (lent_of old before) (lent_of new after) → NotesHalts a e.event (domains_of old) (domains_of new) [] e.halted → Replays base (trace ++ e ∷ []) new
 replays_push base trace old new e a before after replays says applied notes =
     let same = kept_numbers base trace old replays in
     let made =
-    taken_in e (domains_of old) (domains_of new) (lent old before) (lent new after) (ap are_apart same ∙ replays.apart) a says applied notes in
+    taken_in e (domains_of old) (domains_of new) (lent_of old before) (lent_of new after) (ap are_apart same ∙ replays.apart) a says applied notes in
     record {
       apart = replays.apart;
       domains = all_push (shared_of base) (shared_of old) (shared_of new) trace e (domains_of base) (domains_of old) (domains_of new) replays.domains made.follow;

@@ -11,14 +11,14 @@ use Rattle.cast_events.specs.declared.log.Fault.{Fault}
 use Rattle.cast_events.specs.declared.log.Fault.TheVariants.{NoMemory, Halted, NoDomain}
 use Rattle.cast_events.specs.Outs.{no_outs}
 use Rattle.cast_table.specs.declared.table.Table.{Table}
-use Rattle.cast_table.specs.Tables.{domains_of, lent, IsApplied, IsUnchanged, NotesHalts}
+use Rattle.cast_table.specs.Tables.{domains_of, lent_of, IsApplied, IsUnchanged, NotesHalts}
 use Rattle.cast_table.specs.Copies.{IsCopyOf}
 use Rattle.cast_events.specs.declared.entry.Noted.{Noted}
 use Rattle.cast_events.specs.declared.entry.Noted.TheVariants as noted
 use Rattle.cast_events.specs.declared.entry.Entry.{Entry}
 use Rattle.cast_trail.specs.declared.trail.Trail.{Trail}
 use Rattle.cast_trail.specs.Notes.{noted_of, noted_taken}
-use Rattle.cast_pool.specs.Kept.{Seen, Replays, seen, events_of, is_due, is_full}
+use Rattle.cast_pool.specs.Kept.{Seen, Replays, seen_of, events_of, is_due, is_full}
 use Rattle.cast_pool.specs.Served.{IsAdded, IsLeft, IsServed, Serves}
 use Rattle.cast_pool.specs.Room.{IsNextBase}
 use Rattle.cast_trail.specs.Room.{base_then, count_then, items_then}
@@ -55,7 +55,7 @@ module _ (event : Event) (old : Seen) (counts : is_full old ≡ false) where
       record { full = λ is. absurd (false≢true (sym counts ∙ is)); room = λ _. served }
 
   -- it was not taken
-  pub served_none : (a : Result Taken Fault) (outs : Outs) (new : Seen) (was : ℕ) → noted_of a ≡ None → IsApplied a event (domains_of old.table) (domains_of new.table) (lent old.table no_outs) (lent new.table outs) → IsUnchanged a old.table new.table no_outs outs
+  pub served_none : (a : Result Taken Fault) (outs : Outs) (new : Seen) (was : ℕ) → noted_of a ≡ None → IsApplied a event (domains_of old.table) (domains_of new.table) (lent_of old.table no_outs) (lent_of new.table outs) → IsUnchanged a old.table new.table no_outs outs
       → new.base ≡ old.base → new.trace ≡ old.trace → new.count ≡ old.count → Serves event a outs old new was was
   served_none (Ok t) outs new was none applied same base trace count = absurd (some_kept (noted_taken t) none)
   served_none (Err NoMemory) outs new was none applied same base trace count =
@@ -78,20 +78,20 @@ IsNext s None = length s.trace < 4096
 IsNext s (Some base) = (4096 ≤ length s.trace) × IsCopyOf s.table base
 
 -- room for the entry says so
-pub next_in : (base : Table) (count : ℕ) (table : Table) (items : List Entry) (trail : Trail Table) (next : Option Table) → trail.entries.items ≡ items → IsNextBase table next trail → IsNext (seen base items count table) next
+pub next_in : (base : Table) (count : ℕ) (table : Table) (items : List Entry) (trail : Trail Table) (next : Option Table) → trail.entries.items ≡ items → IsNextBase table next trail → IsNext (seen_of base items count table) next
 next_in base count table items trail None same room = subst (λ xs. length xs < 4096) same room.0
 next_in base count table items trail (Some copy) same room = (subst (λ xs. 4096 ≤ length xs) same room.0, room.1)
 
 abbrev pub entry_for : Event → Noted → List DomainNo → Entry
 entry_for event n halted = record { event = event; answer = n; halted = halted }
 
-module _ (event : Event) (a : Result Taken Fault) (n : Noted) (outs : Outs) (old : Seen) (table : Table) (says : noted_of a ≡ Some n) (applied : IsApplied a event (domains_of old.table) (domains_of table) (lent old.table no_outs) (lent table outs)) (notes : NotesHalts a event (domains_of old.table) (domains_of table) [] outs.halted) where
+module _ (event : Event) (a : Result Taken Fault) (n : Noted) (outs : Outs) (old : Seen) (table : Table) (says : noted_of a ≡ Some n) (applied : IsApplied a event (domains_of old.table) (domains_of table) (lent_of old.table no_outs) (lent_of table outs)) (notes : NotesHalts a event (domains_of old.table) (domains_of table) [] outs.halted) where
   e : Entry
   e = entry_for event n outs.halted
 
   abbrev after : Option Table → Seen
   after base =
-      seen (base_then base old.base) (items_then base old.trace ++ entry_for event n outs.halted ∷ []) (count_then base old.count (length old.trace)) table
+      seen_of (base_then base old.base) (items_then base old.trace ++ entry_for event n outs.halted ∷ []) (count_then base old.count (length old.trace)) table
 
   few : length old.trace < 4096 → is_due old ≡ false
   few below = false_from_ne_true (is_due old) (λ due. absurd (omega (arith, below, leb-true 4096 (length old.trace) due)))

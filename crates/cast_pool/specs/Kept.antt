@@ -20,8 +20,8 @@ pub record Seen : Type 0 where
   pub count : ℕ
   pub table : Table
 
-abbrev pub seen : Table → List Entry → ℕ → Table → Seen
-seen base trace count table = record { base = base; trace = trace; count = count; table = table }
+abbrev pub seen_of : Table → List Entry → ℕ → Table → Seen
+seen_of base trace count table = record { base = base; trace = trace; count = count; table = table }
 
 -- how many events were taken
 abbrev pub events_of : Seen → ℕ

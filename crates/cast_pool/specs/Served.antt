@@ -9,7 +9,7 @@ use Rattle.cast_events.specs.declared.event.Taken.TheVariants.{Refused}
 use Rattle.cast_events.specs.declared.log.Fault.{Fault}
 use Rattle.cast_events.specs.declared.log.Fault.TheVariants.{NoMemory, Halted, NoDomain}
 use Rattle.cast_events.specs.Outs.{no_outs}
-use Rattle.cast_table.specs.Tables.{domains_of, lent, IsApplied, NotesHalts}
+use Rattle.cast_table.specs.Tables.{domains_of, lent_of, IsApplied, NotesHalts}
 use Rattle.cast_table.specs.Copies.{IsCopyOf}
 use Rattle.cast_table.specs.Shows.{shown_at}
 use Rattle.cast_events.specs.declared.entry.Noted.{Noted}
@@ -48,7 +48,7 @@ IsTrimmedOr false old new = new ≡ old
 -- an event is applied to the table with this answer, stands at the end of the trace, which was trimmed before where that was
 -- due, and is one more that its worker took
 pub record IsAdded (event : Event) (answer : Result Taken Fault) (kept : Noted) (outs : Outs) (old : Seen) (new : Seen) (was : ℕ) (now : ℕ) : Type 0 where
-  pub applied : IsApplied answer event (domains_of old.table) (domains_of new.table) (lent old.table no_outs) (lent new.table outs)
+  pub applied : IsApplied answer event (domains_of old.table) (domains_of new.table) (lent_of old.table no_outs) (lent_of new.table outs)
   pub halted : NotesHalts answer event (domains_of old.table) (domains_of new.table) [] outs.halted
   pub trace : new.trace ≡ (if is_due old then [] else old.trace) ++ record { event = event; answer = kept; halted = outs.halted } ∷ []
   pub count : new.count ≡ (if is_due old then events_of old else old.count)
@@ -63,7 +63,7 @@ IsServed event (Ok taken) outs old new was now = IsAdded event (Ok taken) (noted
 IsServed event (Err NoMemory) outs old new was now = (outs ≡ no_outs) × IsLeft old new was now
 IsServed event (Err (Halted d)) outs old new was now = IsAdded event (Err (Halted d)) (noted.Halted d) outs old new was now
 IsServed event (Err NoDomain) outs old new was now =
-    IsApplied (Err NoDomain) event (domains_of old.table) (domains_of new.table) (lent old.table no_outs) (lent new.table outs)
+    IsApplied (Err NoDomain) event (domains_of old.table) (domains_of new.table) (lent_of old.table no_outs) (lent_of new.table outs)
     × (outs ≡ no_outs)
     × IsLeft old new was now
 

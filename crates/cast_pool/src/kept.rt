@@ -43,11 +43,11 @@ pub struct Kept<L: Ledger> {
 
 impl<L: Ledger> Model for Kept<L> {
     ghost use Rattle.std.specs.Prelude.{◌≡◌, ◌+◌, ◌<◌, ◌^◌, length};
-    ghost use Rattle.cast_pool.specs.Kept.{Seen, Replays, seen};
+    ghost use Rattle.cast_pool.specs.Kept.{Seen, Replays, seen_of};
 
     ghost Value = { Seen };
 
-    ghost view = { λ k. seen k.trail.base k.trail.entries.items k.trail.count k.table };
+    ghost view = { λ k. seen_of k.trail.base k.trail.entries.items k.trail.count k.table };
 
     ghost invariant = { λ k. Replays k.trail.base k.trail.entries.items k.table × (k.trail.count + length k.trail.entries.items ≡ k.book.total) × (k.trail.count + length k.trail.entries.items < 2 ^ 64) };
 }

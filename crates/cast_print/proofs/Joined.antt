@@ -6,7 +6,7 @@ use Rattle.std.proofs.lemmas.Bool.{eq-eqb}
 use Rattle.std.proofs.lemmas.List.{append-nil, drop_all, take_all}
 use Rattle.std.proofs.lemmas.List.Elements.{All-append, All-cons, All-nil}
 use Rattle.std.proofs.lemmas.List.Splits.{slice_split_at, slice_split_none}
-use Rattle.cast_script.specs.Words.{parted}
+use Rattle.cast_script.specs.Words.{parts_at}
 use Rattle.cast_print.specs.Scripts.{numbers_text}
 
 -- the byte c is nowhere in a list
@@ -19,15 +19,15 @@ joined_all P by (piece ∷ []) is are = are.0
 joined_all P by (piece ∷ next ∷ pieces) is are =
     All-append P piece _ are.0 (All-cons P by _ is (joined_all P by (next ∷ pieces) is are.1))
 
-pub parted_joined : (by : ℕ) (piece : List ℕ) (pieces : List (List ℕ)) → AllByRecursion (Lacks by) (piece ∷ pieces) → parted by (join_with_byte by (piece ∷ pieces)) ≡ piece ∷ pieces
+pub parted_joined : (by : ℕ) (piece : List ℕ) (pieces : List (List ℕ)) → AllByRecursion (Lacks by) (piece ∷ pieces) → parts_at by (join_with_byte by (piece ∷ pieces)) ≡ piece ∷ pieces
 parted_joined by piece [] lack = slice_split_none (λ b. eqb b by) piece lack.0
 parted_joined by piece (next ∷ pieces) lack =
     slice_split_at (λ b. eqb b by) piece by _ lack.0 (eq-eqb by by refl) ∙ ap (λ parts. piece ∷ parts) (parted_joined by next pieces lack.1)
 
 -- the first of several lines, each ended by the byte
-pub parted_first : (by : ℕ) (line rest : List ℕ) → Lacks by line → parted by ((line ++ by ∷ []) ++ rest) ≡ line ∷ parted by rest
+pub parted_first : (by : ℕ) (line rest : List ℕ) → Lacks by line → parts_at by ((line ++ by ∷ []) ++ rest) ≡ line ∷ parts_at by rest
 parted_first by line rest lacks =
-    ap (parted by) (append_assoc line (by ∷ []) rest) ∙ slice_split_at (λ b. eqb b by) line by rest lacks (eq-eqb by by refl)
+    ap (parts_at by) (append_assoc line (by ∷ []) rest) ∙ slice_split_at (λ b. eqb b by) line by rest lacks (eq-eqb by by refl)
 
 -- a number behind others
 abbrev pub comma_text : ℕ → List ℕ

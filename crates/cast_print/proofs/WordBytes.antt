@@ -16,7 +16,7 @@ use Rattle.cast_types.specs.declared.names.SiteNo.{SiteNo}
 use Rattle.cast_message.specs.declared.site.SiteFrame.{SiteFrame}
 use Rattle.cast_field.specs.Spelling.{short}
 use Rattle.cast_frame.specs.Spelling.{spelled_site}
-use Rattle.cast_script.specs.Words.{parted}
+use Rattle.cast_script.specs.Words.{parts_at}
 use Rattle.cast_print.specs.Logs.{payload_text}
 use Rattle.cast_print.specs.Scripts.{numbers_text}
 use Rattle.cast_print.proofs.Joined.{Lacks, joined_all, parted_joined}
@@ -108,6 +108,6 @@ numbers_lack (n ∷ ns) small = (number_lacks n small.0, numbers_lack ns small.1
 pub numbers_word : (ns : List ℕ) → AllByRecursion (λ n. n < 2 ^ 64) ns → IsWord (numbers_text ns)
 numbers_word ns small = joined_all (λ b. is_word_byte b ≡ true) 44 (map decimal ns) refl (number_words ns small)
 
-pub numbers_again : (ns : List ℕ) → 1 ≤ length ns → AllByRecursion (λ n. n < 2 ^ 64) ns → parted 44 (numbers_text ns) ≡ map decimal ns
+pub numbers_again : (ns : List ℕ) → 1 ≤ length ns → AllByRecursion (λ n. n < 2 ^ 64) ns → parts_at 44 (numbers_text ns) ≡ map decimal ns
 numbers_again [] some small = absurd (omega arith)
 numbers_again (n ∷ ns) some small = parted_joined 44 (decimal n) (map decimal ns) (numbers_lack (n ∷ ns) small)

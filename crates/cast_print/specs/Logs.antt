@@ -25,9 +25,9 @@ use Rattle.cast_events.specs.declared.log.Log.{Log}
 use Rattle.cast_script.specs.Words.{proc_text}
 
 -- the texts of a list's items, which are numbered from n on
-abbrev pub numbered : {X : Type 0} → (ℕ → X → List ℕ) → ℕ → List X → List ℕ
-numbered f n [] = []
-numbered f n (x ∷ xs) = f n x ++ numbered f (n + 1) xs
+abbrev pub numbered_texts : {X : Type 0} → (ℕ → X → List ℕ) → ℕ → List X → List ℕ
+numbered_texts f n [] = []
+numbered_texts f n (x ∷ xs) = f n x ++ numbered_texts f (n + 1) xs
 
 abbrev pub line_feed : List ℕ
 line_feed = 10 ∷ []
@@ -87,7 +87,7 @@ halted_text d halted = if halted then codes "halted " ++ (decimal d.0 ++ line_fe
 -- what a domain has given: its pushes by serial, its frames, and whether it was halted
 abbrev pub given_text : SiteNo → Given → List ℕ
 given_text site g =
-    numbered (session_text g.domain) 1 g.pushes ++ (flat_map (frame_line g.domain site) g.sent ++ halted_text g.domain g.halted)
+    numbered_texts (session_text g.domain) 1 g.pushes ++ (flat_map (frame_line g.domain site) g.sent ++ halted_text g.domain g.halted)
 
 abbrev pub taken_line : ℕ → Taken → List ℕ
 taken_line n taken.Nothing = []
@@ -108,4 +108,4 @@ answer_line n (Err e) = fault_line n e
 
 -- the answers that are printed, and then what each domain has given
 abbrev pub log_text : SiteNo → Log → List ℕ
-log_text site log = numbered answer_line 1 log.answers ++ flat_map (given_text site) log.given
+log_text site log = numbered_texts answer_line 1 log.answers ++ flat_map (given_text site) log.given

@@ -2,7 +2,7 @@ ghost use Rattle.std.specs.Prelude.{◌≡◌, ◌++◌, IfOk, OnOk, codes};
 ghost use Rattle.std.specs.List.{flat_map};
 ghost use Rattle.std.specs.String.{string_bytes};
 ghost use Rattle.hex.specs.Hex.{encode_lower};
-ghost use Rattle.cast_print.specs.Logs.{answer_line, frame_line, given_text, halted_text, kind_text, log_text, member_text, members_text, numbered, payload_text, push_line, push_text, session_text, uid_text};
+ghost use Rattle.cast_print.specs.Logs.{answer_line, frame_line, given_text, halted_text, kind_text, log_text, member_text, members_text, numbered_texts, payload_text, push_line, push_text, session_text, uid_text};
 ghost use Rattle.cast_script.specs.Words.{proc_text};
 
 use cast_events::{Fault, Given, Log, Taken};
@@ -29,7 +29,7 @@ pub fn print(alloc: Global, site: SiteNo, log: &Log) -> Result<String, NoMemory>
 
 // A line for each event that was refused or that names no domain, numbered from 1.
 fn print_answers(text: &mut String, answers: &[Result<Taken, Fault>]) -> Result<(), NoMemory>
-    ensures { OnOk result (string_bytes text.new ≡ string_bytes text.old ++ numbered answer_line 1 answers.now) }
+    ensures { OnOk result (string_bytes text.new ≡ string_bytes text.old ++ numbered_texts answer_line 1 answers.now) }
 {
     for (index, answer) in answers.iter().enumerate() {
         print_answer(text, index + 1, answer)?;
@@ -76,7 +76,7 @@ fn print_sessions(
     domain: DomainNo,
     sessions: &[List<Push>],
 ) -> Result<(), NoMemory>
-    ensures { OnOk result (string_bytes text.new ≡ string_bytes text.old ++ numbered (session_text domain) 1 sessions.now) }
+    ensures { OnOk result (string_bytes text.new ≡ string_bytes text.old ++ numbered_texts (session_text domain) 1 sessions.now) }
 {
     for (index, pushes) in sessions.iter().enumerate() {
         print_session(alloc, text, domain, index + 1, pushes.as_slice())?;

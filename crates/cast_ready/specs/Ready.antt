@@ -7,7 +7,7 @@ use Rattle.cast_types.specs.declared.names.GroupNo.{GroupNo}
 use Rattle.cast_types.specs.declared.names.Uid.{Uid}
 use Rattle.cast_types.specs.declared.names.Standing.{Standing}
 use Rattle.cast_types.specs.declared.names.Standing.TheVariants.{Outside, Joining, Member}
-use Rattle.cast_types.specs.Names.{Entry, group_eq, entry_eq, uid_eq, named, entry_of, is_atomic}
+use Rattle.cast_types.specs.Names.{Entry, group_eq, entry_eq, uid_eq, uid_in, entry_of, is_atomic}
 use Rattle.cast_types.specs.Sets.{is_among}
 use Rattle.cast_types.specs.Counts.{CountList, is_within}
 use Rattle.cast_types.specs.Stamps.{ClockList}
@@ -62,13 +62,13 @@ is_outside Member = false
 abbrev pub first_of : Entry → List Entry
 first_of e = map (λ k. (e.0, k)) (range_with_len 1 e.1)
 
-abbrev pub covered : CountList → List Entry
-covered c = flat_map first_of c
+abbrev pub covered_entries : CountList → List Entry
+covered_entries c = flat_map first_of c
 
 -- the ids of one group that a message's time covers, but for its own
 abbrev pub past_in : Message → GroupNo → List Uid
 past_in m h =
-    filter (λ u. not (uid_eq m.id u)) (map (named h (view_of m.times h)) (covered (clock_of m.times h).counts))
+    filter (λ u. not (uid_eq m.id u)) (map (uid_in h (view_of m.times h)) (covered_entries (clock_of m.times h).counts))
 
 abbrev pub has_delivered : Process → Uid → Bool
 has_delivered p u = is_among uid_eq u p.delivered

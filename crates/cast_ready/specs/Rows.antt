@@ -8,7 +8,7 @@ use Rattle.cast_types.specs.declared.names.Uid.{Uid}
 use Rattle.cast_types.specs.declared.clock.Clock.{Clock}
 use Rattle.cast_types.specs.declared.names.Standing.{Standing}
 use Rattle.cast_types.specs.declared.names.Standing.TheVariants.{Outside, Joining, Member}
-use Rattle.cast_types.specs.Names.{Entry, group_cmp, proc_eq, uid_eq, named, entry_of}
+use Rattle.cast_types.specs.Names.{Entry, group_cmp, proc_eq, uid_eq, uid_in, entry_of}
 use Rattle.cast_types.specs.Stamps.{ClockList}
 use Rattle.cast_clock.specs.Times.{clock_of, view_of, join, has_room}
 use Rattle.cast_ready.specs.declared.gate.Gate.{Gate}
@@ -37,11 +37,11 @@ abbrev pub done_in : Row → GroupNo → ℕ → Proc → ℕ
 done_in row g view p = count_at row.done (source g view p)
 
 -- how many messages of an entry must be delivered before a message: its own is left out
-abbrev pub needed : Uid → GroupNo → ℕ → Entry → ℕ
-needed id g view e = if uid_eq (named g view e) id then e.1 - 1 else e.1
+abbrev pub needed_count : Uid → GroupNo → ℕ → Entry → ℕ
+needed_count id g view e = if uid_eq (uid_in g view e) id then e.1 - 1 else e.1
 
 abbrev pub has_past : Row → Uid → GroupNo → ℕ → List Entry → Bool
-has_past row id g view counts = list_all (λ e. nat_le (needed id g view e) (done_in row g view e.0)) counts
+has_past row id g view counts = list_all (λ e. nat_le (needed_count id g view e) (done_in row g view e.0)) counts
 
 abbrev pub row_allows : Row → ℕ → Uid → ClockList → GroupNo → Standing → Bool
 row_allows row number id times g Outside = true
@@ -76,7 +76,7 @@ has_delivered_in row u = nat_lt 0 u.count && nat_le u.count (done_in row u.group
 -- how many of these ids of a view of a group the process has delivered before the first that it has not
 abbrev pub passed_by : Row → GroupNo → ℕ → List Entry → ℕ
 passed_by row group view ids =
-    unwrap_or (position (λ e. not (has_delivered_in row (named group view e))) ids) (length ids)
+    unwrap_or (position (λ e. not (has_delivered_in row (uid_in group view e))) ids) (length ids)
 
 -- the process is a member of the message's group and has not delivered it, by what the queue keeps
 abbrev pub awaits_row : Row → Uid → Bool
@@ -121,7 +121,7 @@ awaits_now gates row u = awaits_row row u && (u.view == (gate_in gates u.group).
 abbrev pub is_after : Offered → Uid → Bool
 is_after o u =
     (view_of o.times u.group == u.view)
-    && list_any (λ e. proc_eq e.0 u.proc && nat_le u.count (needed o.id u.group u.view e)) (clock_of o.times u.group).counts
+    && list_any (λ e. proc_eq e.0 u.proc && nat_le u.count (needed_count o.id u.group u.view e)) (clock_of o.times u.group).counts
 
 -- and the row awaits that still
 abbrev pub holds_back : List (GroupNo × Gate) → Row → Offered → Uid → Bool

@@ -1,11 +1,11 @@
 ghost use Rattle.std.specs.Prelude.{◌≡◌, ℕ, List, true, OnOk, IfOk, IfSome, ◌-◌, ◌==◌, length, nat_le, not, unwrap_or};
 ghost use Rattle.std.specs.List.{list_all, position};
 ghost use Rattle.std.specs.Option.{option_copied};
-ghost use Rattle.cast_types.specs.Names.{named};
+ghost use Rattle.cast_types.specs.Names.{uid_in};
 ghost use Rattle.cast_types.specs.Stamps.{ClockList};
 ghost use Rattle.cast_clock.specs.Times.{first_clock};
 ghost use Rattle.cast_ready.specs.Ready.{is_member};
-ghost use Rattle.cast_ready.specs.Rows.{needed, IsClockIn};
+ghost use Rattle.cast_ready.specs.Rows.{needed_count, IsClockIn};
 
 use crate::delivered_counts::DeliveredCounts;
 use crate::gate::{Gate, is_open_in, number_in};
@@ -70,7 +70,7 @@ fn counts_in(clock: Option<&Clock>) -> &[(Proc, u32)]
 }
 
 impl Row {
-    ghost use Rattle.cast_ready.specs.Rows.{standing_in, done_in, needed, has_past, row_allows, all_allow, is_causally_ready_row, is_ready_row, has_delivered_in, passed_by, awaits_row, delivered_row, ended_row, told_row, new_row, lesser_by, awaits_now, holds_back};
+    ghost use Rattle.cast_ready.specs.Rows.{standing_in, done_in, needed_count, has_past, row_allows, all_allow, is_causally_ready_row, is_ready_row, has_delivered_in, passed_by, awaits_row, delivered_row, ended_row, told_row, new_row, lesser_by, awaits_now, holds_back};
 
     /// A process that is in no group.
     pub fn new(alloc: Global, process: Proc) -> Self
@@ -248,7 +248,7 @@ impl Row {
 
     // The place of the first of these ids of a view of a group that the process has not delivered.
     fn first_missing(&self, group: GroupNo, view: u32, ids: &[(Proc, u32)]) -> Option<usize>
-        ensures { result ≡ position (λ e. not (has_delivered_in self.now (named group view e))) ids.now }
+        ensures { result ≡ position (λ e. not (has_delivered_in self.now (uid_in group view e))) ids.now }
     {
         ids.iter().position(|(proc, count)| !self.has_delivered(Uid {
             group,
@@ -371,7 +371,7 @@ impl Row {
 
 // How many messages of an entry must be delivered before a message.
 fn needed_count(id: Uid, group: GroupNo, view: u32, entry: (Proc, u32)) -> u32
-    ensures { result ≡ needed id group view entry }
+    ensures { result ≡ needed_count id group view entry }
 {
     let (proc, count) = entry;
     let covered = Uid {
@@ -389,7 +389,7 @@ fn needed_count(id: Uid, group: GroupNo, view: u32, entry: (Proc, u32)) -> u32
 
 // Whether so many messages of an entry suffice before a message. Mostly they are as many as the entry counts.
 fn is_enough(done: u32, id: Uid, group: GroupNo, view: u32, entry: (Proc, u32)) -> bool
-    ensures { result ≡ nat_le (needed id group view entry) done }
+    ensures { result ≡ nat_le (needed_count id group view entry) done }
 {
     done >= entry.1 || done >= needed_count(id, group, view, entry)
 }

@@ -50,9 +50,9 @@ EndsAs view bytes (Ok text) = Ends bytes (Ok (view text))
 EndsAs view bytes (Err fault) = Ends bytes (Err fault)
 
 -- a script's fault is the file's
-abbrev pub faulted : ScriptFault → RunFault
-faulted (script.At line reason) = BadLine line reason
-faulted script.NoMemory = NoMemory
+abbrev pub run_fault : ScriptFault → RunFault
+run_fault (script.At line reason) = BadLine line reason
+run_fault script.NoMemory = NoMemory
 
 -- the status of the program
 abbrev pub status_of : End → ℕ

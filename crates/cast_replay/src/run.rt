@@ -5,7 +5,7 @@ ghost use Rattle.std.specs.String.{string_bytes};
 ghost use Rattle.cast_device.specs.Watching.{HasFailedOrStalled};
 ghost use Rattle.cast_device.specs.Writing.{IsTold};
 ghost use Rattle.cast_script.specs.declared.script.ScriptFault.{ScriptFault};
-ghost use Rattle.cast_replay.specs.Ends.{Ends, EndsAs, EndsOn, IsEnd, fault_text, faulted, status_of, unread_as, End, Reading};
+ghost use Rattle.cast_replay.specs.Ends.{Ends, EndsAs, EndsOn, IsEnd, fault_text, run_fault, status_of, unread_as, End, Reading};
 ghost use Rattle.cast_replay.specs.declared.run.RunFault.TheVariants.{NoMemory, Unreadable};
 
 use cast_device::{Watched, tell};
@@ -42,7 +42,7 @@ impl From<AllocError> for RunFault {
 }
 
 impl From<ScriptFault> for RunFault {
-    ghost from_gives = { λ fault end. end ≡ faulted fault };
+    ghost from_gives = { λ fault end. end ≡ run_fault fault };
 
     fn from(fault: ScriptFault) -> RunFault {
         match fault {

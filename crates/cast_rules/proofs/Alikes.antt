@@ -29,9 +29,9 @@ use Rattle.cast_types.specs.Names.{group_eq}
 use Rattle.cast_types.proofs.Orders.{same_group}
 use Rattle.cast_message.specs.declared.site.Change.{Change}
 use Rattle.cast_message.specs.declared.site.Change.TheVariants as change
-use Rattle.cast_events.specs.Session.{Session, is_open, pushed_to, closed}
-use Rattle.cast_rules.specs.State.{State, local, serials, with_push, set_process, set_group, emitted, others_of, noting_ack, noting_stable, is_filled, pushing, closing, outside, local_members, receiving, noting_sent, releasing, is_ended, releasing_ended}
-use Rattle.cast_rules.specs.Entering.{parted, is_put_out, all_parted, putting_out, enters, in_view, all_in_view, passing}
+use Rattle.cast_events.specs.Session.{Session, is_open, pushed_to, tell_end}
+use Rattle.cast_rules.specs.State.{State, local, serials, with_push, set_process, set_group, emit, others_of, noting_ack, noting_stable, is_filled, pushing, closing, outside, local_members, receiving, noting_sent, releasing, is_ended, releasing_ended}
+use Rattle.cast_rules.specs.Entering.{put_outside, is_put_out, all_parted, putting_out, enters, in_view, all_in_view, passing}
 use Rattle.cast_rules.specs.Rest.{let_go}
 use Rattle.cast_rules.specs.Owing.{noting_owed, noting_resent, paying, paying_upto, paying_view, at_moment}
 use Rattle.cast_rules.specs.Rules.Sending.{send_data}
@@ -91,7 +91,7 @@ alike_fold f h (x ∷ xs) s = alike_then s (f s x) (fold f (f s x) xs) (h s x) (
 alike_push : (s : State) (k : ℕ) (v : Session) (p : Push) → Alike s (with_push s k v p)
 alike_push s k v p = record { here = refl; config = refl; used = refl; group = refl; home = refl; got = refl; abcasts = refl; delivered = λ j. refl }
 
-pub alike_emitted : (s : State) (to : SiteNo) (f : SiteFrame) → Alike s (emitted s to f)
+pub alike_emitted : (s : State) (to : SiteNo) (f : SiteFrame) → Alike s (emit s to f)
 alike_emitted s to f = record { here = refl; config = refl; used = refl; group = refl; home = refl; got = refl; abcasts = refl; delivered = λ j. refl }
 
 alike_pushing : (s : State) (k : ℕ) (p : Push) → Alike s (pushing s k p)
@@ -99,7 +99,7 @@ alike_pushing s k p = alike_if s (with_push s k (pushed_to (s.session k) p) p) s
 
 alike_closing : (s : State) (k : ℕ) (refusal : Refusal) → Alike s (closing s k refusal)
 alike_closing s k refusal =
-    alike_if s (with_push s k (closed refusal (s.session k)) (push.Closed refusal)) s (is_open (s.session k)) (alike_push s k (closed refusal (s.session k)) (push.Closed refusal)) (alike_self s)
+    alike_if s (with_push s k (tell_end refusal (s.session k)) (push.Closed refusal)) s (is_open (s.session k)) (alike_push s k (tell_end refusal (s.session k)) (push.Closed refusal)) (alike_self s)
 
 pub alike_let_go : (s : State) → Alike s (let_go s)
 alike_let_go s = record { here = refl; config = refl; used = refl; group = refl; home = refl; got = refl; abcasts = refl; delivered = λ j. refl }
@@ -125,7 +125,7 @@ alike_known s acks told moment = record { here = refl; config = refl; used = ref
 
 moves_alike : (s : State) → IsInvariant history (Alike s)
 moves_alike s = record {
-  send = λ t a to f. alike_then s t (emitted t to f) a (alike_emitted t to f);
+  send = λ t a to f. alike_then s t (emit t to f) a (alike_emitted t to f);
   note_owed = λ t a key. alike_then s t (noting_owed t key) a (alike_owed t (noting_owed t key).owed);
   note_resent = λ t a key. alike_then s t (noting_resent t key) a (alike_owed t (noting_resent t key).owed);
   pay = λ t a key. alike_then s t (paying t key) a (alike_owed t (paying t key).owed);
@@ -235,7 +235,7 @@ alike_kept s passes = record { here = refl; config = refl; used = refl; group = 
 alike_parted : (s : State) (g : GroupNo) (goes : ℕ → Bool) → Alike s (all_parted s g goes)
 alike_parted s g goes = record { here = refl; config = refl; used = refl; group = refl; home = refl; got = refl; abcasts = refl; delivered = λ j. same j (goes j) }
   where
-    same : (j : ℕ) (b : Bool) → (if b then parted g (s.process j) else s.process j).delivered ≡ (s.process j).delivered
+    same : (j : ℕ) (b : Bool) → (if b then put_outside g (s.process j) else s.process j).delivered ≡ (s.process j).delivered
     same j true = refl
     same j false = refl
 

@@ -13,18 +13,18 @@ use Rattle.cast_types.specs.declared.names.GroupNo.{GroupNo}
 use Rattle.cast_types.specs.declared.names.Proc.{Proc}
 use Rattle.cast_types.specs.declared.names.Uid.{Uid}
 use Rattle.cast_types.specs.declared.clock.Clock.{Clock}
-use Rattle.cast_types.specs.Names.{Entry, group_eq, group_cmp, proc_eq, proc_cmp, uid_eq, named}
+use Rattle.cast_types.specs.Names.{Entry, group_eq, group_cmp, proc_eq, proc_cmp, uid_eq, uid_in}
 use Rattle.cast_types.specs.Sets.{is_among, at_order}
 use Rattle.cast_types.specs.Counts.{CountList, count_of}
 use Rattle.cast_types.specs.Stamps.{ClockList, is_stamp}
 use Rattle.cast_types.proofs.Orders.{group_total, group_exact, proc_total, proc_exact, same_group, same_proc, same_uid}
-use Rattle.cast_clock.specs.Times.{first_clock, clock_of, view_of, count_in, join_counts, join_clocks, join, has_room, is_time, bumped, entering}
+use Rattle.cast_clock.specs.Times.{first_clock, clock_of, view_of, count_in, join_counts, join_clocks, join, has_room, is_time, with_bump, entering}
 use Rattle.cast_clock.proofs.Entries.{as_T, both_parts, less_is}
 use Rattle.cast_clock.proofs.Raised.{join_is_time, bump_is_time, enter_is_time}
 use Rattle.cast_clock.proofs.Valid.{le_as, lt_as, lt_from, valid_counts, sorted_time, is_counts-clock_of, has_room-bumped}
 use Rattle.cast_message.specs.declared.message.Message.{Message}
 use Rattle.cast_types.specs.Rising.{is_rising}
-use Rattle.cast_ready.specs.Ready.{Process, first_of, covered, past_in, has_delivered}
+use Rattle.cast_ready.specs.Ready.{Process, first_of, covered_entries, past_in, has_delivered}
 use Rattle.cast_delay.proofs.ListLemmas.{list_all-filter, list_all-map, list_all-flat_map, range_holds}
 use Rattle.cast_rules.specs.Raising.{IsTimeOf}
 
@@ -140,7 +140,7 @@ time_entered groups t g n a listed seen = record {
   named = all_put group_exact (is_clock_of groups) g (first_clock n) t a.named (clock_from groups g (first_clock n) listed seen);
 }
 
-pub time_raised : (groups : List GroupNo) (t : ClockList) (g : GroupNo) (p : Proc) → IsTimeOf groups t → is_among group_eq g groups ≡ true → 0 < view_of t g → has_room (bumped t g p) ≡ true → IsTimeOf groups (bumped t g p)
+pub time_raised : (groups : List GroupNo) (t : ClockList) (g : GroupNo) (p : Proc) → IsTimeOf groups t → is_among group_eq g groups ≡ true → 0 < view_of t g → has_room (with_bump t g p) ≡ true → IsTimeOf groups (with_bump t g p)
 time_raised groups t g p a listed seen room = record {
   valid = bump_is_time t g p a.valid room;
   named = all_put group_exact (is_clock_of groups) g (record { view = view_of t g; counts = put proc_cmp p (count_in t g p + 1) (clock_of t g).counts }) t a.named
@@ -185,7 +185,7 @@ counted_joined f a b older here there =
     ] (ranked a.view b.view (nat_cmp a.view b.view) refl)
 
 -- where only members of a view are counted, one count more has room
-pub raised_room : (members : List Proc) (t : ClockList) (g : GroupNo) (p : Proc) → is_rising proc_cmp members ≡ true → length members ≤ 64 → is_time t ≡ true → is_among proc_eq p members ≡ true → all_counted (λ q. is_among proc_eq q members) (clock_of t g).counts ≡ true → has_room (bumped t g p) ≡ true
+pub raised_room : (members : List Proc) (t : ClockList) (g : GroupNo) (p : Proc) → is_rising proc_cmp members ≡ true → length members ≤ 64 → is_time t ≡ true → is_among proc_eq p members ≡ true → all_counted (λ q. is_among proc_eq q members) (clock_of t g).counts ≡ true → has_room (with_bump t g p) ≡ true
 raised_room members t g p rising few valid itself counted =
     let c : CountList = (clock_of t g).counts in
     let n : ℕ = count_in t g p + 1 in
@@ -198,18 +198,18 @@ pub each_sender : (p : Process) (m : Message) (g : GroupNo) (f : Proc → Bool) 
 each_sender p m g f valid past sends =
     let v : ℕ = view_of m.times g in
     let c : CountList = (clock_of m.times g).counts in
-    let t : Entry → Bool = λ e. uid_eq m.id (named g v e) || has_delivered p (named g v e) in
+    let t : Entry → Bool = λ e. uid_eq m.id (uid_in g v e) || has_delivered p (uid_in g v e) in
     let each : list_all (λ e. list_all t (first_of e)) c ≡ true =
     sym (list_all-flat_map t first_of c)
-    ∙ sym (list_all-map (λ u. uid_eq m.id u || has_delivered p u) (named g v) (covered c))
-    ∙ sym (list_all-filter (has_delivered p) (uid_eq m.id) (map (named g v) (covered c)))
+    ∙ sym (list_all-map (λ u. uid_eq m.id u || has_delivered p u) (uid_in g v) (covered_entries c))
+    ∙ sym (list_all-filter (has_delivered p) (uid_eq m.id) (map (uid_in g v) (covered_entries c)))
     ∙ past in
     all_both (λ e. list_all t (first_of e)) (λ e. nat_lt 0 e.1) (λ e. f e.0)
     (λ e all positive.
     let some = lt_from 0 e.1 positive in
     let first : t (e.0, 1) ≡ true = range_holds (λ k. t (e.0, k)) e.1 1 (sym (list_all-map t (λ k. (e.0, k)) (range_with_len 1 e.1)) ∙ all) 1 (omega arith) (omega (arith, some)) in
-    elim (or_cases (uid_eq m.id (named g v (e.0, 1))) (has_delivered p (named g v (e.0, 1))) first) [
-      | inl own ↦ sends (named g v (e.0, 1)) refl refl (inl (sym (same_uid m.id (named g v (e.0, 1)) own)))
-      | inr done ↦ sends (named g v (e.0, 1)) refl refl (inr done)
+    elim (or_cases (uid_eq m.id (uid_in g v (e.0, 1))) (has_delivered p (uid_in g v (e.0, 1))) first) [
+      | inl own ↦ sends (uid_in g v (e.0, 1)) refl refl (inl (sym (same_uid m.id (uid_in g v (e.0, 1)) own)))
+      | inr done ↦ sends (uid_in g v (e.0, 1)) refl refl (inr done)
     ])
     c each (valid_counts c (is_counts-clock_of m.times g valid)).positive

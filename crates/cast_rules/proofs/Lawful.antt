@@ -19,7 +19,7 @@ use Rattle.cast_types.specs.Names.{Entry, site_eq, group_eq, group_cmp, proc_eq,
 use Rattle.cast_types.specs.Sets.{set_at, at_order, is_among}
 use Rattle.cast_types.specs.Stamps.{ClockList}
 use Rattle.cast_types.proofs.Orders.{same_site, site_itself, same_group, group_itself, same_uid, uid_itself}
-use Rattle.cast_clock.specs.Times.{clock_of, view_of, join_clocks, join_counts, join, has_room, bumped, entering}
+use Rattle.cast_clock.specs.Times.{clock_of, view_of, join_clocks, join_counts, join, has_room, with_bump, entering}
 use Rattle.cast_clock.proofs.Joins.{clock_of-join}
 use Rattle.cast_clock.proofs.Raised.{bump_leaves_views, enter_begins, enter_leaves}
 use Rattle.cast_message.specs.declared.message.Body.{Body}
@@ -39,7 +39,7 @@ use Rattle.cast_ready.specs.declared.gate.Gate.{Gate}
 use Rattle.cast_ready.specs.Ready.{Process, is_open_to, is_member, is_outside, has_delivered, past_in, group_allows, is_causally_ready}
 use Rattle.cast_delay.proofs.Delivers.{only_member}
 use Rattle.cast_delay.proofs.RowMeaning.{among_holds}
-use Rattle.cast_events.specs.Session.{Session, no_session, is_open, pushed_to, closed, taken_from}
+use Rattle.cast_events.specs.Session.{Session, no_session, is_open, pushed_to, tell_end, taken_from}
 use Rattle.cast_quota.specs.declared.quotas.Quotas.{Quotas}
 use Rattle.cast_quota.specs.declared.quotas.QuotaName.{QuotaName}
 use Rattle.cast_quota.specs.Quotas.{with_quota}
@@ -48,7 +48,7 @@ use Rattle.cast_view.specs.MemberSide.{MemberSide, no_group, has_view, members_o
 use Rattle.cast_view.specs.Sites.{is_at}
 use Rattle.cast_view.specs.Home.{Home, is_empty}
 use Rattle.cast_events.specs.declared.config.DomainConfig.{DomainConfig}
-use Rattle.cast_rules.specs.State.{State, opening, local, is_group, may_speak, set_session, with_push, set_process, set_group, set_home, set_standing, emitted, others_of, noting_ack, noting_stable, gate_of, local_members, is_stable, was_given, pushing, receiving, releasing, is_ended, releasing_ended, with_delivery, noting_act, noting_sent, outside, acts_outside, closing, going, taking, setting_quota, counting_cast}
+use Rattle.cast_rules.specs.State.{State, opening, local, is_group, may_speak, set_session, with_push, set_process, set_group, set_home, set_standing, emit, others_of, noting_ack, noting_stable, gate_of, local_members, is_stable, was_given, pushing, receiving, releasing, is_ended, releasing_ended, with_delivery, noting_act, noting_sent, outside, acts_outside, closing, going, taking, setting_quota, counting_cast}
 use Rattle.cast_types.specs.declared.refusal.Refusal.{Refusal}
 use Rattle.cast_rules.specs.Acts.{Act}
 use Rattle.cast_rules.specs.Acts.Act.{Sent, Delivered, Entered, Left}
@@ -65,7 +65,7 @@ use Rattle.cast_rules.proofs.Rules.Follows.{IsInvariant}
 use Rattle.cast_rules.proofs.Rules.Owing.{owe_keeps}
 use Rattle.cast_rules.proofs.Rules.Sending.{send_data_keeps}
 use Rattle.cast_rules.specs.Effects.{next_message, sending_message, sending}
-use Rattle.cast_rules.specs.Entering.{freezing, pending_install, parted, is_put_out, all_parted, putting_out, enters, in_view, all_in_view, passing}
+use Rattle.cast_rules.specs.Entering.{freezing, pending_install, put_outside, is_put_out, all_parted, putting_out, enters, in_view, all_in_view, passing}
 use Rattle.cast_rules.specs.Run.{before_event}
 use Rattle.cast_rules.specs.Lawful.{IsSpent, AreKept, IsOfReached, IsTraced, Waits, IsLawful}
 
@@ -325,7 +325,7 @@ same_session s k v opens = record {
 pub same_home : (s : State) (g : GroupNo) (v : Home) → SameLaw s (set_home s g v)
 same_home s g v = record { here = refl; config = refl; used = refl; process = λ k. refl; got = refl; kept = refl; abcasts = λ k. refl; acts = λ k a at. inl at; number = λ g. refl; view = λ g. refl; waiting = λ g w. w; opens = λ k is. is }
 
-pub same_emitted : (s : State) (to : SiteNo) (f : SiteFrame) → SameLaw s (emitted s to f)
+pub same_emitted : (s : State) (to : SiteNo) (f : SiteFrame) → SameLaw s (emit s to f)
 same_emitted s to f = record { here = refl; config = refl; used = refl; process = λ k. refl; got = refl; kept = refl; abcasts = λ k. refl; acts = λ k a at. inl at; number = λ g. refl; view = λ g. refl; waiting = λ g w. w; opens = λ k is. is }
 
 -- a session is pushed an entry, and is no more open than it was
@@ -340,8 +340,8 @@ same_pushing s k p = same_if s (with_push s k (pushed_to (s.session k) p) p) s (
 -- a session that ends opens none
 pub same_closing : (s : State) (k : ℕ) (refusal : Refusal) → SameLaw s (closing s k refusal)
 same_closing s k refusal =
-    same_if s (with_push s k (closed refusal (s.session k)) (push.Closed refusal)) s (is_open (s.session k))
-    (same_push s k (closed refusal (s.session k)) (push.Closed refusal) (λ is. absurd (false≢true is))) (same_self s)
+    same_if s (with_push s k (tell_end refusal (s.session k)) (push.Closed refusal)) s (is_open (s.session k))
+    (same_push s k (tell_end refusal (s.session k)) (push.Closed refusal) (λ is. absurd (false≢true is))) (same_self s)
 
 pub same_going : (s : State) (k : ℕ) → SameLaw s (going s k)
 same_going s k = same_session s k no_session (λ is. absurd (false≢true is))
@@ -425,7 +425,7 @@ same_moment s moment = record { here = refl; config = refl; used = refl; process
 -- the moves of the rules change nothing that a lawful history is about
 pub moves_same : (s : State) → IsInvariant history (SameLaw s)
 moves_same s = record {
-  send = λ t a to f. same_then s t (emitted t to f) a (same_emitted t to f);
+  send = λ t a to f. same_then s t (emit t to f) a (same_emitted t to f);
   note_owed = λ t a key. same_then s t (noting_owed t key) a (same_owed t (noting_owed t key).owed);
   note_resent = λ t a key. same_then s t (noting_resent t key) a (same_owed t (noting_resent t key).owed);
   pay = λ t a key. same_then s t (paying t key) a (same_owed t (paying t key).owed);
@@ -439,7 +439,7 @@ moves_same s = record {
 -- so what holds of a history by what a lawful one is about alone holds after each of them
 pub invariant_by_same : (holds : State → Type 0) → ((s t : State) → SameLaw s t → holds s → holds t) → IsInvariant history holds
 invariant_by_same holds by_same = record {
-  send = λ s h to f. by_same s (emitted s to f) ((moves_same s).send s (same_self s) to f) h;
+  send = λ s h to f. by_same s (emit s to f) ((moves_same s).send s (same_self s) to f) h;
   note_owed = λ s h key. by_same s (noting_owed s key) ((moves_same s).note_owed s (same_self s) key) h;
   note_resent = λ s h key. by_same s (noting_resent s key) ((moves_same s).note_resent s (same_self s) key) h;
   pay = λ s h key. by_same s (paying s key) ((moves_same s).pay s (same_self s) key) h;
@@ -619,7 +619,7 @@ lawful_sending_message s k m l views sorted reached speaks =
 pub local_speaks : (s : State) (g : GroupNo) (k : ℕ) → may_speak s g (local s k) ≡ true
 local_speaks s g k = or_right (is_among proc_eq (local s k) (members_of (s.group g))) (site_eq s.here s.here) (site_itself s.here)
 
-pub lawful_sending : (s : State) (g : GroupNo) (k : ℕ) (content : Body) → IsLawful s → is_sorted group_cmp (bumped (s.process k).time g (local s k)) ≡ true → IsLawful (sending s g k content)
+pub lawful_sending : (s : State) (g : GroupNo) (k : ℕ) (content : Body) → IsLawful s → is_sorted group_cmp (with_bump (s.process k).time g (local s k)) ≡ true → IsLawful (sending s g k content)
 lawful_sending s g k content l sorted = lawful_sending_message s k (next_message s g k content) l (λ h. bump_leaves_views (s.process k).time g h (local s k)) sorted (omega arith) (local_speaks s g k)
 
 -- the join with a time whose view is not later has the view
@@ -841,16 +841,16 @@ lawful_all_parted s g goes l =
     l.waiting
   where
     same : (k : ℕ) (u : Uid) → has_delivered (s.process k) u ≡ true → has_delivered ((all_parted s g goes).process k) u ≡ true
-    same k u is = elim (goes k) as (λ b. has_delivered (if b then parted g (s.process k) else s.process k) u ≡ true) [ true ↦ is | false ↦ is ]
+    same k u is = elim (goes k) as (λ b. has_delivered (if b then put_outside g (s.process k) else s.process k) u ≡ true) [ true ↦ is | false ↦ is ]
 
     members : (k : ℕ) (h : GroupNo) → is_member (((all_parted s g goes).process k).standing h) ≡ true → is_member ((s.process k).standing h) ≡ true
-    members k h = elim (goes k) as (λ b. is_member ((if b then parted g (s.process k) else s.process k).standing h) ≡ true → is_member ((s.process k).standing h) ≡ true) [
+    members k h = elim (goes k) as (λ b. is_member ((if b then put_outside g (s.process k) else s.process k).standing h) ≡ true → is_member ((s.process k).standing h) ≡ true) [
       | true ↦ elim (group_eq g h) as (λ b. is_member (if b then Outside else (s.process k).standing h) ≡ true → is_member ((s.process k).standing h) ≡ true) [ true ↦ λ is. absurd (false≢true is) | false ↦ λ is. is ]
       | false ↦ λ is. is
     ]
 
     placed : (k : ℕ) (h : GroupNo) → PlacedIn (all_parted s g goes) ((all_parted s g goes).process k) h
-    placed k h = elim (goes k) as (λ b. PlacedIn s (if b then parted g (s.process k) else s.process k) h) [
+    placed k h = elim (goes k) as (λ b. PlacedIn s (if b then put_outside g (s.process k) else s.process k) h) [
       | true ↦ elim (group_eq g h) as (λ b. Placed (is_group s h) (if b then Outside else (s.process k).standing h) (view_of (s.process k).time h) (s.group h)) [
         | true ↦ record { known = λ inside. absurd (false≢true (sym inside)); current = λ is. absurd (false≢true is); viewed = λ is. absurd (false≢true is) }
         | false ↦ placed_of s l k h
@@ -867,7 +867,7 @@ stays_then s g skips members k = left (is_put_out s g skips members k) refl
     named false true is = refl
     named false false is = absurd (false≢true (sym is))
 
-    left : (b : Bool) → is_put_out s g skips members k ≡ b → is_member ((if b then parted g (s.process k) else s.process k).standing g) ≡ true → is_among proc_eq (local s k) members.list ≡ true
+    left : (b : Bool) → is_put_out s g skips members k ≡ b → is_member ((if b then put_outside g (s.process k) else s.process k).standing g) ≡ true → is_among proc_eq (local s k) members.list ≡ true
     left true is member = absurd (false≢true (sym (ap (λ b. is_member (if b then Outside else (s.process k).standing g)) (group_itself g)) ∙ member))
     left false is member = named skips (is_among proc_eq (local s k) members.list)
         (sym (ap (λ b. b && (skips || not (is_among proc_eq (local s k) members.list))) member) ∙ is)

@@ -13,7 +13,7 @@ use Rattle.cast_types.specs.declared.limits.TheConstants.{MAX_NUMBER}
 use Rattle.cast_types.specs.Names.{Entry, group_eq, group_cmp, site_eq, proc_eq}
 use Rattle.cast_types.specs.Repeat.{iterate}
 use Rattle.cast_types.specs.Stamps.{ClockList, is_stamp}
-use Rattle.cast_clock.specs.Times.{count_in, bumped, has_room}
+use Rattle.cast_clock.specs.Times.{count_in, with_bump, has_room}
 use Rattle.cast_types.specs.Sets.{is_among}
 use Rattle.cast_types.proofs.Orders.{group_itself}
 use Rattle.cast_message.specs.declared.message.Body.{Body}
@@ -25,7 +25,7 @@ use Rattle.cast_delay.proofs.Finds.{found_in}
 use Rattle.cast_events.specs.declared.config.DomainConfig.{DomainConfig}
 use Rattle.cast_view.specs.declared.member.Pending.{Pending}
 use Rattle.cast_view.specs.MemberSide.{members_of, with_request, with_answer}
-use Rattle.cast_view.specs.Home.{HomeMove, is_empty, moved}
+use Rattle.cast_view.specs.Home.{HomeMove, is_empty, apply_move}
 use Rattle.cast_events.specs.Session.{is_gone}
 use Rattle.cast_events.specs.declared.event.Event.{Event}
 use Rattle.cast_events.specs.declared.event.Event.TheVariants as event
@@ -33,7 +33,7 @@ use Rattle.cast_clock.proofs.Raised.{bump_leaves_views}
 use Rattle.cast_rules.specs.Rules.Commands.{message_sent}
 use Rattle.cast_rules.specs.State.{State, receiving, noting_sent, local, serials, is_group, may_speak, set_home, was_given, going, taking, setting_quota, with_delivery}
 use Rattle.cast_rules.specs.Rules.Room.{may_order}
-use Rattle.cast_rules.specs.Order.{order_told, unlisted, has_place, holders}
+use Rattle.cast_rules.specs.Order.{order_told, unlisted_ids, has_place, holders}
 use Rattle.cast_rules.specs.Turns.{is_ready_for}
 use Rattle.cast_rules.specs.Rules.Owing.{tick}
 use Rattle.cast_rules.proofs.Rules.Owing.{tick_keeps}
@@ -42,7 +42,7 @@ use Rattle.cast_rules.specs.Rules.Sending.{may_raise}
 use Rattle.cast_quota.specs.Quotas.{is_in_range}
 use Rattle.cast_rules.specs.Rules.Events.{is_taken, may_open}
 use Rattle.cast_rules.specs.Rules.Rest.{told_of}
-use Rattle.cast_rules.specs.Step.{opening_next, sessions_given, acted}
+use Rattle.cast_rules.specs.Step.{opening_next, sessions_given, act_of_event}
 use Rattle.cast_rules.specs.Rules.Home.{start, want_bodies, decide, lead}
 use Rattle.cast_rules.specs.Rules.Flushes.{own_want_key, complete, want_own, complete_or_want, go_on, go_on_all}
 use Rattle.cast_rules.specs.Rest.{deliver_first, deliver_all, settle, set_order_by, set_order, set_orders, pass, RestsAt, let_go}
@@ -69,10 +69,10 @@ stamp_sorted : (t : ClockList) → is_stamp t ≡ true → is_sorted group_cmp t
 stamp_sorted t stamp = (and_parts (is_sorted group_cmp t) _ stamp).0
 
 -- and so is a time that may be raised, once it is
-raised_sorted : (t : ClockList) (g : GroupNo) (p : Proc) → may_raise t g p ≡ true → is_sorted group_cmp (bumped t g p) ≡ true
+raised_sorted : (t : ClockList) (g : GroupNo) (p : Proc) → may_raise t g p ≡ true → is_sorted group_cmp (with_bump t g p) ≡ true
 raised_sorted t g p may =
-    let room = and_parts (nat_lt (count_in t g p) MAX_NUMBER) (has_room (bumped t g p) && is_stamp (bumped t g p)) may in
-    stamp_sorted (bumped t g p) (and_parts (has_room (bumped t g p)) (is_stamp (bumped t g p)) room.1).1
+    let room = and_parts (nat_lt (count_in t g p) MAX_NUMBER) (has_room (with_bump t g p) && is_stamp (with_bump t g p)) may in
+    stamp_sorted (with_bump t g p) (and_parts (has_room (with_bump t g p)) (is_stamp (with_bump t g p)) room.1).1
 
 -- The moves of the rules
 
@@ -139,7 +139,7 @@ all_lawful = record {
   pend = λ s l g p tail pended. lawful_same s _ (same_pending s g p tail pended.typed) l;
   note_request = λ s l g what p. lawful_same s _ (same_group_set s g (with_request (s.group g) what p) refl refl refl refl) l;
   note_answer = λ s l g. lawful_same s _ (same_group_set s g (with_answer (s.group g)) refl refl refl refl) l;
-  move_home = λ s l g move. lawful_same s _ (same_home s g (moved move (s.home g))) l;
+  move_home = λ s l g move. lawful_same s _ (same_home s g (apply_move move (s.home g))) l;
   enter_view = λ s l h g skips n members request cut is. let e = entered s h g n members is in lawful_passing s h skips n members request cut l e.listed e.later;
   release_ended = λ s l g. lawful_releasing_ended s g l;
   close = λ s l k given refusal. lawful_same s _ (same_closing s k refusal) l;
@@ -183,7 +183,7 @@ lawful_opened s l unborn = record {
 pub same_tick : (s : State) (t : ℕ) → SameLaw s (tick history s t)
 same_tick s t = tick_keeps history (SameLaw s) (moves_same s) s (same_self s) t
 
-pub lawful_acted : (s : State) (e : Event) → IsLawful s → IsUnborn s → IsTyped e → IsLawful (acted s e)
+pub lawful_acted : (s : State) (e : Event) → IsLawful s → IsUnborn s → IsTyped e → IsLawful (act_of_event s e)
 lawful_acted s (event.Open d) l unborn typed =
     elim (may_open history sessions_given s) as (λ b. IsLawful (if b then opening_next s else s)) [
       | true ↦ lawful_opened s l unborn
@@ -226,7 +226,7 @@ pub lawful_order_sent : (s : State) (g : GroupNo) (k : ℕ) (content : Body) →
 lawful_order_sent s g k content l may =
     let raises = may_raise (s.process k).time g (local s k) in
     let place = has_place (order_told s g) in
-    let some = not (is_empty (unlisted s g k)) in
+    let some = not (is_empty (unlisted_ids s g k)) in
     let a = and_parts (is_member ((s.process k).standing g)) (not (s.group g).frozen && (may_order history s && (some && (place && raises)))) may in
     let o = and_parts (not (s.group g).frozen) (may_order history s && (some && (place && raises))) a.1 in
     let b = and_parts (may_order history s) (some && (place && raises)) o.1 in
@@ -297,8 +297,8 @@ lawful_go_on_all s l = go_on_each IsLawful lawful_go_on s l
 -- The home
 
 -- its rules change nothing that a lawful history is about
-moves_home_same : (s t : State) → SameLaw s t → (g : GroupNo) (move : HomeMove) → SameLaw s (set_home t g (moved move (t.home g)))
-moves_home_same s t a g move = same_then s t _ a (same_home t g (moved move (t.home g)))
+moves_home_same : (s t : State) → SameLaw s t → (g : GroupNo) (move : HomeMove) → SameLaw s (set_home t g (apply_move move (t.home g)))
+moves_home_same s t a g move = same_then s t _ a (same_home t g (apply_move move (t.home g)))
 
 pub same_start : (s : State) (g : GroupNo) → SameLaw s (start history s g)
 same_start s g = start_keeps history (SameLaw s) (moves_same s) (moves_home_same s) s (same_self s) g

@@ -19,7 +19,7 @@ use Rattle.cast_order.specs.Order.{Facts, facts_of, known_order, still_to_list, 
 use Rattle.cast_rules.proofs.Growing.{known_stays, first_enters}
 use Rattle.cast_view.specs.Home.{is_empty}
 use Rattle.cast_rules.specs.State.{State, serials, receiving, with_delivery}
-use Rattle.cast_rules.specs.Order.{told_by, is_of_view, facts_in, order_told, abcasts_delivered, unlisted, has_place}
+use Rattle.cast_rules.specs.Order.{told_by, is_of_view, facts_in, order_told, abcasts_delivered, unlisted_ids, has_place}
 use Rattle.cast_rules.specs.Resting.{places_of}
 use Rattle.cast_rules.specs.Turns.{is_ready_for}
 use Rattle.cast_rules.specs.Effects.{next_message}
@@ -190,7 +190,7 @@ to_come_same s m g k other =
 unlisted_before : (s : State) (m : Message) (g : GroupNo) (e : Entry) → not (is_among entry_eq e (order_told (receiving s m) g)) ≡ true → not (is_among entry_eq e (order_told s g)) ≡ true
 unlisted_before s m g e = not_mono _ _ (among_more s g m e)
 
-fewer_unlisted : (s : State) (m : Message) (g : GroupNo) (k : ℕ) → length (unlisted (receiving s m) g k) ≤ length (unlisted s g k)
+fewer_unlisted : (s : State) (m : Message) (g : GroupNo) (k : ℕ) → length (unlisted_ids (receiving s m) g k) ≤ length (unlisted_ids s g k)
 fewer_unlisted s m g k =
     fewer_kept (λ e. not (is_among entry_eq e (order_told (receiving s m) g))) (λ e. not (is_among entry_eq e (order_told s g)))
     (abcasts_delivered s g k) (unlisted_before s m g)
@@ -205,14 +205,14 @@ order_message_told s g k =
     (and_from (group_eq g g) _ (group_itself g) (eq-eqb (s.group g).number (s.group g).number refl))
 
 -- it lists the first of those that are not in the order
-less_unlisted : (s : State) (g : GroupNo) (k : ℕ) → has_place (order_told s g) ≡ true → not (is_empty (unlisted s g k)) ≡ true → length (unlisted (receiving s (order_message s g k)) g k) < length (unlisted s g k)
-less_unlisted s g k place some = by_first (unlisted s g k) refl some
+less_unlisted : (s : State) (g : GroupNo) (k : ℕ) → has_place (order_told s g) ≡ true → not (is_empty (unlisted_ids s g k)) ≡ true → length (unlisted_ids (receiving s (order_message s g k)) g k) < length (unlisted_ids s g k)
+less_unlisted s g k place some = by_first (unlisted_ids s g k) refl some
   where
-    by_first : (es : List Entry) → unlisted s g k ≡ es → not (is_empty es) ≡ true → length (unlisted (receiving s (order_message s g k)) g k) < length (unlisted s g k)
+    by_first : (es : List Entry) → unlisted_ids s g k ≡ es → not (is_empty es) ≡ true → length (unlisted_ids (receiving s (order_message s g k)) g k) < length (unlisted_ids s g k)
     by_first [] is some = absurd (true≢false (sym some))
     by_first (e ∷ es) is some =
         let m : Message = order_message s g k in
-        let was : In e (unlisted s g k) = subst (λ es. In e es) (sym is) (inl refl) in
+        let was : In e (unlisted_ids s g k) = subst (λ es. In e es) (sym is) (inl refl) in
         let new = in_kept (λ e. not (is_among entry_eq e (order_told s g))) (abcasts_delivered s g k) e was in
         let told : is_among entry_eq e (order_told (receiving s m) g) ≡ true =
         ap (λ facts. is_among entry_eq e (known_order facts)) (facts_more s g m ∙ ap (λ facts. facts_in s g ++ facts) (order_message_told s g k))
@@ -229,7 +229,7 @@ pub to_list_received : (s : State) (m : Message) → is_atomic (kind_of m.body) 
 to_list_received s m other g = total_le (to_list_by (receiving s m) g) (to_list_by s g) (serials s) (λ k. received_to_list s m g k other)
 
 -- and a set-order message less
-pub to_list_ordered : (s : State) (g : GroupNo) (k : ℕ) → In k (serials s) → has_place (order_told s g) ≡ true → not (is_empty (unlisted s g k)) ≡ true → to_list_in (receiving s (order_message s g k)) g < to_list_in s g
+pub to_list_ordered : (s : State) (g : GroupNo) (k : ℕ) → In k (serials s) → has_place (order_told s g) ≡ true → not (is_empty (unlisted_ids s g k)) ≡ true → to_list_in (receiving s (order_message s g k)) g < to_list_in s g
 to_list_ordered s g k at place some =
     let m : Message = order_message s g k in
     let less = less_unlisted s g k place some in

@@ -21,7 +21,7 @@ use Rattle.cast_message.specs.Bodies.{kind_of}
 use Rattle.cast_message.specs.Membership.{Membership}
 use Rattle.cast_ready.specs.Ready.{Process, is_member}
 use Rattle.cast_types.specs.declared.refusal.Refusal.{Refusal}
-use Rattle.cast_events.specs.Session.{is_open, is_gone, pushed_to, closed}
+use Rattle.cast_events.specs.Session.{is_open, is_gone, pushed_to, tell_end}
 use Rattle.cast_view.specs.declared.member.Pending.{Pending}
 use Rattle.cast_view.specs.MemberSide.{with_view}
 use Rattle.cast_rules.specs.Order.{holders}
@@ -30,11 +30,11 @@ use Rattle.cast_events.specs.declared.event.Event.TheVariants as event
 use Rattle.cast_rules.specs.Acts.{Act}
 use Rattle.cast_rules.specs.Acts.Act.{Sent, Delivered, Entered, Left}
 use Rattle.cast_rules.specs.State.{State, local, serials, receiving, noting_sent, pushing, closing, taking, setting_quota, with_push, local_members, set_process, set_group, with_delivery, noting_act, outside, acts_outside, set_standing}
-use Rattle.cast_rules.specs.Entering.{parted, is_put_out, all_parted, putting_out, enters, in_view, all_in_view, passing}
+use Rattle.cast_rules.specs.Entering.{put_outside, is_put_out, all_parted, putting_out, enters, in_view, all_in_view, passing}
 use Rattle.cast_rules.specs.Turns.{is_ready_for}
 use Rattle.cast_rules.specs.Lawful.{IsTyped}
 use Rattle.cast_rules.specs.History.{history}
-use Rattle.cast_rules.specs.Step.{opening_next, sessions_given, acted}
+use Rattle.cast_rules.specs.Step.{opening_next, sessions_given, act_of_event}
 use Rattle.cast_rules.specs.Effects.{next_message, sending, delivering}
 use Rattle.cast_rules.specs.Resting.{places_of, resting}
 use Rattle.cast_rules.specs.Reports.{has_delivered_cut, missing_in}
@@ -129,7 +129,7 @@ noted_pushing s n k p = elim (is_open (s.session k)) as (λ b. IsNoted (if b the
 ]
 
 noted_closing : (s : State) → IsNoted s → (k : ℕ) (refusal : Refusal) → IsNoted (closing s k refusal)
-noted_closing s n k refusal = elim (is_open (s.session k)) as (λ b. IsNoted (if b then with_push s k (closed refusal (s.session k)) (push.Closed refusal) else s)) [
+noted_closing s n k refusal = elim (is_open (s.session k)) as (λ b. IsNoted (if b then with_push s k (tell_end refusal (s.session k)) (push.Closed refusal) else s)) [
   | true ↦ record { sent = n.sent; delivered = n.delivered; abcasts = n.abcasts }
   | false ↦ n
 ]
@@ -259,7 +259,7 @@ noted_all_parted s n g goes = record {
     | true ↦ subst (λ ms. AreWithin ms (own s k)) (nothing_sent (s.acts k) (Left g) refl) (n.sent k)
     | false ↦ n.sent k
   ];
-  delivered = λ k. elim (goes k) as (λ b. (if b then parted g (s.process k) else s.process k).delivered ≡ delivered_by (if b then s.acts k ++ Left g ∷ [] else s.acts k)) [
+  delivered = λ k. elim (goes k) as (λ b. (if b then put_outside g (s.process k) else s.process k).delivered ≡ delivered_by (if b then s.acts k ++ Left g ∷ [] else s.acts k)) [
     | true ↦ n.delivered k ∙ nothing_delivered (s.acts k) (Left g) refl
     | false ↦ n.delivered k
   ];
@@ -307,7 +307,7 @@ all_noted = record {
 
 -- Events, and what follows until the state rests
 
-noted_acted : (s : State) (e : Event) → IsNoted s → IsTyped e → IsNoted (acted s e)
+noted_acted : (s : State) (e : Event) → IsNoted s → IsTyped e → IsNoted (act_of_event s e)
 noted_acted s (event.Open d) n typed = elim (may_open history sessions_given s) as (λ b. IsNoted (if b then opening_next s else s)) [
   | true ↦ record { sent = n.sent; delivered = n.delivered; abcasts = n.abcasts }
   | false ↦ n

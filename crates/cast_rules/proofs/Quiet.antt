@@ -15,18 +15,18 @@ use Rattle.cast_message.specs.declared.message.Body.TheVariants as body
 use Rattle.cast_timer.specs.declared.key.OwedKey.{OwedKey}
 use Rattle.cast_timer.specs.declared.key.OwedKind.{OwedKind}
 use Rattle.cast_timer.specs.declared.key.OwedKind.TheVariants.{Prepare, Install}
-use Rattle.cast_ready.specs.Ready.{covered, is_member}
+use Rattle.cast_ready.specs.Ready.{covered_entries, is_member}
 use Rattle.cast_message.specs.Placement.{Placement}
-use Rattle.cast_rules.specs.Order.{order_told, unlisted, has_place, holds, holders}
+use Rattle.cast_rules.specs.Order.{order_told, unlisted_ids, has_place, holds, holders}
 use Rattle.cast_rules.specs.Rules.Room.{may_order}
 use Rattle.cast_rules.specs.Rules.Sending.{may_raise}
 use Rattle.cast_timer.specs.Owed.{is_owed}
 use Rattle.cast_timer.proofs.Owing.{owing_owes}
 use Rattle.cast_view.specs.declared.member.Pending.{Pending}
 use Rattle.cast_view.specs.MemberSide.{is_pending}
-use Rattle.cast_view.specs.Home.{is_empty, wants_in, may_start, may_decide, awaited_of, waiting_of, moved}
+use Rattle.cast_view.specs.Home.{is_empty, wants_in, may_start, may_decide, awaited_of, waiting_of, apply_move}
 use Rattle.cast_view.specs.Home.HomeMove.{Started, Decided}
-use Rattle.cast_rules.specs.State.{State, local, serials, emitted, set_home}
+use Rattle.cast_rules.specs.State.{State, local, serials, emit, set_home}
 use Rattle.cast_rules.specs.Owing.{next_due, noting_owed}
 use Rattle.cast_rules.specs.Turns.{is_ready_for}
 use Rattle.cast_rules.specs.Reports.{has_delivered_cut, missing_in}
@@ -40,7 +40,7 @@ use Rattle.cast_rules.specs.Rules.Home.{owe_of_home, start, wants, want, want_bo
 use Rattle.cast_rules.specs.Rules.Flushes.{own_want_key, complete, want_own, complete_or_want, go_on, go_on_all}
 use Rattle.cast_rules.specs.Rest.{is_free, let_go, deliver_first, deliver_all, settle, set_order_by, set_order, set_orders, pass, RestsAt}
 use Rattle.cast_rules.specs.Run.{after_event, before_event}
-use Rattle.cast_rules.specs.Step.{acted}
+use Rattle.cast_rules.specs.Step.{act_of_event}
 use Rattle.cast_rules.specs.Endings.{Falls, Moves}
 use Rattle.cast_rules.specs.AtRest.{NoneIsFree, lists_some, IsGroupAtRest, RestIsQuiet}
 use Rattle.cast_rules.proofs.Totals.{In}
@@ -89,7 +89,7 @@ all_tests true true true true true y q = refl
 
 pub may_set_is : (s : State) (g : GroupNo) (k : ℕ) → lists_some s g k ≡ may_set_order s g k
 may_set_is s g k =
-    all_tests (is_member ((s.process k).standing g)) (not (s.group g).frozen) (may_order history s) (not (is_empty (unlisted s g k))) (has_place (order_told s g)) (may_raise (s.process k).time g (local s k)) (places_of s g k)
+    all_tests (is_member ((s.process k).standing g)) (not (s.group g).frozen) (may_order history s) (not (is_empty (unlisted_ids s g k))) (has_place (order_told s g)) (may_raise (s.process k).time g (local s k)) (places_of s g k)
 
 -- What falls is another state
 
@@ -208,7 +208,7 @@ module _ (s : State) (same : pass s ≡ s) where
         let same_as : fold (want_own history g) s es ≡ s = sym (ap (λ b. if b then let_go (complete history s g p) else fold (want_own history g) s es) none) ∙ waits_on p waits in
         all_in (λ e. is_owed s.owed (own_want_key history s g e)) es (λ e there. owed_still (own_want_key history s g e) (wanted es (missing_covered s g p.cut) same_as e there))
       where
-        wanted : (es : List Entry) → ((e : Entry) → In e es → In e (covered p.cut)) → fold (want_own history g) s es ≡ s → (e : Entry) → In e es → want_own history g s e ≡ s
+        wanted : (es : List Entry) → ((e : Entry) → In e es → In e (covered_entries p.cut)) → fold (want_own history g) s es ≡ s → (e : Entry) → In e es → want_own history g s e ≡ s
         wanted [] among same_as e there = absurd there
         wanted (x ∷ es) among same_as e there =
             let t : State = want_own history g s x in
@@ -248,14 +248,14 @@ module _ (s : State) (same : pass s ≡ s) where
 
       nothing_started : may_start (s.home g) ≡ false
       nothing_started = false_from_ne_true (may_start (s.home g)) (λ may.
-          let t : State = set_home s g (moved Started (s.home g)) in
+          let t : State = set_home s g (apply_move Started (s.home g)) in
           let u : State = fold (owe_of_home history Prepare g) t (awaited_of (t.home g).phase) in
           falls_never s u (falls_led s g Started Prepare (awaited_of (t.home g).phase) at (started_less (s.home g) may))
           (sym (ap (λ b. if b then u else s) may) ∙ started))
 
       nothing_decided : may_decide g (s.home g) ≡ false
       nothing_decided = false_from_ne_true (may_decide g (s.home g)) (λ may.
-          let t : State = set_home s g (moved Decided (s.home g)) in
+          let t : State = set_home s g (apply_move Decided (s.home g)) in
           let u : State = fold (owe_of_home history Install g) t (waiting_of (t.home g).phase) in
           falls_never s u (falls_led s g Decided Install (waiting_of (t.home g).phase) at (decided_less g (s.home g) may))
           (sym (ap (λ b. if b then u else s) may) ∙ none_decided))
@@ -294,7 +294,7 @@ none_free_let_go s = all_kept (λ m. not (is_free s m.id)) s.kept
 none_free_owe : (s : State) → NoneIsFree s → (key : OwedKey) → NoneIsFree (owe history s key)
 none_free_owe s n key = elim (is_owed s.owed key) as (λ b. NoneIsFree (if b then s else noting_owed (send_for history s key) key)) [
   | true ↦ n
-  | false ↦ elim (frame_for history s key) as (λ o. NoneIsFree (noting_owed (option_map_or (emitted s key.site) o s) key)) [ Some f ↦ n | None ↦ n ]
+  | false ↦ elim (frame_for history s key) as (λ o. NoneIsFree (noting_owed (option_map_or (emit s key.site) o s) key)) [ Some f ↦ n | None ↦ n ]
 ]
 
 none_free_fold : {X : Type 0} (f : State → X → State) → ((s : State) (x : X) → NoneIsFree s → NoneIsFree (f s x)) → (xs : List X) (s : State) → NoneIsFree s → NoneIsFree (fold f s xs)
@@ -341,9 +341,9 @@ none_free_lead_group : (s : State) (g : GroupNo) → NoneIsFree s → NoneIsFree
 none_free_lead_group s g n =
     let t : State = start history s g in
     let u : State = want_bodies history t g in
-    let a : NoneIsFree t = none_free_if (may_start (s.home g)) _ s (none_free_home Prepare g (awaited_of ((set_home s g (moved Started (s.home g))).home g).phase) (set_home s g (moved Started (s.home g))) n) n in
+    let a : NoneIsFree t = none_free_if (may_start (s.home g)) _ s (none_free_home Prepare g (awaited_of ((set_home s g (apply_move Started (s.home g))).home g).phase) (set_home s g (apply_move Started (s.home g))) n) n in
     let b : NoneIsFree u = none_free_fold (want history g) (λ x w m. none_free_owe x m (want_key g w)) (wants history t g) t a in
-    none_free_if (may_decide g (u.home g)) _ u (none_free_home Install g (waiting_of ((set_home u g (moved Decided (u.home g))).home g).phase) (set_home u g (moved Decided (u.home g))) b) b
+    none_free_if (may_decide g (u.home g)) _ u (none_free_home Install g (waiting_of ((set_home u g (apply_move Decided (u.home g))).home g).phase) (set_home u g (apply_move Decided (u.home g))) b) b
 
 none_free_pass : (s : State) → NoneIsFree s → NoneIsFree (pass s)
 none_free_pass s n =
@@ -362,7 +362,7 @@ pub rest_is_quiet : RestIsQuiet
 rest_is_quiet s e answer t step =
     let still : pass t ≡ t = step.rests.2 in
     record {
-      free = none_free_rests (after_event s e) t step.rests (none_free_let_go (acted (before_event s) e));
+      free = none_free_rests (after_event s e) t step.rests (none_free_let_go (act_of_event (before_event s) e));
       ready = nothing_ready t still;
       groups = λ g listed. group_rests t still g (in_groups g t.config.groups listed);
     }

@@ -20,7 +20,7 @@ use Rattle.cast_types.specs.Sets.{is_among, set_at}
 use Rattle.cast_types.specs.Counts.{CountList}
 use Rattle.cast_types.specs.Stamps.{ClockList, is_stamp}
 use Rattle.cast_types.proofs.Orders.{same_group, group_itself, same_uid, group_total, group_exact, tie_same}
-use Rattle.cast_clock.specs.Times.{first_clock, clock_of, view_of, count_in, join, has_room, bumped, entering}
+use Rattle.cast_clock.specs.Times.{first_clock, clock_of, view_of, count_in, join, has_room, with_bump, entering}
 use Rattle.cast_clock.proofs.Joins.{clock_of-join}
 use Rattle.cast_clock.proofs.Raised.{enter_begins, enter_leaves}
 use Rattle.cast_clock.proofs.Valid.{sorted_time}
@@ -43,7 +43,7 @@ use Rattle.cast_rules.specs.Turns.{is_ready_for}
 use Rattle.cast_rules.specs.History.{history}
 use Rattle.cast_rules.specs.Rules.Sending.{send_data}
 use Rattle.cast_rules.specs.Effects.{next_message, sending}
-use Rattle.cast_rules.specs.Entering.{parted, is_put_out, all_parted, putting_out, enters, in_view, all_in_view, passing}
+use Rattle.cast_rules.specs.Entering.{put_outside, is_put_out, all_parted, putting_out, enters, in_view, all_in_view, passing}
 use Rattle.cast_rules.specs.Step.{opening_next}
 use Rattle.cast_rules.specs.Run.{before_event}
 use Rattle.cast_rules.specs.Lawful.{IsLawful}
@@ -120,7 +120,7 @@ counts_opening here config few = record {
 -- A count that is raised
 
 -- where members alone are counted, a member's time that is raised has room
-pub room_raised : (s : State) → CountsMembers s → (k : ℕ) (g : GroupNo) → is_member ((s.process k).standing g) ≡ true → has_room (bumped (s.process k).time g (local s k)) ≡ true
+pub room_raised : (s : State) → CountsMembers s → (k : ℕ) (g : GroupNo) → is_member ((s.process k).standing g) ≡ true → has_room (with_bump (s.process k).time g (local s k)) ≡ true
 room_raised s c k g member =
     let a = c.members k g member in
     raised_room (members_of (s.group g)) (s.process k).time g (local s k) (c.views g).rising (c.views g).few (c.times k).valid a.itself a.counted
@@ -128,7 +128,7 @@ room_raised s c k g member =
 pub listed_member : (s : State) → IsLawful s → (k : ℕ) (g : GroupNo) → is_member ((s.process k).standing g) ≡ true → is_group s g ≡ true
 listed_member s l k g member = l.known k g (ap is_outside (only_member ((s.process k).standing g) member))
 
-pub time_after_raise : (s : State) → IsLawful s → CountsMembers s → (k : ℕ) (g : GroupNo) → is_member ((s.process k).standing g) ≡ true → IsTimeOf s.config.groups (bumped (s.process k).time g (local s k))
+pub time_after_raise : (s : State) → IsLawful s → CountsMembers s → (k : ℕ) (g : GroupNo) → is_member ((s.process k).standing g) ≡ true → IsTimeOf s.config.groups (with_bump (s.process k).time g (local s k))
 time_after_raise s l c k g member =
     time_raised s.config.groups (s.process k).time g (local s k) (c.times k) (listed_member s l k g member)
     (subst (λ n. 0 < n) (sym (l.current k g member)) ((c.views g).numbered (l.viewed k g member)))
@@ -136,7 +136,7 @@ time_after_raise s l c k g member =
 
 pub can_raise : (s : State) → IsLawful s → CountsMembers s → CanRaise s
 can_raise s l c k g member =
-    let raised : ClockList = bumped (s.process k).time g (local s k) in
+    let raised : ClockList = with_bump (s.process k).time g (local s k) in
     let room : has_room raised ≡ true = room_raised s c k g member in
     let spelled : is_stamp raised ≡ true = time_spelled s.config.groups raised l.rising c.few (time_after_raise s l c k g member) (put_some group_cmp g _ (s.process k).time) in
     let last : Bool = nat_lt (count_in (s.process k).time g (local s k)) MAX_NUMBER in
@@ -392,19 +392,19 @@ module _ (s : State) (g : GroupNo) (n : ℕ) (members : Membership) (request : �
 counts_all_parted : (s : State) (g : GroupNo) (goes : ℕ → Bool) → CountsMembers s → CountsMembers (all_parted s g goes)
 counts_all_parted s g goes c = record {
   few = c.few;
-  times = λ k. elim (goes k) as (λ b. IsTimeOf s.config.groups (if b then parted g (s.process k) else s.process k).time) [ true ↦ c.times k | false ↦ c.times k ];
+  times = λ k. elim (goes k) as (λ b. IsTimeOf s.config.groups (if b then put_outside g (s.process k) else s.process k).time) [ true ↦ c.times k | false ↦ c.times k ];
   stamps = c.stamps;
   received = c.received;
-  delivered = λ k u. elim (goes k) as (λ b. has_delivered (if b then parted g (s.process k) else s.process k) u ≡ true → IsFromMember (s.group u.group) u) [ true ↦ c.delivered k u | false ↦ c.delivered k u ];
+  delivered = λ k u. elim (goes k) as (λ b. has_delivered (if b then put_outside g (s.process k) else s.process k) u ≡ true → IsFromMember (s.group u.group) u) [ true ↦ c.delivered k u | false ↦ c.delivered k u ];
   views = c.views;
-  members = λ k h. elim (goes k) as (λ b. is_member ((if b then parted g (s.process k) else s.process k).standing h) ≡ true → IsAmongMembers (s.group h) (local s k) (clock_of (if b then parted g (s.process k) else s.process k).time h).counts) [
+  members = λ k h. elim (goes k) as (λ b. is_member ((if b then put_outside g (s.process k) else s.process k).standing h) ≡ true → IsAmongMembers (s.group h) (local s k) (clock_of (if b then put_outside g (s.process k) else s.process k).time h).counts) [
     | true ↦ elim (group_eq g h) as (λ b. is_member (if b then Outside else (s.process k).standing h) ≡ true → IsAmongMembers (s.group h) (local s k) (clock_of (s.process k).time h).counts) [
       | true ↦ λ is. absurd (false≢true is)
       | false ↦ c.members k h
     ]
     | false ↦ c.members k h
   ];
-  placed = λ k h. elim (goes k) as (λ b. is_outside ((if b then parted g (s.process k) else s.process k).standing h) ≡ false → was_given s.used k ≡ true) [
+  placed = λ k h. elim (goes k) as (λ b. is_outside ((if b then put_outside g (s.process k) else s.process k).standing h) ≡ false → was_given s.used k ≡ true) [
     | true ↦ elim (group_eq g h) as (λ b. is_outside (if b then Outside else (s.process k).standing h) ≡ false → was_given s.used k ≡ true) [
       | true ↦ λ inside. absurd (false≢true (sym inside))
       | false ↦ c.placed k h

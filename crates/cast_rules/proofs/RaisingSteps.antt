@@ -23,7 +23,7 @@ use Rattle.cast_delay.proofs.Finds.{found_in}
 use Rattle.cast_events.specs.declared.config.DomainConfig.{DomainConfig}
 use Rattle.cast_view.specs.MemberSide.{members_of, with_request, with_answer}
 use Rattle.cast_types.specs.declared.names.Standing.TheVariants.{Outside, Joining}
-use Rattle.cast_view.specs.Home.{moved}
+use Rattle.cast_view.specs.Home.{apply_move}
 use Rattle.cast_events.specs.Session.{is_gone}
 use Rattle.cast_events.specs.declared.event.Event.{Event}
 use Rattle.cast_events.specs.declared.event.Event.TheVariants as event
@@ -37,7 +37,7 @@ use Rattle.cast_rules.specs.Rules.Owing.{tick}
 use Rattle.cast_quota.specs.Quotas.{is_in_range}
 use Rattle.cast_rules.specs.Rules.Events.{is_taken, may_open}
 use Rattle.cast_rules.specs.Rules.Rest.{told_of}
-use Rattle.cast_rules.specs.Step.{opening_next, sessions_given, acted}
+use Rattle.cast_rules.specs.Step.{opening_next, sessions_given, act_of_event}
 use Rattle.cast_rules.specs.Rest.{deliver_first, deliver_all, settle, set_order_by, set_order, set_orders, pass, let_go}
 use Rattle.cast_rules.specs.Resting.{places_of, resting}
 use Rattle.cast_rules.specs.Rules.Flushes.{go_on, go_on_all}
@@ -124,7 +124,7 @@ all_counted = record {
   pend = λ s c g p tail pended. (all_lawful.pend s c.0 g p tail pended, counts_same s _ (same_pending s g p tail pended.typed) c.1);
   note_request = λ s c g what p. (all_lawful.note_request s c.0 g what p, counts_same s _ (same_group_set s g (with_request (s.group g) what p) refl refl refl refl) c.1);
   note_answer = λ s c g. (all_lawful.note_answer s c.0 g, counts_same s _ (same_group_set s g (with_answer (s.group g)) refl refl refl refl) c.1);
-  move_home = λ s c g move. (all_lawful.move_home s c.0 g move, counts_same s _ (same_home s g (moved move (s.home g))) c.1);
+  move_home = λ s c g move. (all_lawful.move_home s c.0 g move, counts_same s _ (same_home s g (apply_move move (s.home g))) c.1);
   enter_view = λ s c h g skips n members request cut is. let e = entered s h g n members is in
       (all_lawful.enter_view s c.0 h g skips n members request cut is, counts_passing s h skips n members request cut c.0 c.1 e.listed is.typed e.later);
   release_ended = λ s c g. (all_lawful.release_ended s c.0 g, counts_releasing s (is_ended s g) c.1);
@@ -133,7 +133,7 @@ all_counted = record {
 
 -- Events
 
-pub counts_acted : (s : State) (e : Event) → IsLawful s → CountsMembers s → IsTyped e → CountsMembers (acted s e)
+pub counts_acted : (s : State) (e : Event) → IsLawful s → CountsMembers s → IsTyped e → CountsMembers (act_of_event s e)
 counts_acted s (event.Open d) l c typed =
     elim (may_open history sessions_given s) as (λ b. CountsMembers (if b then opening_next s else s)) [
       | true ↦ counts_opened s c
@@ -256,7 +256,7 @@ module _ (here : SiteNo) (config : DomainConfig) where
   passed_run (e ∷ events) [] sent pushed s t typed p run = absurd run
   passed_run (e ∷ events) (a ∷ answers) sent pushed s t typed p (u, later, more, step, made, told, run) =
       let acted_on : State = before_event s in
-      let after : Passed (after_event s e) = lets_go (acted acted_on e) (acts acted_on e typed.0 (begins s p)) in
+      let after : Passed (after_event s e) = lets_go (act_of_event acted_on e) (acts acted_on e typed.0 (begins s p)) in
       passed_run events answers later more u t typed.1 (subst Passed step.rests.1 (passed_iterate step.rests.0 pass passed_pass (after_event s e) after)) run
 
 pub members_counted : MembersAreCounted

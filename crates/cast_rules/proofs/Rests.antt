@@ -14,7 +14,7 @@ use Rattle.cast_types.specs.Sets.{set_at}
 use Rattle.cast_types.proofs.Iterates.{iterate_still}
 use Rattle.cast_types.proofs.Orders.{same_group, group_itself}
 use Rattle.cast_message.specs.declared.message.Message.{Message}
-use Rattle.cast_ready.specs.Ready.{is_member, covered}
+use Rattle.cast_ready.specs.Ready.{is_member, covered_entries}
 use Rattle.cast_types.specs.declared.names.SiteNo.{SiteNo}
 use Rattle.cast_types.specs.declared.limits.TheConstants.{MAX_NUMBER, MAX_PLACED}
 use Rattle.cast_types.specs.Names.{site_eq, site_cmp}
@@ -25,7 +25,7 @@ use Rattle.cast_timer.specs.declared.key.OwedKind.TheVariants.{Prepare, Install}
 use Rattle.cast_view.specs.declared.phase.Phase.{Phase}
 use Rattle.cast_view.specs.declared.phase.Phase.TheVariants.{Idle, Gathering, Installing}
 use Rattle.cast_view.specs.declared.phase.Decision.{Decision}
-use Rattle.cast_view.specs.Home.{Home, HomeMove, moved, is_empty, is_idle, is_suspected, may_start, sites_to_await, awaited_of, waiting_of, may_decide_in, may_decide, decided_list, decision_of, decided_phase, decided, installing}
+use Rattle.cast_view.specs.Home.{Home, HomeMove, apply_move, is_empty, is_idle, is_suspected, may_start, sites_to_await, awaited_of, waiting_of, may_decide_in, may_decide, decided_list, decision_of, decided_phase, decide_view, installing}
 use Rattle.cast_view.specs.Home.HomeMove.{Started, Decided}
 use Rattle.cast_view.specs.Sites.{sites_of}
 use Rattle.std.specs.Option.{option_map_or}
@@ -41,14 +41,14 @@ use Rattle.cast_rules.specs.Rules.Owing.{frame_for, send_for, owe}
 use Rattle.cast_rules.specs.Rules.Keys.{home_key, want_key}
 use Rattle.cast_view.specs.declared.member.Pending.{Pending}
 use Rattle.cast_view.specs.MemberSide.{MemberSide, is_pending, with_view}
-use Rattle.cast_rules.specs.State.{State, local, serials, emitted, set_group, set_home, receiving, with_delivery}
+use Rattle.cast_rules.specs.State.{State, local, serials, emit, set_group, set_home, receiving, with_delivery}
 use Rattle.cast_rules.specs.Entering.{putting_out}
 use Rattle.cast_rules.specs.Reports.{has_delivered_cut, is_missing, missing_in}
 use Rattle.cast_rules.specs.Resting.{resting}
 use Rattle.cast_rules.specs.Rules.Asking.{is_home}
 use Rattle.cast_rules.specs.History.{history}
 use Rattle.cast_rules.specs.Rules.Room.{may_order}
-use Rattle.cast_rules.specs.Order.{order_told, unlisted, has_place, holds, holders}
+use Rattle.cast_rules.specs.Order.{order_told, unlisted_ids, has_place, holds, holders}
 use Rattle.cast_rules.specs.Rules.Sending.{may_raise}
 use Rattle.cast_rules.specs.Turns.{is_ready_for}
 use Rattle.cast_rules.specs.Effects.{sending_message}
@@ -56,7 +56,7 @@ use Rattle.cast_rules.specs.Rules.Home.{owe_of_home, start, wants, want, want_bo
 use Rattle.cast_rules.specs.Rules.Flushes.{own_want_key, complete, want_own, complete_or_want, go_on, go_on_all}
 use Rattle.cast_rules.specs.Rest.{deliver_first, deliver_all, settle, set_order_by, set_order, set_orders, pass, RestsAt, let_go}
 use Rattle.cast_rules.proofs.Setting.{may_set_order, set_order_is}
-use Rattle.cast_rules.specs.Endings.{total, one_if, left, rank_of, rank, ranks, undelivered, to_list_in, to_list, to_do, home_unowed, site_unowed, unowed_in, unowed, pendings, Lessens, Falls, Moves, PassMoves, EachComesToRest, RestIsOne}
+use Rattle.cast_rules.specs.Endings.{total, one_if, left_count, rank_of, rank, ranks, undelivered_count, to_list_in, to_list, to_do, home_unowed, site_unowed, unowed_in, unowed_count, pendings, Lessens, Falls, Moves, PassMoves, EachComesToRest, RestIsOne}
 use Rattle.cast_rules.proofs.Alikes.{Alike, alike_then, alike_fold, alike_owe, alike_send_for, alike_noting_owed, alike_let_go, alike_sending, alike_putting_out, with_next_view, alike_installing}
 use Rattle.cast_rules.proofs.Totals.{In, in_take, total_le, total_lt, total_more, one_mono, not_mono, left_push, left_found, left_more}
 use Rattle.cast_rules.proofs.Settles.{delivering_one, alike_delivering, delivered_at, ready_new, delivered_first, delivered_none, iterate_twice}
@@ -122,23 +122,23 @@ moves_fold o f (x ∷ xs) h s u c =
 abbrev lists_after : State → ℕ → Message → ℕ → List Uid
 lists_after s k m j = if k == j then (s.process k).delivered ++ m.id ∷ [] else (s.process j).delivered
 
-fewer_each : (s : State) (k : ℕ) (m : Message) (j : ℕ) → left (lists_after s k m j) s.got ≤ left (s.process j).delivered s.got
+fewer_each : (s : State) (k : ℕ) (m : Message) (j : ℕ) → left_count (lists_after s k m j) s.got ≤ left_count (s.process j).delivered s.got
 fewer_each s k m j =
-    elim (k == j) as (λ b. k == j ≡ b → left (if b then (s.process k).delivered ++ m.id ∷ [] else (s.process j).delivered) s.got ≤ left (s.process j).delivered s.got) [
-      | true ↦ λ at. subst (λ i. left ((s.process k).delivered ++ m.id ∷ []) s.got ≤ left (s.process i).delivered s.got) (eqb-true k j at) (left_push m.id (s.process k).delivered s.got)
+    elim (k == j) as (λ b. k == j ≡ b → left_count (if b then (s.process k).delivered ++ m.id ∷ [] else (s.process j).delivered) s.got ≤ left_count (s.process j).delivered s.got) [
+      | true ↦ λ at. subst (λ i. left_count ((s.process k).delivered ++ m.id ∷ []) s.got ≤ left_count (s.process i).delivered s.got) (eqb-true k j at) (left_push m.id (s.process k).delivered s.got)
       | false ↦ λ at. omega arith
     ] refl
 
-undelivered_after : (s : State) (k : ℕ) (m : Message) → undelivered (with_delivery s k m) ≡ total (λ j. left (lists_after s k m j) s.got) (serials s)
-undelivered_after s k m = λ i. total (λ j. left (delivered_at s k m j i) s.got) (serials s)
+undelivered_after : (s : State) (k : ℕ) (m : Message) → undelivered_count (with_delivery s k m) ≡ total (λ j. left_count (lists_after s k m j) s.got) (serials s)
+undelivered_after s k m = λ i. total (λ j. left_count (delivered_at s k m j i) s.got) (serials s)
 
-undelivered_less : (s : State) (k : ℕ) (m : Message) → In k (serials s) → find (is_ready_for s k) s.got ≡ Some m → undelivered (with_delivery s k m) < undelivered s
+undelivered_less : (s : State) (k : ℕ) (m : Message) → In k (serials s) → find (is_ready_for s k) s.got ≡ Some m → undelivered_count (with_delivery s k m) < undelivered_count s
 undelivered_less s k m at found =
     let here : lists_after s k m k ≡ (s.process k).delivered ++ m.id ∷ [] = ap (λ b. if b then (s.process k).delivered ++ m.id ∷ [] else (s.process k).delivered) (eq-eqb k k refl) in
-    let less : left ((s.process k).delivered ++ m.id ∷ []) s.got < left (s.process k).delivered s.got = left_found (is_ready_for s k) (s.process k).delivered s.got m (ready_new s k) found in
-    subst (λ n. n < undelivered s) (sym (undelivered_after s k m))
-    (total_lt (λ j. left (lists_after s k m j) s.got) (λ j. left (s.process j).delivered s.got) (serials s) k (fewer_each s k m) at
-    (subst (λ ids. left ids s.got < left (s.process k).delivered s.got) (sym here) less))
+    let less : left_count ((s.process k).delivered ++ m.id ∷ []) s.got < left_count (s.process k).delivered s.got = left_found (is_ready_for s k) (s.process k).delivered s.got m (ready_new s k) found in
+    subst (λ n. n < undelivered_count s) (sym (undelivered_after s k m))
+    (total_lt (λ j. left_count (lists_after s k m j) s.got) (λ j. left_count (s.process j).delivered s.got) (serials s) k (fewer_each s k m) at
+    (subst (λ ids. left_count ids s.got < left_count (s.process k).delivered s.got) (sym here) less))
 
 -- less of the first is less, where no other is more
 less_by_first : (a b c d x y : ℕ) → a < b → d * x ≤ d * y → a + c + d * x < b + c + d * y
@@ -146,7 +146,7 @@ less_by_first a b c d x y less le = omega arith
 
 to_do_delivers : (s : State) (k : ℕ) (m : Message) → In k (serials s) → find (is_ready_for s k) s.got ≡ Some m → to_do (with_delivery s k m) < to_do s
 to_do_delivers s k m at found =
-    less_by_first (undelivered (with_delivery s k m)) (undelivered s) (ranks s) (s.used + 1) (to_list (with_delivery s k m)) (to_list s)
+    less_by_first (undelivered_count (with_delivery s k m)) (undelivered_count s) (ranks s) (s.used + 1) (to_list (with_delivery s k m)) (to_list s)
     (undelivered_less s k m at found)
     (mul-le-mul_left (s.used + 1) (total_le (to_list_in (with_delivery s k m)) (to_list_in s) s.config.groups (to_list_delivered s k m found)))
 
@@ -175,9 +175,9 @@ moves_settle s = moves_fold s deliver_all (serials s)
 -- Set-order messages
 
 -- one more message is one more for each process at the most
-undelivered_more : (s : State) (m : Message) → undelivered (receiving s m) ≤ undelivered s + s.used
+undelivered_more : (s : State) (m : Message) → undelivered_count (receiving s m) ≤ undelivered_count s + s.used
 undelivered_more s m =
-    let more = total_more (λ k. left (s.process k).delivered (s.got ++ m ∷ [])) (λ k. left (s.process k).delivered s.got) (serials s) (λ k. left_more (s.process k).delivered m s.got) in
+    let more = total_more (λ k. left_count (s.process k).delivered (s.got ++ m ∷ [])) (λ k. left_count (s.process k).delivered s.got) (serials s) (λ k. left_more (s.process k).delivered m s.got) in
     omega (arith, more, length-range_with_len 1 s.used)
 
 -- less of the last is less, where the first is not much more
@@ -186,25 +186,25 @@ less_by_last a b c u x y le less =
     let times : (u + 1) * suc x ≤ (u + 1) * y = mul-le-mul_left (u + 1) (omega arith) in
     omega (arith, times, mul-suc (u + 1) x)
 
-to_do_orders : (s : State) (g : GroupNo) (k : ℕ) → In g s.config.groups → In k (serials s) → has_place (order_told s g) ≡ true → not (is_empty (unlisted s g k)) ≡ true → to_do (receiving s (order_message s g k)) < to_do s
+to_do_orders : (s : State) (g : GroupNo) (k : ℕ) → In g s.config.groups → In k (serials s) → has_place (order_told s g) ≡ true → not (is_empty (unlisted_ids s g k)) ≡ true → to_do (receiving s (order_message s g k)) < to_do s
 to_do_orders s g k at given place some =
     let m : Message = order_message s g k in
-    less_by_last (undelivered (receiving s m)) (undelivered s) (ranks s) s.used (to_list (receiving s m)) (to_list s)
+    less_by_last (undelivered_count (receiving s m)) (undelivered_count s) (ranks s) s.used (to_list (receiving s m)) (to_list s)
     (undelivered_more s m)
     (total_lt (to_list_in (receiving s m)) (to_list_in s) s.config.groups g (to_list_received s m refl) at (to_list_ordered s g k given place some))
 
 -- there is something to list where a set-order message may be sent, and a place for it
-listing : (s : State) (g : GroupNo) (k : ℕ) → may_set_order s g k ≡ true → (not (is_empty (unlisted s g k)) && (has_place (order_told s g) && may_raise (s.process k).time g (local s k))) ≡ true
+listing : (s : State) (g : GroupNo) (k : ℕ) → may_set_order s g k ≡ true → (not (is_empty (unlisted_ids s g k)) && (has_place (order_told s g) && may_raise (s.process k).time g (local s k))) ≡ true
 listing s g k may =
     let a = and_parts (is_member ((s.process k).standing g)) _ may in
     let b = and_parts (not (s.group g).frozen) _ a.1 in
     (and_parts (may_order history s) _ b.1).1
 
-has_unlisted : (s : State) (g : GroupNo) (k : ℕ) → may_set_order s g k ≡ true → not (is_empty (unlisted s g k)) ≡ true
-has_unlisted s g k may = (and_parts (not (is_empty (unlisted s g k))) _ (listing s g k may)).0
+has_unlisted : (s : State) (g : GroupNo) (k : ℕ) → may_set_order s g k ≡ true → not (is_empty (unlisted_ids s g k)) ≡ true
+has_unlisted s g k may = (and_parts (not (is_empty (unlisted_ids s g k))) _ (listing s g k may)).0
 
 has_next : (s : State) (g : GroupNo) (k : ℕ) → may_set_order s g k ≡ true → has_place (order_told s g) ≡ true
-has_next s g k may = (and_parts (has_place (order_told s g)) _ (and_parts (not (is_empty (unlisted s g k))) _ (listing s g k may)).1).0
+has_next s g k may = (and_parts (has_place (order_told s g)) _ (and_parts (not (is_empty (unlisted_ids s g k))) _ (listing s g k may)).1).0
 
 pub falls_order : (s : State) (g : GroupNo) (k : ℕ) → In g s.config.groups → In k (serials s) → may_set_order s g k ≡ true → Falls s (let_go (sending_message s k (order_message s g k)))
 falls_order s g k at given may =
@@ -252,7 +252,7 @@ at_group_lt f t g v lt = subst (λ b. f (if b then v else t g) < f (t g)) (sym (
 -- the home moves on
 home_less : (s : State) (g : GroupNo) (h : Home) → In g s.config.groups → rank h < rank (s.home g) → to_do (set_home s g h) < to_do s
 home_less s g h at less =
-    plus_less (undelivered s) (ranks (set_home s g h)) (ranks s) ((s.used + 1) * to_list s)
+    plus_less (undelivered_count s) (ranks (set_home s g h)) (ranks s) ((s.used + 1) * to_list s)
     (total_lt (λ i. rank (set_at group_eq s.home g h i)) (λ i. rank (s.home i)) s.config.groups g
     (at_group_le rank s.home g h (weaker _ _ less)) at
     (at_group_lt rank s.home g h less))
@@ -267,7 +267,7 @@ started_rank Idle false false idle some = omega arith
 started_rank (Gathering awaited reports bodies) calm none idle some = absurd (true≢false (sym idle))
 started_rank (Installing waiting decision bodies) calm none idle some = absurd (true≢false (sym idle))
 
-pub started_less : (h : Home) → may_start h ≡ true → rank (moved Started h) < rank h
+pub started_less : (h : Home) → may_start h ≡ true → rank (apply_move Started h) < rank h
 started_less h may =
     let a = and_parts (is_idle h.phase) _ may in
     let b = and_parts (nat_lt h.number MAX_NUMBER) _ a.1 in
@@ -287,7 +287,7 @@ none_suspected (s ∷ suspected) joins e = absurd (true≢false (sym e))
 none_suspected [] [] e = refl
 none_suspected [] (p ∷ joins) e = none_suspected [] joins e
 
-pub decided_less : (g : GroupNo) (h : Home) → may_decide g h ≡ true → rank (decided h) < rank h
+pub decided_less : (g : GroupNo) (h : Home) → may_decide g h ≡ true → rank (decide_view h) < rank h
 decided_less g h may = of_phase h.phase may
   where
     calm : Bool
@@ -303,30 +303,30 @@ decided_less g h may = of_phase h.phase may
     of_phase (Installing waiting decision bodies) e = absurd (true≢false (sym e))
 
 -- the home moves on, and owes frames
-pub falls_led : (s : State) (g : GroupNo) (move : HomeMove) (kind : OwedKind) (sites : List SiteNo) → In g s.config.groups → rank (moved move (s.home g)) < rank (s.home g) → Falls s (fold (owe_of_home history kind g) (set_home s g (moved move (s.home g))) sites)
+pub falls_led : (s : State) (g : GroupNo) (move : HomeMove) (kind : OwedKind) (sites : List SiteNo) → In g s.config.groups → rank (apply_move move (s.home g)) < rank (s.home g) → Falls s (fold (owe_of_home history kind g) (set_home s g (apply_move move (s.home g))) sites)
 falls_led s g move kind sites at less =
-    let t : State = set_home s g (moved move (s.home g)) in
+    let t : State = set_home s g (apply_move move (s.home g)) in
     let u : State = fold (owe_of_home history kind g) t sites in
     let a : Alike t u = alike_fold (owe_of_home history kind g) (λ x to. alike_owe x (home_key kind g to)) sites t in
-    falls_by s t u a refl (home_less s g (moved move (s.home g)) at less)
+    falls_by s t u a refl (home_less s g (apply_move move (s.home g)) at less)
 
-moves_led : (s : State) (g : GroupNo) (move : HomeMove) (kind : OwedKind) (sites : List SiteNo) → In g s.config.groups → rank (moved move (s.home g)) < rank (s.home g) → Moves s (fold (owe_of_home history kind g) (set_home s g (moved move (s.home g))) sites)
+moves_led : (s : State) (g : GroupNo) (move : HomeMove) (kind : OwedKind) (sites : List SiteNo) → In g s.config.groups → rank (apply_move move (s.home g)) < rank (s.home g) → Moves s (fold (owe_of_home history kind g) (set_home s g (apply_move move (s.home g))) sites)
 moves_led s g move kind sites at less =
-    let t : State = set_home s g (moved move (s.home g)) in
+    let t : State = set_home s g (apply_move move (s.home g)) in
     let u : State = fold (owe_of_home history kind g) t sites in
     let a : Alike t u = alike_fold (owe_of_home history kind g) (λ x to. alike_owe x (home_key kind g to)) sites t in
     record { config = a.config; used = a.used; way = inr (falls_led s g move kind sites at less) }
 
 pub moves_start : (s : State) (g : GroupNo) → In g s.config.groups → Moves s (start history s g)
 moves_start s g at =
-    let h : Home = moved Started (s.home g) in
+    let h : Home = apply_move Started (s.home g) in
     moves_if s (fold (owe_of_home history Prepare g) (set_home s g h) (awaited_of ((set_home s g h).home g).phase)) s (may_start (s.home g))
     (λ e. moves_led s g Started Prepare (awaited_of ((set_home s g h).home g).phase) at (started_less (s.home g) e))
     (moves_self s)
 
 pub moves_decide : (s : State) (g : GroupNo) → In g s.config.groups → Moves s (decide history s g)
 moves_decide s g at =
-    let h : Home = moved Decided (s.home g) in
+    let h : Home = apply_move Decided (s.home g) in
     moves_if s (fold (owe_of_home history Install g) (set_home s g h) (waiting_of ((set_home s g h).home g).phase)) s (may_decide g (s.home g))
     (λ e. moves_led s g Decided Install (waiting_of ((set_home s g h).home g).phase) at (decided_less g (s.home g) e))
     (moves_self s)
@@ -372,7 +372,7 @@ home_lt s g w due there out =
 -- and so of the site's
 abbrev site_lacks : State → GroupNo → List Owed → Option Pending → ℕ
 site_lacks s g owed o =
-    elim o [ Some p ↦ total (λ e. is_lacking owed (own_want_key history s g e)) (covered p.cut) | None ↦ 0 ]
+    elim o [ Some p ↦ total (λ e. is_lacking owed (own_want_key history s g e)) (covered_entries p.cut) | None ↦ 0 ]
 
 site_le : (s : State) (key : OwedKey) (due : ℕ) (g : GroupNo) → site_unowed (owing_these s (with_owed s.owed key due)) g ≤ site_unowed s g
 site_le s key due g = of_pending (s.group g).pending
@@ -380,18 +380,18 @@ site_le s key due g = of_pending (s.group g).pending
     of_pending : (o : Option Pending) → site_lacks s g (with_owed s.owed key due) o ≤ site_lacks s g s.owed o
     of_pending None = omega arith
     of_pending (Some p) =
-        total_le (λ e. is_lacking (with_owed s.owed key due) (own_want_key history s g e)) (λ e. is_lacking s.owed (own_want_key history s g e)) (covered p.cut)
+        total_le (λ e. is_lacking (with_owed s.owed key due) (own_want_key history s g e)) (λ e. is_lacking s.owed (own_want_key history s g e)) (covered_entries p.cut)
         (λ e. no_more_lacking s.owed key due (own_want_key history s g e))
 
-site_lt : (s : State) (g : GroupNo) (p : Pending) (e : Entry) (due : ℕ) → (s.group g).pending ≡ Some p → In e (covered p.cut) → is_owed s.owed (own_want_key history s g e) ≡ false → site_unowed (owing_these s (with_owed s.owed (own_want_key history s g e) due)) g < site_unowed s g
+site_lt : (s : State) (g : GroupNo) (p : Pending) (e : Entry) (due : ℕ) → (s.group g).pending ≡ Some p → In e (covered_entries p.cut) → is_owed s.owed (own_want_key history s g e) ≡ false → site_unowed (owing_these s (with_owed s.owed (own_want_key history s g e) due)) g < site_unowed s g
 site_lt s g p e due waits there out =
     let key : OwedKey = own_want_key history s g e in
     subst (λ o. site_lacks s g (with_owed s.owed key due) o < site_lacks s g s.owed o) (sym waits)
-    (total_lt (λ x. is_lacking (with_owed s.owed key due) (own_want_key history s g x)) (λ x. is_lacking s.owed (own_want_key history s g x)) (covered p.cut) e
+    (total_lt (λ x. is_lacking (with_owed s.owed key due) (own_want_key history s g x)) (λ x. is_lacking s.owed (own_want_key history s g x)) (covered_entries p.cut) e
     (λ x. no_more_lacking s.owed key due (own_want_key history s g x)) there (one_less_lacking s.owed key due out))
 
 -- where fewer are to be owed of one group, fewer are of all
-unowed_less : (s : State) (g : GroupNo) (key : OwedKey) (due : ℕ) → In g s.config.groups → unowed_in (owing_these s (with_owed s.owed key due)) g < unowed_in s g → unowed (owing_these s (with_owed s.owed key due)) < unowed s
+unowed_less : (s : State) (g : GroupNo) (key : OwedKey) (due : ℕ) → In g s.config.groups → unowed_in (owing_these s (with_owed s.owed key due)) g < unowed_in s g → unowed_count (owing_these s (with_owed s.owed key due)) < unowed_count s
 unowed_less s g key due at here =
     total_lt (unowed_in (owing_these s (with_owed s.owed key due))) (unowed_in s) s.config.groups g
     (λ h. omega (arith, home_le s key due h, site_le s key due h)) at here
@@ -403,17 +403,17 @@ moves_owe s g key at counted = elim (is_owed s.owed key) as (λ b. is_owed s.owe
   | false ↦ λ out.
       let t : State = noting_owed (send_for history s key) key in
       let a : Alike s t = alike_then s (send_for history s key) t (alike_send_for s key) (alike_noting_owed (send_for history s key) key) in
-      let now : unowed t ≡ unowed (owing_these s t.owed) = λ i. unowed (record s { home = a.home i; config = a.config i; group = a.group i; owed = t.owed }) in
-      let listed : unowed (owing_these s t.owed) ≡ unowed (owing_these s (with_owed s.owed key (next_due s))) = ap (λ o. unowed (owing_these s o)) (same_owed s key) in
+      let now : unowed_count t ≡ unowed_count (owing_these s t.owed) = λ i. unowed_count (record s { home = a.home i; config = a.config i; group = a.group i; owed = t.owed }) in
+      let listed : unowed_count (owing_these s t.owed) ≡ unowed_count (owing_these s (with_owed s.owed key (next_due s))) = ap (λ o. unowed_count (owing_these s o)) (same_owed s key) in
       record {
         config = a.config;
         used = a.used;
-        way = inr (inr (pendings_alike s t a, inr (to_do_alike s t a, subst (λ n. n < unowed s) (sym (now ∙ listed)) (unowed_less s g key (next_due s) at (counted out)))));
+        way = inr (inr (pendings_alike s t a, inr (to_do_alike s t a, subst (λ n. n < unowed_count s) (sym (now ∙ listed)) (unowed_less s g key (next_due s) at (counted out)))));
       }
 ] refl
   where
     same_owed : (s : State) (key : OwedKey) → (noting_owed (send_for history s key) key).owed ≡ with_owed s.owed key (next_due s)
-    same_owed s key = elim (frame_for history s key) as (λ o. (noting_owed (option_map_or (emitted s key.site) o s) key).owed ≡ with_owed s.owed key (next_due s)) [ Some f ↦ refl | None ↦ refl ]
+    same_owed s key = elim (frame_for history s key) as (λ o. (noting_owed (option_map_or (emit s key.site) o s) key).owed ≡ with_owed s.owed key (next_due s)) [ Some f ↦ refl | None ↦ refl ]
 
 less_by_home : (a b c d : ℕ) → a < b → c ≤ d → a + c < b + d
 less_by_home a b c d less le = omega arith
@@ -428,7 +428,7 @@ moves_want s g w at there =
     moves_owe s g key at
     (λ out. less_by_home (home_unowed now g) (home_unowed s g) (site_unowed now g) (site_unowed s g) (home_lt s g w (next_due s) there out) (site_le s key (next_due s) g))
 
-pub moves_want_own : (s : State) (g : GroupNo) (p : Pending) (e : Entry) → In g s.config.groups → (s.group g).pending ≡ Some p → In e (covered p.cut) → Moves s (want_own history g s e)
+pub moves_want_own : (s : State) (g : GroupNo) (p : Pending) (e : Entry) → In g s.config.groups → (s.group g).pending ≡ Some p → In e (covered_entries p.cut) → Moves s (want_own history g s e)
 moves_want_own s g p e at waits there =
     let key : OwedKey = own_want_key history s g e in
     let now : State = owing_these s (with_owed s.owed key (next_due s)) in
@@ -515,7 +515,7 @@ moves_completed s g p at waits =
     }
 
 -- Wants leave the groups and the configuration as they are
-pub moves_wanted_own : (s : State) (g : GroupNo) (p : Pending) (es : List Entry) → In g s.config.groups → (s.group g).pending ≡ Some p → ((e : Entry) → In e es → In e (covered p.cut)) → Moves s (fold (want_own history g) s es)
+pub moves_wanted_own : (s : State) (g : GroupNo) (p : Pending) (es : List Entry) → In g s.config.groups → (s.group g).pending ≡ Some p → ((e : Entry) → In e es → In e (covered_entries p.cut)) → Moves s (fold (want_own history g) s es)
 moves_wanted_own s g p [] at waits among = moves_self s
 moves_wanted_own s g p (e ∷ es) at waits among =
     let t : State = want_own history g s e in
@@ -525,9 +525,9 @@ moves_wanted_own s g p (e ∷ es) at waits among =
     (subst (λ x. (x g).pending ≡ Some p) (sym a.group) waits)
     (λ v there. among v (inr there)))
 
-pub missing_covered : (s : State) (g : GroupNo) (cut : CountList) (e : Entry) → In e (missing_in s g cut) → In e (covered cut)
+pub missing_covered : (s : State) (g : GroupNo) (cut : CountList) (e : Entry) → In e (missing_in s g cut) → In e (covered_entries cut)
 missing_covered s g cut e there =
-    (in_kept (is_missing s g) (covered cut) e (in_take MAX_PLACED (filter (is_missing s g) (covered cut)) e there)).1
+    (in_kept (is_missing s g) (covered_entries cut) e (in_take MAX_PLACED (filter (is_missing s g) (covered_entries cut)) e there)).1
 
 moves_waiting : (s : State) (g : GroupNo) (p : Pending) → In g s.config.groups → (s.group g).pending ≡ Some p → Moves s (complete_or_want history resting s g p)
 moves_waiting s g p at waits =
@@ -571,7 +571,7 @@ one_more : (s : State) → Rests (pass s) → Rests s
 one_more s r = (r.0, (suc r.1.0, r.1.1, r.1.2))
 
 -- as much is to be done while Wants come to be owed
-rests_within : (p n : ℕ) → ((s : State) → pendings s < p → Rests s) → ((s : State) → pendings s ≤ p → to_do s < n → Rests s) → (m : ℕ) (s : State) → pendings s ≤ p → to_do s ≤ n → unowed s ≤ m → Rests s
+rests_within : (p n : ℕ) → ((s : State) → pendings s < p → Rests s) → ((s : State) → pendings s ≤ p → to_do s < n → Rests s) → (m : ℕ) (s : State) → pendings s ≤ p → to_do s ≤ n → unowed_count s ≤ m → Rests s
 rests_within p n fewer less zero s w a b = elim (moves_pass s).way [
   | inl e ↦ (s, (zero, refl, e))
   | inr (inl f) ↦ one_more s (fewer (pass s) (omega arith))
@@ -592,7 +592,7 @@ rests_within p n fewer less (suc m) s w a b = elim (moves_pass s).way [
 -- as many Installs wait while less comes to be done
 rests_doing : (p : ℕ) → ((s : State) → pendings s < p → Rests s) → (n : ℕ) (s : State) → pendings s ≤ p → to_do s < n → Rests s
 rests_doing p fewer zero s w lt = absurd (omega arith)
-rests_doing p fewer (suc n) s w lt = rests_within p n fewer (rests_doing p fewer n) (unowed s) s w (omega arith) (omega arith)
+rests_doing p fewer (suc n) s w lt = rests_within p n fewer (rests_doing p fewer n) (unowed_count s) s w (omega arith) (omega arith)
 
 rests_below : (p : ℕ) (s : State) → pendings s < p → Rests s
 rests_below zero s lt = absurd (omega arith)

@@ -9,7 +9,7 @@ use Rattle.cast_ready.specs.Ready.{is_member}
 use Rattle.cast_view.specs.Home.{is_empty}
 use Rattle.cast_rules.specs.State.{State, local}
 use Rattle.cast_rules.specs.History.{history}
-use Rattle.cast_rules.specs.Order.{order_told, unlisted, has_place}
+use Rattle.cast_rules.specs.Order.{order_told, unlisted_ids, has_place}
 use Rattle.cast_rules.specs.Resting.{places_of}
 use Rattle.cast_rules.specs.Effects.{sending}
 use Rattle.cast_rules.specs.Rest.{set_order_by, let_go}
@@ -23,7 +23,7 @@ may_set_order s g k =
     is_member ((s.process k).standing g)
     && (not (s.group g).frozen
     && (may_order history s
-    && (not (is_empty (unlisted s g k))
+    && (not (is_empty (unlisted_ids s g k))
     && (has_place (order_told s g)
     && may_raise (s.process k).time g (local s k)))))
 
@@ -39,5 +39,5 @@ six_tests true true true true true false f q s = refl
 
 pub set_order_is : (s : State) (g : GroupNo) (k : ℕ) → set_order_by s g k ≡ (if may_set_order s g k then let_go (sending s g k (body.Order (places_of s g k))) else s)
 set_order_is s g k =
-    six_tests (is_member ((s.process k).standing g)) (not (s.group g).frozen) (may_order history s) (not (is_empty (unlisted s g k))) (has_place (order_told s g)) (may_raise (s.process k).time g (local s k))
+    six_tests (is_member ((s.process k).standing g)) (not (s.group g).frozen) (may_order history s) (not (is_empty (unlisted_ids s g k))) (has_place (order_told s g)) (may_raise (s.process k).time g (local s k))
     (λ q. let_go (sending s g k (body.Order q))) (places_of s g k) s

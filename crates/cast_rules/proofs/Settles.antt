@@ -16,7 +16,7 @@ use Rattle.cast_rules.specs.Effects.{delivering}
 use Rattle.cast_rules.specs.History.{history}
 use Rattle.cast_rules.specs.Rules.Rest.{told_of, tell_if}
 use Rattle.cast_rules.specs.Rest.{deliver_first, deliver_all, let_go}
-use Rattle.cast_rules.specs.Endings.{left, SettlesOne, TurnsAreEnough}
+use Rattle.cast_rules.specs.Endings.{left_count, SettlesOne, TurnsAreEnough}
 use Rattle.cast_rules.proofs.Alikes.{Alike, groups_of, alike_self, alike_then, alike_tell, alike_let_go}
 use Rattle.cast_rules.proofs.Totals.{left_found, left_le}
 
@@ -75,18 +75,18 @@ pub delivered_none : (s : State) (k : ℕ) → find (is_ready_for s k) s.got ≡
 delivered_none s k e = ap (λ (o : Option Message). elim o [ Some m ↦ delivering_one s k m | None ↦ s ]) e
 
 -- fewer are left
-pub delivered_less : (s : State) (k : ℕ) (m : Message) → find (is_ready_for s k) s.got ≡ Some m → left ((delivering_one s k m).process k).delivered (delivering_one s k m).got < left (s.process k).delivered s.got
+pub delivered_less : (s : State) (k : ℕ) (m : Message) → find (is_ready_for s k) s.got ≡ Some m → left_count ((delivering_one s k m).process k).delivered (delivering_one s k m).got < left_count (s.process k).delivered s.got
 delivered_less s k m e =
     let d : Delivers k m s (delivering_one s k m) = delivers s k m in
     let t : State = delivering_one s k m in
     let same : (t.process k).delivered ≡ (s.process k).delivered ++ m.id ∷ [] = d.delivered k ∙ ap (λ b. if b then (s.process k).delivered ++ m.id ∷ [] else (s.process k).delivered) (eq-eqb k k refl) in
-    subst (λ n. n < left (s.process k).delivered s.got) (sym (ap (λ ids. left ids t.got) same ∙ ap (left ((s.process k).delivered ++ m.id ∷ [])) d.got))
+    subst (λ n. n < left_count (s.process k).delivered s.got) (sym (ap (λ ids. left_count ids t.got) same ∙ ap (left_count ((s.process k).delivered ++ m.id ∷ [])) d.got))
     (left_found (is_ready_for s k) (s.process k).delivered s.got m (ready_new s k) e)
 
 abbrev NoneReady : ℕ → State → Type 0
 NoneReady k s = find (is_ready_for s k) s.got ≡ None
 
-settled_in : (n : ℕ) (s : State) (k : ℕ) → left (s.process k).delivered s.got ≤ n → NoneReady k (iterate n (deliver_first k) s)
+settled_in : (n : ℕ) (s : State) (k : ℕ) → left_count (s.process k).delivered s.got ≤ n → NoneReady k (iterate n (deliver_first k) s)
 settled_in zero s k enough =
     elim (find (is_ready_for s k) s.got) as (λ o. find (is_ready_for s k) s.got ≡ o → o ≡ None) [
       | None ↦ λ _. refl

@@ -13,7 +13,7 @@ use Rattle.cast_timer.specs.declared.key.OwedKey.{OwedKey}
 use Rattle.cast_timer.specs.declared.key.OwedKind.TheVariants.{Prepare, Install}
 use Rattle.cast_timer.specs.Owed.{is_owed}
 use Rattle.cast_view.specs.declared.member.Pending.{Pending}
-use Rattle.cast_view.specs.Home.{HomeMove, may_start, may_decide, awaited_of, waiting_of, moved}
+use Rattle.cast_view.specs.Home.{HomeMove, may_start, may_decide, awaited_of, waiting_of, apply_move}
 use Rattle.cast_view.specs.Home.HomeMove.{Started, Decided}
 use Rattle.cast_rules.specs.State.{State, serials, set_home}
 use Rattle.cast_rules.specs.Order.{holders}
@@ -93,7 +93,7 @@ module _ (s : State) (g : GroupNo) (rests : IsGroupAtRest s g) where
 
   none_led : is_home history s ≡ true → lead_group history s g ≡ s
   none_led home =
-      let moved_on : HomeMove → State = λ move. set_home s g (moved move (s.home g)) in
+      let moved_on : HomeMove → State = λ move. set_home s g (apply_move move (s.home g)) in
       let first : start history s g ≡ s =
       ap (λ b. if b then fold (owe_of_home history Prepare g) (moved_on Started) (awaited_of ((moved_on Started).home g).phase) else s) (rests.started home) in
       let second : want_bodies history s g ≡ s =

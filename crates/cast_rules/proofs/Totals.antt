@@ -8,7 +8,7 @@ use Rattle.cast_types.specs.declared.names.Uid.{Uid}
 use Rattle.cast_types.specs.Names.{uid_eq}
 use Rattle.cast_types.proofs.Orders.{uid_itself}
 use Rattle.cast_message.specs.declared.message.Message.{Message}
-use Rattle.cast_rules.specs.Endings.{total, one_if, left}
+use Rattle.cast_rules.specs.Endings.{total, one_if, left_count}
 
 pub total_same : {A : Type 0} (f g : A → ℕ) (xs : List A) → ((x : A) → f x ≡ g x) → total f xs ≡ total g xs
 total_same f g [] e = refl
@@ -51,11 +51,11 @@ among_push u v ids h = list_any-append (uid_eq v) ids (u ∷ []) ∙ or_left _ _
 pub among_last : (u : Uid) (ids : List Uid) → list_any (uid_eq u) (ids ++ u ∷ []) ≡ true
 among_last u ids = list_any-append (uid_eq u) ids (u ∷ []) ∙ or_right (list_any (uid_eq u) ids) _ (or_left (uid_eq u u) false (uid_itself u))
 
-pub left_push : (u : Uid) (ids : List Uid) (got : List Message) → left (ids ++ u ∷ []) got ≤ left ids got
+pub left_push : (u : Uid) (ids : List Uid) (got : List Message) → left_count (ids ++ u ∷ []) got ≤ left_count ids got
 left_push u ids [] = omega arith
 left_push u ids (m ∷ got) = omega (arith, left_push u ids got, one_mono (not (list_any (uid_eq m.id) (ids ++ u ∷ []))) (not (list_any (uid_eq m.id) ids)) (not_mono _ _ (among_push u m.id ids)))
 
-pub left_found : (t : Message → Bool) (ids : List Uid) (got : List Message) (m : Message) → ((x : Message) → t x ≡ true → list_any (uid_eq x.id) ids ≡ false) → find t got ≡ Some m → left (ids ++ m.id ∷ []) got < left ids got
+pub left_found : (t : Message → Bool) (ids : List Uid) (got : List Message) (m : Message) → ((x : Message) → t x ≡ true → list_any (uid_eq x.id) ids ≡ false) → find t got ≡ Some m → left_count (ids ++ m.id ∷ []) got < left_count ids got
 left_found t ids [] m says found = absurd (no_message m found)
   where
     no_message : (m : Message) → None ≡ Some m → ⊥
@@ -72,12 +72,12 @@ left_found t ids (x ∷ got) m says found = elim (cases_Bool (t x)) [
       omega (arith, later, one_mono (not (list_any (uid_eq x.id) (ids ++ m.id ∷ []))) (not (list_any (uid_eq x.id) ids)) (not_mono _ _ (among_push m.id x.id ids)))
 ]
 
-pub left_le : (ids : List Uid) (got : List Message) → left ids got ≤ length got
+pub left_le : (ids : List Uid) (got : List Message) → left_count ids got ≤ length got
 left_le ids [] = omega arith
 left_le ids (m ∷ got) = omega (arith, one_le (not (list_any (uid_eq m.id) ids)), left_le ids got)
 
 -- one more message is one more at the most
-pub left_more : (ids : List Uid) (m : Message) (got : List Message) → left ids (got ++ m ∷ []) ≤ left ids got + 1
+pub left_more : (ids : List Uid) (m : Message) (got : List Message) → left_count ids (got ++ m ∷ []) ≤ left_count ids got + 1
 left_more ids m [] = omega (arith, one_le (not (list_any (uid_eq m.id) ids)))
 left_more ids m (x ∷ got) = omega (arith, left_more ids m got)
 

@@ -7,7 +7,7 @@ use Rattle.cast_types.specs.Names.{uid_eq, is_atomic}
 use Rattle.cast_types.specs.Repeat.{iterate}
 use Rattle.cast_message.specs.declared.message.Message.{Message}
 use Rattle.cast_message.specs.Bodies.{kind_of}
-use Rattle.cast_ready.specs.Ready.{has_delivered, covered}
+use Rattle.cast_ready.specs.Ready.{has_delivered, covered_entries}
 use Rattle.cast_view.specs.declared.phase.Phase.{Phase}
 use Rattle.cast_view.specs.declared.phase.Phase.TheVariants.{Idle, Gathering, Installing}
 use Rattle.cast_view.specs.Home.{Home, is_empty}
@@ -18,7 +18,7 @@ use Rattle.cast_rules.specs.Rules.Home.{wants}
 use Rattle.cast_rules.specs.Rules.Flushes.{own_want_key}
 use Rattle.cast_rules.specs.History.{history}
 use Rattle.cast_rules.specs.State.{State, serials}
-use Rattle.cast_rules.specs.Order.{is_of_view, unlisted}
+use Rattle.cast_rules.specs.Order.{is_of_view, unlisted_ids}
 use Rattle.cast_rules.specs.Turns.{is_ready_for}
 use Rattle.cast_rules.specs.Rest.{deliver_first, deliver_all, pass, RestsAt}
 
@@ -31,13 +31,13 @@ abbrev pub one_if : Bool → ℕ
 one_if b = if b then 1 else 0
 
 -- how many messages are not among these
-abbrev pub left : List Uid → List Message → ℕ
-left ids [] = 0
-left ids (m ∷ got) = one_if (not (list_any (uid_eq m.id) ids)) + left ids got
+abbrev pub left_count : List Uid → List Message → ℕ
+left_count ids [] = 0
+left_count ids (m ∷ got) = one_if (not (list_any (uid_eq m.id) ids)) + left_count ids got
 
 -- how many pairs of a process and a message that it has not delivered there are
-abbrev pub undelivered : State → ℕ
-undelivered s = total (λ k. left (s.process k).delivered s.got) (serials s)
+abbrev pub undelivered_count : State → ℕ
+undelivered_count s = total (λ k. left_count (s.process k).delivered s.got) (serials s)
 
 -- how many more starts and decisions a group's home can come to at the most: by its phase, by whether no site is suspected (calm), and by
 -- whether nothing is to change (none). A decision leaves no site suspected, and joins only where one was
@@ -58,7 +58,7 @@ is_to_come s g k m = is_of_view s g m.id && (is_atomic (kind_of m.body) && not (
 
 -- how many ABCASTs a process of this site has still to list, delivered or not
 abbrev pub to_list_by : State → GroupNo → ℕ → ℕ
-to_list_by s g k = length (unlisted s g k) + length (filter (is_to_come s g k) s.got)
+to_list_by s g k = length (unlisted_ids s g k) + length (filter (is_to_come s g k) s.got)
 
 -- how many all of them have: any may come to hold the token
 abbrev pub to_list_in : State → GroupNo → ℕ
@@ -69,7 +69,7 @@ to_list s = total (to_list_in s) s.config.groups
 
 -- what is to be done at the most: a set-order message lists an ABCAST, and is one more message for each process
 abbrev pub to_do : State → ℕ
-to_do s = undelivered s + ranks s + (s.used + 1) * to_list s
+to_do s = undelivered_count s + ranks s + (s.used + 1) * to_list s
 
 -- how many frames Want that a group's home is to owe are not owed yet
 abbrev pub home_unowed : State → GroupNo → ℕ
@@ -79,15 +79,15 @@ home_unowed s g = total (λ w. one_if (not (is_owed s.owed (want_key g w)))) (wa
 abbrev pub site_unowed : State → GroupNo → ℕ
 site_unowed s g =
     elim (s.group g).pending [
-      | Some p ↦ total (λ e. one_if (not (is_owed s.owed (own_want_key history s g e)))) (covered p.cut)
+      | Some p ↦ total (λ e. one_if (not (is_owed s.owed (own_want_key history s g e)))) (covered_entries p.cut)
       | None ↦ 0
     ]
 
 abbrev pub unowed_in : State → GroupNo → ℕ
 unowed_in s g = home_unowed s g + site_unowed s g
 
-abbrev pub unowed : State → ℕ
-unowed s = total (unowed_in s) s.config.groups
+abbrev pub unowed_count : State → ℕ
+unowed_count s = total (unowed_in s) s.config.groups
 
 -- in how many groups an Install waits
 abbrev pub pendings : State → ℕ
@@ -95,7 +95,7 @@ pendings s = total (λ g. one_if (is_pending (s.group g))) s.config.groups
 
 -- less is to be done, or as much, and fewer Wants are still to be owed
 abbrev pub Lessens : State → State → Type 0
-Lessens s t = (to_do t < to_do s) ⊎ ((to_do t ≡ to_do s) × (unowed t < unowed s))
+Lessens s t = (to_do t < to_do s) ⊎ ((to_do t ≡ to_do s) × (unowed_count t < unowed_count s))
 
 -- fewer Installs wait, whatever is to be done then; or as many, and less is to be done
 abbrev pub Falls : State → State → Type 0

@@ -30,8 +30,8 @@ pending_install s g p tail =
     }
 
 -- a process that is outside a group
-abbrev pub parted : GroupNo → Process → Process
-parted g p = record p { standing = set_at group_eq p.standing g Outside }
+abbrev pub put_outside : GroupNo → Process → Process
+put_outside g p = record p { standing = set_at group_eq p.standing g Outside }
 
 -- a member is put out that the next view does not name, and any member where a view was skipped
 abbrev pub is_put_out : State → GroupNo → Bool → Membership → ℕ → Bool
@@ -41,7 +41,7 @@ is_put_out s g skips members k =
 abbrev pub all_parted : State → GroupNo → (ℕ → Bool) → State
 all_parted s g goes =
     record s {
-      process = λ k. if goes k then parted g (s.process k) else s.process k;
+      process = λ k. if goes k then put_outside g (s.process k) else s.process k;
       acts = λ k. if goes k then s.acts k ++ Left g ∷ [] else s.acts k;
     }
 

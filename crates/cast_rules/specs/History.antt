@@ -6,8 +6,8 @@ use Rattle.cast_types.specs.declared.names.Standing.TheVariants.{Joining}
 use Rattle.cast_events.specs.Session.{is_open, is_gone}
 use Rattle.cast_timer.specs.Owed.{is_owed, due_at}
 use Rattle.cast_view.specs.MemberSide.{with_request, with_answer}
-use Rattle.cast_view.specs.Home.{moved}
-use Rattle.cast_rules.specs.State.{State, serials, is_group, set_group, set_home, set_standing, emitted, is_filled, pushing, local_members, receiving, noting_sent, awaits_own, is_received, held, message_of, others_of, is_stable, upto, noting_ack, noting_stable, releasing_ended, outside, closing, going, counting_cast}
+use Rattle.cast_view.specs.Home.{apply_move}
+use Rattle.cast_rules.specs.State.{State, serials, is_group, set_group, set_home, set_standing, emit, is_filled, pushing, local_members, receiving, noting_sent, awaits_own, is_received, held_count, message_of, others_of, is_stable, upto, noting_ack, noting_stable, releasing_ended, outside, closing, going, counting_cast}
 use Rattle.cast_rules.specs.Order.{holds, place_to_pass}
 use Rattle.cast_rules.specs.Owing.{noting_owed, noting_resent, paying, paying_upto, paying_view, at_moment}
 use Rattle.cast_rules.specs.Entering.{freezing, pending_install, is_put_out, passing}
@@ -26,7 +26,7 @@ history = record {
   group = λ s g. s.group g;
   home = λ s g. s.home g;
   others = others_of;
-  held = held;
+  held = held_count;
   is_received = is_received;
   has_acked = λ s u to. has_acked s.acks u to;
   is_stable = is_stable;
@@ -45,7 +45,7 @@ history = record {
   due = λ s. due_at s.moment s.owed;
   is_gone = λ s k. is_gone (s.session k);
   report = report_in;
-  send = emitted;
+  send = emit;
   note_owed = noting_owed;
   note_resent = noting_resent;
   pay = paying;
@@ -64,7 +64,7 @@ history = record {
   note_answer = λ s g. set_group s g (with_answer (s.group g));
   freeze = freezing;
   pend = pending_install;
-  move_home = λ s g move. set_home s g (moved move (s.home g));
+  move_home = λ s g move. set_home s g (apply_move move (s.home g));
   enter_view = passing;
   release_ended = releasing_ended;
   close = closing;

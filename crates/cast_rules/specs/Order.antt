@@ -6,7 +6,7 @@ use Rattle.cast_types.specs.declared.names.GroupNo.{GroupNo}
 use Rattle.cast_types.specs.declared.names.Proc.{Proc}
 use Rattle.cast_types.specs.declared.names.Uid.{Uid}
 use Rattle.cast_types.specs.declared.limits.TheConstants.{MAX_POSITION}
-use Rattle.cast_types.specs.Names.{Entry, group_eq, is_order, named, entry_of}
+use Rattle.cast_types.specs.Names.{Entry, group_eq, is_order, uid_in, entry_of}
 use Rattle.cast_message.specs.declared.message.Body.{Body}
 use Rattle.cast_message.specs.declared.message.Body.TheVariants as body
 use Rattle.cast_message.specs.Bodies.{kind_of, new_holder}
@@ -93,12 +93,12 @@ abbrev pub abcasts_delivered : State → GroupNo → ℕ → List Entry
 abcasts_delivered s g k = map entry_of (filter (is_of_view s g) (s.abcasts k))
 
 -- those that are not in the order told
-abbrev pub unlisted : State → GroupNo → ℕ → List Entry
-unlisted s g k = still_to_list (abcasts_delivered s g k) (order_told s g)
+abbrev pub unlisted_ids : State → GroupNo → ℕ → List Entry
+unlisted_ids s g k = still_to_list (abcasts_delivered s g k) (order_told s g)
 
 -- the order, and behind it those, for which the next places are
 abbrev pub order_by : State → GroupNo → ℕ → List Entry
-order_by s g k = order_told s g ++ unlisted s g k
+order_by s g k = order_told s g ++ unlisted_ids s g k
 
 -- a message that a process sent to set the order of a view: its count, and the last place that it sets
 abbrev pub listed_by : (Uid → Bool) → Act → Listing
@@ -114,12 +114,12 @@ lists_of s g k = flat_map (listed_by (is_of_view s g)) (s.acts k)
 abbrev pub settled_to : State → GroupNo → ℕ → ℕ
 settled_to s g k =
     settled_places (token_of s g k)
-    (last_listed (filter (λ x. is_stable s (named g (s.group g).number (local s k, x.0))) (lists_of s g k)))
+    (last_listed (filter (λ x. is_stable s (uid_in g (s.group g).number (local s k, x.0))) (lists_of s g k)))
 
 -- the ids past those that it has delivered
-abbrev pub unsettled : State → GroupNo → ℕ → List Entry
-unsettled s g k =
-    filter (λ e. has_delivered (s.process k) (named g (s.group g).number e)) (drop (settled_to s g k) (order_by s g k))
+abbrev pub unsettled_ids : State → GroupNo → ℕ → List Entry
+unsettled_ids s g k =
+    filter (λ e. has_delivered (s.process k) (uid_in g (s.group g).number e)) (drop (settled_to s g k) (order_by s g k))
 
 -- there is a place after these
 abbrev pub has_place : List Entry → Bool
@@ -128,4 +128,4 @@ has_place order = nat_lt (length order) MAX_POSITION
 -- the place from which another process would order, where a process of this site has settled all that it ordered
 abbrev pub place_to_pass : State → GroupNo → ℕ → Option ℕ
 place_to_pass s g k =
-    if is_empty (unsettled s g k) && has_place (order_by s g k) then Some (place_after (order_by s g k)) else None
+    if is_empty (unsettled_ids s g k) && has_place (order_by s g k) then Some (place_after (order_by s g k)) else None

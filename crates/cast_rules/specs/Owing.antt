@@ -3,7 +3,7 @@ use Rattle.std.specs.Prelude.{ℕ, ◌+◌, min, max}
 use Rattle.cast_types.specs.declared.limits.TheConstants.{MAX_MOMENT}
 use Rattle.cast_types.specs.declared.names.GroupNo.{GroupNo}
 use Rattle.cast_timer.specs.declared.key.OwedKey.{OwedKey}
-use Rattle.cast_timer.specs.Owed.{with_owed, paid, is_of_view, is_upto, renewed, key_eq}
+use Rattle.cast_timer.specs.Owed.{with_owed, paid, is_of_view, is_upto, renew, key_eq}
 use Rattle.cast_rules.specs.State.{State}
 
 -- the moment at which what is sent now is due again
@@ -14,7 +14,7 @@ abbrev pub noting_owed : State → OwedKey → State
 noting_owed s key = record s { owed = with_owed s.owed key (next_due s) }
 
 abbrev pub noting_resent : State → OwedKey → State
-noting_resent s key = record s { owed = renewed s.owed key (next_due s) }
+noting_resent s key = record s { owed = renew s.owed key (next_due s) }
 
 abbrev pub paying : State → OwedKey → State
 paying s key = record s { owed = paid (key_eq key) s.owed }

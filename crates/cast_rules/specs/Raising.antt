@@ -24,7 +24,7 @@ use Rattle.cast_view.specs.MemberSide.{MemberSide, members_of, has_view}
 use Rattle.cast_events.specs.Session.{is_open}
 use Rattle.cast_rules.specs.State.{State, opening, local, is_group, was_given}
 use Rattle.cast_rules.specs.Rules.Sending.{may_raise}
-use Rattle.cast_rules.specs.Step.{acted}
+use Rattle.cast_rules.specs.Step.{act_of_event}
 use Rattle.cast_rules.specs.History.{history}
 use Rattle.cast_rules.specs.Resting.{resting}
 use Rattle.cast_rules.specs.Rules.Flushes.{go_on}
@@ -78,7 +78,7 @@ CanRaise s = (k : ℕ) (g : GroupNo) → is_member ((s.process k).standing g) �
 pub data IsPassed (here : SiteNo) (config : DomainConfig) : State → Type 0 where
   opens : IsPassed here config (opening here config)
   begins : (s : State) → IsPassed here config s → IsPassed here config (before_event s)
-  acts : (s : State) (e : Event) → IsTyped e → IsPassed here config s → IsPassed here config (acted s e)
+  acts : (s : State) (e : Event) → IsTyped e → IsPassed here config s → IsPassed here config (act_of_event s e)
   lets_go : (s : State) → IsPassed here config s → IsPassed here config (let_go s)
   delivers : (s : State) (k : ℕ) → IsPassed here config s → IsPassed here config (deliver_first k s)
   orders : (s : State) (g : GroupNo) → IsPassed here config s → IsPassed here config (set_order s g)

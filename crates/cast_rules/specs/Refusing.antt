@@ -12,7 +12,7 @@ use Rattle.cast_events.specs.Session.{is_open}
 use Rattle.cast_types.specs.declared.names.DomainNo.{DomainNo}
 use Rattle.cast_rules.specs.State.{State}
 use Rattle.cast_rules.specs.History.{history}
-use Rattle.cast_rules.specs.Step.{acted, answered}
+use Rattle.cast_rules.specs.Step.{act_of_event, answer_of_event}
 use Rattle.cast_rules.specs.Rules.Commands.{join, leave, cast, pass_token}
 use Rattle.cast_rules.specs.Rules.Leaving.{Attempt, tell}
 
@@ -25,11 +25,11 @@ attempt s k (Pass tag g to) = pass_token history s k g to
 
 -- an event that is refused leaves the state as it was
 abbrev pub RefusedLeaves : Type 0
-RefusedLeaves = (s : State) (e : Event) (refusal : Refusal) → answered s e ≡ Refused refusal → acted s e ≡ s
+RefusedLeaves = (s : State) (e : Event) (refusal : Refusal) → answer_of_event s e ≡ Refused refusal → act_of_event s e ≡ s
 
 -- and a request that is refused, of an open session, leads to its reply alone, with what a full outbox makes of that
 abbrev pub RefusedReplies : Type 0
 RefusedReplies =
     (s : State) (d : DomainNo) (k : ℕ) (request : Request) (refusal : Refusal) →
     is_open (s.session k) ≡ true → (attempt s k request).1 ≡ Some refusal →
-    acted s (event.Command d k (command.Request request)) ≡ tell history s k (reply_to request (Some refusal))
+    act_of_event s (event.Command d k (command.Request request)) ≡ tell history s k (reply_to request (Some refusal))

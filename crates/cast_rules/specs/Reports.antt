@@ -5,19 +5,19 @@ use Rattle.std.specs.Option.{option_map_or}
 use Rattle.cast_types.specs.declared.names.GroupNo.{GroupNo}
 use Rattle.cast_types.specs.declared.names.Uid.{Uid}
 use Rattle.cast_types.specs.declared.limits.TheConstants.{MAX_POSITION, MAX_KEPT, MAX_PLACED}
-use Rattle.cast_types.specs.Names.{Entry, site_eq, entry_eq, entry_cmp, is_atomic, named, entry_of}
+use Rattle.cast_types.specs.Names.{Entry, site_eq, entry_eq, entry_cmp, is_atomic, uid_in, entry_of}
 use Rattle.cast_types.specs.Sets.{is_among, set_of}
 use Rattle.cast_types.specs.Counts.{CountList}
 use Rattle.cast_message.specs.declared.message.Message.{Message}
 use Rattle.cast_message.specs.Bodies.{kind_of}
 use Rattle.cast_message.specs.Tail.{Tail}
 use Rattle.cast_message.specs.KeptIds.{KeptList}
-use Rattle.cast_ready.specs.Ready.{has_delivered, covered}
+use Rattle.cast_ready.specs.Ready.{has_delivered, covered_entries}
 use Rattle.cast_order.specs.Order.{tail_start, tail_ids}
 use Rattle.cast_flush.specs.declared.report.Report.{Report}
 use Rattle.cast_view.specs.MemberSide.{report_of}
 use Rattle.cast_rules.specs.State.{State, serials, is_received, local_members}
-use Rattle.cast_rules.specs.Order.{is_of_view, order_told, holder_here, unlisted}
+use Rattle.cast_rules.specs.Order.{is_of_view, order_told, holder_here, unlisted_ids}
 
 -- Reports
 
@@ -31,7 +31,7 @@ had_in s g = map entry_of (filter (is_of_view s g) (had_here s))
 
 -- the ABCASTs that who holds the token has still to list, where it is a process of this site, also one that left
 abbrev pub unlisted_here : State → GroupNo → List Entry
-unlisted_here s g = option_map_or (unlisted s g) (holder_here s g) []
+unlisted_here s g = option_map_or (unlisted_ids s g) (holder_here s g) []
 
 -- the order of the view, and behind it those
 abbrev pub whole_order : State → GroupNo → List Entry
@@ -63,15 +63,15 @@ report_in s g =
 
 -- each member here has delivered a message of the group's view
 abbrev pub is_delivered_here : State → GroupNo → Entry → Bool
-is_delivered_here s g e = list_all (λ k. has_delivered (s.process k) (named g (s.group g).number e)) (local_members s g)
+is_delivered_here s g e = list_all (λ k. has_delivered (s.process k) (uid_in g (s.group g).number e)) (local_members s g)
 
 abbrev pub has_delivered_cut : State → GroupNo → CountList → Bool
-has_delivered_cut s g cut = list_all (is_delivered_here s g) (covered cut)
+has_delivered_cut s g cut = list_all (is_delivered_here s g) (covered_entries cut)
 
 -- some member here has not delivered it, and the site has not received it
 abbrev pub is_missing : State → GroupNo → Entry → Bool
-is_missing s g e = not (is_delivered_here s g e || is_received s (named g (s.group g).number e))
+is_missing s g e = not (is_delivered_here s g e || is_received s (uid_in g (s.group g).number e))
 
 -- the first of these within a cut
 abbrev pub missing_in : State → GroupNo → CountList → List Entry
-missing_in s g cut = take MAX_PLACED (filter (is_missing s g) (covered cut))
+missing_in s g cut = take MAX_PLACED (filter (is_missing s g) (covered_entries cut))

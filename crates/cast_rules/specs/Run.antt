@@ -9,7 +9,7 @@ use Rattle.cast_events.specs.declared.event.Taken.{Taken}
 use Rattle.cast_rules.specs.State.{State, opening}
 use Rattle.cast_types.specs.Repeat.{iterate}
 use Rattle.cast_rules.specs.Rest.{RestsAt, pass, let_go}
-use Rattle.cast_rules.specs.Step.{acted, answered}
+use Rattle.cast_rules.specs.Step.{act_of_event, answer_of_event}
 
 -- before an event nothing of it is sent, delivered or pushed
 abbrev pub before_event : State → State
@@ -17,11 +17,11 @@ before_event s = record s { frames = []; deliveries = []; pushes = [] }
 
 -- what an event does at once; what is free then is let go
 abbrev pub after_event : State → Event → State
-after_event s e = let_go (acted (before_event s) e)
+after_event s e = let_go (act_of_event (before_event s) e)
 
 -- an event takes s to t, with an answer. The frames sent, the deliveries and the entries pushed stand in t
 pub record IsStep (s : State) (e : Event) (answer : Taken) (t : State) : Type 0 where
-  pub answers : answer ≡ answered (before_event s) e
+  pub answers : answer ≡ answer_of_event (before_event s) e
   pub rests : RestsAt (after_event s e) t
 
 -- events take s to t, with an answer to each, with these frames sent, and with these entries pushed to sessions
@@ -53,7 +53,7 @@ abbrev pub ran_on : ℕ → Ran → Event → Ran
 ran_on n r e =
     let t : State = step_in n r.state e in
     record {
-      answers = r.answers ++ answered (before_event r.state) e ∷ [];
+      answers = r.answers ++ answer_of_event (before_event r.state) e ∷ [];
       sent = r.sent ++ t.frames;
       pushed = r.pushed ++ t.pushes;
       state = t;

@@ -23,7 +23,7 @@ use Rattle.cast_rules.specs.Acts.{Act}
 use Rattle.cast_rules.specs.Acts.Act.{Sent, Delivered, Left}
 use Rattle.cast_message.specs.declared.client.Push.{Push}
 use Rattle.cast_message.specs.declared.client.Push.TheVariants as push
-use Rattle.cast_events.specs.Session.{Session, no_session, is_open, is_gone, is_full, pushed_to, closed, taken_from}
+use Rattle.cast_events.specs.Session.{Session, no_session, is_open, is_gone, is_full, pushed_to, tell_end, taken_from}
 use Rattle.cast_quota.specs.declared.quotas.Quotas.{Quotas}
 use Rattle.cast_quota.specs.declared.quotas.QuotaName.{QuotaName}
 use Rattle.cast_quota.specs.Quotas.{with_quota}
@@ -143,8 +143,8 @@ acts_outside s k g = if is_member ((s.process k).standing g) then (noting_act s 
 abbrev pub outside : State → ℕ → GroupNo → State
 outside s k g = record (set_standing s k g Outside) { acts = acts_outside s k g }
 
-abbrev pub emitted : State → SiteNo → SiteFrame → State
-emitted s to f = record s { frames = s.frames ++ (to, f) ∷ [] }
+abbrev pub emit : State → SiteNo → SiteFrame → State
+emit s to f = record s { frames = s.frames ++ (to, f) ∷ [] }
 
 -- Sessions
 
@@ -167,7 +167,7 @@ pushing s k p = if is_open (s.session k) then with_push s k (pushed_to (s.sessio
 -- an open session is closed, and its program is told why
 abbrev pub closing : State → ℕ → Refusal → State
 closing s k refusal =
-    if is_open (s.session k) then with_push s k (closed refusal (s.session k)) (push.Closed refusal) else s
+    if is_open (s.session k) then with_push s k (tell_end refusal (s.session k)) (push.Closed refusal) else s
 
 -- the program of a session is gone, and so is its outbox
 abbrev pub going : State → ℕ → State
@@ -192,8 +192,8 @@ abbrev pub is_received : State → Uid → Bool
 is_received s u = list_any (λ m. uid_eq m.id u) s.got
 
 -- how many messages are kept, over all groups
-abbrev pub held : State → ℕ
-held s = length s.kept
+abbrev pub held_count : State → ℕ
+held_count s = length s.kept
 
 -- a message is received
 abbrev pub receiving : State → Message → State

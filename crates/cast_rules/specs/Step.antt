@@ -26,8 +26,8 @@ sessions_given = record {
   set_quota = setting_quota;
 }
 
-abbrev pub acted : State → Event → State
-acted = rules.acted history sessions_given
+abbrev pub act_of_event : State → Event → State
+act_of_event = rules.acted history sessions_given
 
-abbrev pub answered : State → Event → Taken
-answered = rules.answered history sessions_given
+abbrev pub answer_of_event : State → Event → Taken
+answer_of_event = rules.answered history sessions_given

@@ -29,8 +29,8 @@ use Rattle.cast_script.specs.declared.lines.Head.TheVariants.{Site, Domain, Open
 use Rattle.cast_script.specs.declared.lines.DomainOrEvent.{DomainOrEvent}
 use Rattle.cast_script.specs.declared.lines.DomainOrEvent.TheVariants as said
 use Rattle.cast_script.specs.Lines.{IsDomainAt, SpellsDomain, SpellsEvent, SpellsSite, cast_text, head_text, AreNumbers}
-use Rattle.cast_script.specs.Words.{IsSite, SpellsBytes, is_configured, parted, place_texts, quota_texts}
-use Rattle.cast_script.specs.LineReadings.{bad_words, behind_first, cast_words, domain_or_event_behind, domain_parts, domain_words, event_behind, first_event, frame_words, framed, gone_words, head_of, join_words, leave_words, next_domain, open_words, pass_words, quota_event_words, request_parts, requested, site_behind, site_words, suspect_words, take_words, tick_words}
+use Rattle.cast_script.specs.Words.{IsSite, SpellsBytes, is_configured, parts_at, place_texts, quota_texts}
+use Rattle.cast_script.specs.LineReadings.{bad_words, behind_first, cast_words, domain_or_event_behind, domain_parts, domain_words, event_behind, first_event, frame_words, frame_event, gone_words, head_of, join_words, leave_words, next_domain, open_words, pass_words, quota_event_words, request_parts, request_event, site_behind, site_words, suspect_words, take_words, tick_words}
 use Rattle.cast_script.specs.WordReadings.{◌>>=◌, bytes_of, domain_of, list_words, number_of, number_within, place_words, proc_of, quota_name_of, quota_words, group_of, site_of}
 use Rattle.cast_script.proofs.Results.{bind_ok, made_ok, ok_is, pass_ok}
 use Rattle.cast_script.proofs.Numbers.{limited_is, limited_again, number_is, number_again}
@@ -150,7 +150,7 @@ next_domain_is own before ws d e =
     let passed = pass_ok (ltb (length before) 16) Order (domain_words own before ws) d e in
     (domain_words_are own before ws d passed.1, ltb-true (length before) 16 passed.0)
 
-domain_words_again : (own : SiteNo) (before : List DomainConfig) (s g : List ℕ) (d : DomainConfig) → is_configured d.domain before ≡ false → parted 44 s ≡ map (λ x. decimal x.0) d.sites → parted 44 g ≡ map (λ x. decimal x.0) d.groups → IsDomainAt own d
+domain_words_again : (own : SiteNo) (before : List DomainConfig) (s g : List ℕ) (d : DomainConfig) → is_configured d.domain before ≡ false → parts_at 44 s ≡ map (λ x. decimal x.0) d.sites → parts_at 44 g ≡ map (λ x. decimal x.0) d.groups → IsDomainAt own d
     → domain_words own before (place_texts d.domain d.home ++ ((codes "sites" ∷ s ∷ codes "groups" ∷ g ∷ []) ++ quota_texts d.quotas)) ≡ Ok d
 unfolding domain_words domain_parts
 domain_words_again own before s g d new sites groups at =
@@ -180,7 +180,7 @@ open_is ws e h = absurd cc
 join_is : (ws : List (List ℕ)) (e : Event) → join_words ws ≡ Ok e → SpellsEvent (codes "join" ∷ ws) e
 unfolding join_words
 join_is (d ∷ k ∷ t ∷ g ∷ []) e h =
-    made_ok (request_parts d k t g) (λ p. requested p (request.Join p.tag p.group)) (SpellsEvent (codes "join" ∷ d ∷ k ∷ t ∷ g ∷ [])) e h (λ p read.
+    made_ok (request_parts d k t g) (λ p. request_event p (request.Join p.tag p.group)) (SpellsEvent (codes "join" ∷ d ∷ k ∷ t ∷ g ∷ [])) e h (λ p read.
     let are = parts_is d k t g p read in
     (cc (are.domain, are.serial, are.tag, are.group), are.numbers))
 join_is ws e h = absurd cc
@@ -188,7 +188,7 @@ join_is ws e h = absurd cc
 leave_is : (ws : List (List ℕ)) (e : Event) → leave_words ws ≡ Ok e → SpellsEvent (codes "leave" ∷ ws) e
 unfolding leave_words
 leave_is (d ∷ k ∷ t ∷ g ∷ []) e h =
-    made_ok (request_parts d k t g) (λ p. requested p (request.Leave p.tag p.group)) (SpellsEvent (codes "leave" ∷ d ∷ k ∷ t ∷ g ∷ [])) e h (λ p read.
+    made_ok (request_parts d k t g) (λ p. request_event p (request.Leave p.tag p.group)) (SpellsEvent (codes "leave" ∷ d ∷ k ∷ t ∷ g ∷ [])) e h (λ p read.
     let are = parts_is d k t g p read in
     (cc (are.domain, are.serial, are.tag, are.group), are.numbers))
 leave_is ws e h = absurd cc
@@ -198,7 +198,7 @@ unfolding cast_words
 cast_is how (d ∷ k ∷ t ∷ g ∷ x ∷ []) e h =
     let p = bind_ok (request_parts d k t g) _ e h in
     let are = parts_is d k t g p.0 p.1 in
-    made_ok (bytes_of x) (λ bytes. requested p.0 (request.Cast p.0.tag p.0.group how bytes)) (SpellsEvent (cast_text how ∷ d ∷ k ∷ t ∷ g ∷ x ∷ [])) e p.2 (λ bytes read.
+    made_ok (bytes_of x) (λ bytes. request_event p.0 (request.Cast p.0.tag p.0.group how bytes)) (SpellsEvent (cast_text how ∷ d ∷ k ∷ t ∷ g ∷ x ∷ [])) e p.2 (λ bytes read.
     (x, cc (are.domain, are.serial, are.tag, are.group), are.numbers, bytes_is x bytes read))
 cast_is how ws e h = absurd cc
 
@@ -207,7 +207,7 @@ unfolding pass_words
 pass_is (d ∷ k ∷ t ∷ g ∷ x ∷ []) e h =
     let p = bind_ok (request_parts d k t g) _ e h in
     let are = parts_is d k t g p.0 p.1 in
-    made_ok (proc_of x) (λ to. requested p.0 (request.Pass p.0.tag p.0.group to)) (SpellsEvent (codes "pass" ∷ d ∷ k ∷ t ∷ g ∷ x ∷ [])) e p.2 (λ to read.
+    made_ok (proc_of x) (λ to. request_event p.0 (request.Pass p.0.tag p.0.group to)) (SpellsEvent (codes "pass" ∷ d ∷ k ∷ t ∷ g ∷ x ∷ [])) e p.2 (λ to read.
     let is = proc_is x to read in
     (cc (are.domain, are.serial, are.tag, are.group, is.0), are.numbers, is.1))
 pass_is ws e h = absurd cc
@@ -232,7 +232,7 @@ gone_is (w ∷ k ∷ []) e h =
     (cc (is.0, serial.0), is.1, omega (arith, serial.1.1)))
 gone_is ws e h = absurd cc
 
-framed_is : (r : Result (DomainNo × SiteNo × SiteFrame) FrameFault) (e : Event) → framed r ≡ Ok e → (x : DomainNo × SiteNo × SiteFrame) × (r ≡ Ok x) × (event.Frame x.0 x.1 x.2 ≡ e)
+framed_is : (r : Result (DomainNo × SiteNo × SiteFrame) FrameFault) (e : Event) → frame_event r ≡ Ok e → (x : DomainNo × SiteNo × SiteFrame) × (r ≡ Ok x) × (event.Frame x.0 x.1 x.2 ≡ e)
 framed_is (Ok x) e h = (x, refl, ok_is Reason (event.Frame x.0 x.1 x.2) e h)
 framed_is (Err f) e h = absurd cc
 

@@ -20,8 +20,8 @@ use Rattle.cast_quota.specs.declared.quotas.QuotaName.TheVariants as name
 use Rattle.cast_events.specs.declared.config.DomainConfig.{DomainConfig}
 use Rattle.cast_script.specs.declared.words.Reason.{Reason}
 use Rattle.cast_script.specs.declared.words.Reason.TheVariants.{UnknownWord, BadNumber, BadHex, Order}
-use Rattle.cast_script.specs.Words.{AreWithinLimits, IsDomain, IsGroup, IsSite, SpellsBytes, SpellsGroups, SpellsSites, groups_rise, is_configured, parted, place_texts, quota_name_text, quota_texts, sites_rise, texts}
-use Rattle.cast_script.specs.WordReadings.{bytes_of, checked_groups, checked_sites, decoded, domain_of, each, fixed_of, group_of, groups_of, list_words, new_domain_of, number_within, place_words, quota_name_of, quota_names, quota_words, site_of, sites_of}
+use Rattle.cast_script.specs.Words.{AreWithinLimits, IsDomain, IsGroup, IsSite, SpellsBytes, SpellsGroups, SpellsSites, groups_rise, is_configured, parts_at, place_texts, quota_name_text, quota_texts, sites_rise, texts}
+use Rattle.cast_script.specs.WordReadings.{bytes_of, checked_groups, checked_sites, bytes_or_reason, domain_of, each, fixed_of, group_of, groups_of, list_words, new_domain_of, number_within, place_words, quota_name_of, quota_names, quota_words, site_of, sites_of}
 use Rattle.cast_script.proofs.Results.{bind_ok, guard_ok, made_ok, ok_is, pass_ok}
 use Rattle.cast_script.proofs.Each.{each_read, each_again}
 use Rattle.cast_script.proofs.Named.{among_is, none_among}
@@ -127,15 +127,15 @@ placed_again h o sites are =
 pub sites_is : (h o : SiteNo) (w : List ℕ) (sites : List SiteNo) → sites_of h o w ≡ Ok sites → AreSites h o w sites
 unfolding sites_of
 sites_is h o w sites e =
-    let all = bind_ok (each site_of (parted 44 w)) _ sites e in
+    let all = bind_ok (each site_of (parts_at 44 w)) _ sites e in
     let placed = placed_is h o all.0 sites all.2 in
-    let read = each_read site_of (λ s. decimal s.0) IsSite site_is (parted 44 w) sites (all.1 ∙ ap (λ (ss : List SiteNo). Ok ss) placed.0) in
+    let read = each_read site_of (λ s. decimal s.0) IsSite site_is (parts_at 44 w) sites (all.1 ∙ ap (λ (ss : List SiteNo). Ok ss) placed.0) in
     record { spelled = read.0; named = read.1; few = placed.1.few; rising = placed.1.rising; home = placed.1.home; own = placed.1.own }
 
 pub sites_again : (h o : SiteNo) (w : List ℕ) (sites : List SiteNo) → AreSites h o w sites → sites_of h o w ≡ Ok sites
 unfolding sites_of
 sites_again h o w sites are =
-    let read : each site_of (parted 44 w) ≡ Ok sites = ap (each site_of) are.spelled ∙ each_again site_of (λ s. decimal s.0) IsSite site_again sites are.named in
+    let read : each site_of (parts_at 44 w) ≡ Ok sites = ap (each site_of) are.spelled ∙ each_again site_of (λ s. decimal s.0) IsSite site_again sites are.named in
     rw read (placed_again h o sites (record { few = are.few; rising = are.rising; home = are.home; own = are.own }))
 
 counted_is : (all groups : List GroupNo) → checked_groups all ≡ Ok groups → (all ≡ groups) × (1 ≤ length groups) × (length groups ≤ 32) × IsTrue (groups_rise groups)
@@ -152,9 +152,9 @@ counted_is all groups e =
 pub groups_is : (w : List ℕ) (groups : List GroupNo) → groups_of w ≡ Ok groups → AreGroups w groups
 unfolding groups_of
 groups_is w groups e =
-    let all = bind_ok (each group_of (parted 44 w)) _ groups e in
+    let all = bind_ok (each group_of (parts_at 44 w)) _ groups e in
     let counted = counted_is all.0 groups all.2 in
-    let read = each_read group_of (λ g. decimal g.0) IsGroup group_is (parted 44 w) groups (all.1 ∙ ap (λ (gs : List GroupNo). Ok gs) counted.0) in
+    let read = each_read group_of (λ g. decimal g.0) IsGroup group_is (parts_at 44 w) groups (all.1 ∙ ap (λ (gs : List GroupNo). Ok gs) counted.0) in
     record { spelled = read.0; named = read.1; some = counted.1; few = counted.2; rising = counted.3 }
 
 counted_again : (groups : List GroupNo) → 1 ≤ length groups → length groups ≤ 32 → IsTrue (groups_rise groups) → checked_groups groups ≡ Ok groups
@@ -166,7 +166,7 @@ counted_again groups some few rises =
 pub groups_again : (w : List ℕ) (groups : List GroupNo) → AreGroups w groups → groups_of w ≡ Ok groups
 unfolding groups_of
 groups_again w groups are =
-    let read : each group_of (parted 44 w) ≡ Ok groups = ap (each group_of) are.spelled ∙ each_again group_of (λ g. decimal g.0) IsGroup group_again groups are.named in
+    let read : each group_of (parts_at 44 w) ≡ Ok groups = ap (each group_of) are.spelled ∙ each_again group_of (λ g. decimal g.0) IsGroup group_again groups are.named in
     rw read (counted_again groups are.some are.few are.rising)
 
 -- ---- names of quotas
@@ -196,7 +196,7 @@ pub fixed_again : (fixed : List ℕ) → fixed_of fixed fixed ≡ Ok tt
 unfolding fixed_of
 fixed_again fixed = cond-true (bytes_eq fixed fixed) (Ok tt) (Err UnknownWord) ((bytes_eq-Decides fixed fixed).1 refl)
 
-decoded_is : (r : Result (List ℕ) FromHexError) (bytes : List ℕ) → decoded r ≡ Ok bytes → r ≡ Ok bytes
+decoded_is : (r : Result (List ℕ) FromHexError) (bytes : List ℕ) → bytes_or_reason r ≡ Ok bytes → r ≡ Ok bytes
 decoded_is (Ok bs) bytes e = cc
 decoded_is (Err d) bytes e = absurd cc
 
@@ -209,7 +209,7 @@ bytes_is w bytes e =
           inl ((bytes_eq-Decides w (codes "-")).0 dash, sym (ok_is Reason [] bytes (sym (cond-true (bytes_eq w (codes "-")) none _ dash) ∙ e)))
       | inr other ↦
           let none : Result (List ℕ) Reason = Ok [] in
-          let long = guard_ok (eqb (length w) 0) BadHex (decoded (decode_of w)) bytes (sym (cond-false (bytes_eq w (codes "-")) none _ other) ∙ e) in
+          let long = guard_ok (eqb (length w) 0) BadHex (bytes_or_reason (decode_of w)) bytes (sym (cond-false (bytes_eq w (codes "-")) none _ other) ∙ e) in
           inr (λ empty. eqb-false (length w) 0 long.0 (ap length empty), decoded_is (decode_of w) bytes long.1)
     ]
 

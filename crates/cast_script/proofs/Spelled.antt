@@ -12,7 +12,7 @@ use Rattle.cast_script.specs.declared.script.Script.{Script}
 use Rattle.cast_script.specs.declared.script.ScriptFault.{ScriptFault}
 use Rattle.cast_script.specs.Scripts.{HasDomains, SpellsParts, SpellsScript, are_distinct, used_lines_of}
 use Rattle.cast_script.specs.Lines.{IsDomainAt, SpellsEvent, SpellsSite, words_of}
-use Rattle.cast_script.specs.Words.{IsBetween, parted}
+use Rattle.cast_script.specs.Words.{IsBetween, parts_at}
 use Rattle.cast_script.specs.Readings.{GivesAt, Numbered, at_line, domain_or_event_at, domains_on, event_at, events_from, events_on, no_events, script_of, site_at, site_on}
 use Rattle.cast_script.specs.LineReadings.{domain_or_event, event_line, site_line}
 use Rattle.cast_script.specs.WordReadings.{each}
@@ -164,13 +164,13 @@ script_again end (l ∷ lines) own domains events spells =
 
 pub read_is_spelled : ReadIsSpelled
 unfolding script_of
-read_is_spelled text s h = subst (λ lines. SpellsScript lines s) (used_texts 1 (parted 10 text)) (script_is _ (used_from 1 (parted 10 text)) s h)
+read_is_spelled text s h = subst (λ lines. SpellsScript lines s) (used_texts 1 (parts_at 10 text)) (script_is _ (used_from 1 (parts_at 10 text)) s h)
 
 pub spelled_is_read : SpelledIsRead
 unfolding script_of
 spelled_is_read text s spells =
-    script_again _ (used_from 1 (parted 10 text)) s.config.site s.config.domains s.events
-    (subst (λ lines. SpellsScript lines s) (sym (used_texts 1 (parted 10 text))) spells)
+    script_again _ (used_from 1 (parts_at 10 text)) s.config.site s.config.domains s.events
+    (subst (λ lines. SpellsScript lines s) (sym (used_texts 1 (parts_at 10 text))) spells)
 
 -- the domains of a script are within their limits
 all_within : (own : SiteNo) (lines : List (List ℕ)) (ds : List DomainConfig) (events : List Event) → SpellsParts own lines ds events → AllByRecursion (IsDomainAt own) ds

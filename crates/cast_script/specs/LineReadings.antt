@@ -74,8 +74,8 @@ request_parts domain serial tag group = do
   Ok (record { domain = d; serial = k; tag = t; group = g })
 
 -- a request with these parts
-abbrev pub requested : RequestParts → Request → Event
-requested parts r = event.Command parts.domain parts.serial (command.Request r)
+abbrev pub request_event : RequestParts → Request → Event
+request_event parts r = event.Command parts.domain parts.serial (command.Request r)
 
 -- `open D`
 unfoldable pub open_words : List (List ℕ) → Result Event Reason
@@ -88,14 +88,14 @@ open_words words = Err WrongCount
 unfoldable pub join_words : List (List ℕ) → Result Event Reason
 join_words (domain ∷ serial ∷ tag ∷ group ∷ []) = do
   parts ← request_parts domain serial tag group
-  Ok (requested parts (request.Join parts.tag parts.group))
+  Ok (request_event parts (request.Join parts.tag parts.group))
 join_words words = Err WrongCount
 
 -- `leave D K TAG G`
 unfoldable pub leave_words : List (List ℕ) → Result Event Reason
 leave_words (domain ∷ serial ∷ tag ∷ group ∷ []) = do
   parts ← request_parts domain serial tag group
-  Ok (requested parts (request.Leave parts.tag parts.group))
+  Ok (request_event parts (request.Leave parts.tag parts.group))
 leave_words words = Err WrongCount
 
 -- `cast D K TAG G HEX` or `abcast D K TAG G HEX`
@@ -103,7 +103,7 @@ unfoldable pub cast_words : CastKind → List (List ℕ) → Result Event Reason
 cast_words how (domain ∷ serial ∷ tag ∷ group ∷ hex ∷ []) = do
   parts ← request_parts domain serial tag group
   payload ← bytes_of hex
-  Ok (requested parts (request.Cast parts.tag parts.group how payload))
+  Ok (request_event parts (request.Cast parts.tag parts.group how payload))
 cast_words how words = Err WrongCount
 
 -- `pass D K TAG G P`
@@ -111,7 +111,7 @@ unfoldable pub pass_words : List (List ℕ) → Result Event Reason
 pass_words (domain ∷ serial ∷ tag ∷ group ∷ to ∷ []) = do
   parts ← request_parts domain serial tag group
   p ← proc_of to
-  Ok (requested parts (request.Pass parts.tag parts.group p))
+  Ok (request_event parts (request.Pass parts.tag parts.group p))
 pass_words words = Err WrongCount
 
 -- `bad D K`
@@ -130,15 +130,15 @@ gone_words (domain ∷ serial ∷ []) = do
   Ok (event.Gone d k)
 gone_words words = Err WrongCount
 
-abbrev pub framed : Result (DomainNo × SiteNo × SiteFrame) FrameFault → Result Event Reason
-framed (Ok x) = Ok (event.Frame x.0 x.1 x.2)
-framed (Err e) = Err BadFrame
+abbrev pub frame_event : Result (DomainNo × SiteNo × SiteFrame) FrameFault → Result Event Reason
+frame_event (Ok x) = Ok (event.Frame x.0 x.1 x.2)
+frame_event (Err e) = Err BadFrame
 
 -- `frame HEX`
 unfoldable pub frame_words : List (List ℕ) → Result Event Reason
 frame_words (hex ∷ []) = do
   bytes ← bytes_of hex
-  framed (site_frame_of bytes)
+  frame_event (site_frame_of bytes)
 frame_words words = Err WrongCount
 
 -- `suspect D S`

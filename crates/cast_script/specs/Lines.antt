@@ -17,7 +17,7 @@ use Rattle.cast_types.specs.declared.names.GroupNo.{GroupNo}
 use Rattle.cast_script.specs.declared.lines.Head.{Head}
 use Rattle.cast_script.specs.declared.lines.Head.TheVariants.{Site, Domain, Open, Join, Leave, Cast, Abcast, Pass, Bad, Gone, Frame, Suspect, Quota, Take, Tick}
 use Rattle.cast_events.specs.declared.config.DomainConfig.{DomainConfig}
-use Rattle.cast_script.specs.Words.{sites_rise, groups_rise, IsBetween, IsDomain, IsSite, IsGroup, IsNumber, IsProc, AreWithinLimits, parted, proc_text, SpellsBytes, place_texts, SpellsLists, quota_name_text, quota_texts}
+use Rattle.cast_script.specs.Words.{sites_rise, groups_rise, IsBetween, IsDomain, IsSite, IsGroup, IsNumber, IsProc, AreWithinLimits, parts_at, proc_text, SpellsBytes, place_texts, SpellsLists, quota_name_text, quota_texts}
 
 -- a domain within its limits, at this site
 pub record IsDomainAt (own : SiteNo) (d : DomainConfig) : Type 0 where
@@ -34,7 +34,7 @@ pub record IsDomainAt (own : SiteNo) (d : DomainConfig) : Type 0 where
 
 -- the words of a line, parted by one space each
 abbrev pub words_of : List ℕ → List (List ℕ)
-words_of line = parted 32 line
+words_of line = parts_at 32 line
 
 -- the first word of a line
 abbrev pub head_text : Head → List ℕ

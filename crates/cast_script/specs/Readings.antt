@@ -14,7 +14,7 @@ use Rattle.cast_script.specs.declared.script.ScriptFault.{ScriptFault}
 use Rattle.cast_script.specs.declared.script.ScriptFault.TheVariants as script
 use Rattle.cast_script.specs.declared.script.Line.{Line}
 use Rattle.cast_script.specs.Scripts.{is_used}
-use Rattle.cast_script.specs.Words.{parted}
+use Rattle.cast_script.specs.Words.{parts_at}
 use Rattle.cast_script.specs.WordReadings.{◌>>=◌, each}
 use Rattle.cast_script.specs.LineReadings.{site_line, domain_or_event, event_line}
 
@@ -101,4 +101,4 @@ site_on end (line ∷ lines) = do
 
 -- the script that a text is, or the number of the first line with a fault, from 1 on, and the reason
 unfoldable pub script_of : List ℕ → Result Script (ℕ × Reason)
-script_of text = site_on (end_after 1 (parted 10 text)) (used_of (parted 10 text))
+script_of text = site_on (end_after 1 (parts_at 10 text)) (used_of (parts_at 10 text))

@@ -9,7 +9,7 @@ use Rattle.cast_events.specs.declared.config.DomainConfig.{DomainConfig}
 use Rattle.cast_events.specs.declared.config.Config.{Config}
 use Rattle.cast_events.specs.declared.event.Event.{Event}
 use Rattle.cast_script.specs.Lines.{IsDomainAt, words_of, SpellsSite, SpellsDomain, SpellsEvent}
-use Rattle.cast_script.specs.Words.{IsBetween, is_configured, parted}
+use Rattle.cast_script.specs.Words.{IsBetween, is_configured, parts_at}
 
 -- no two domains have one number
 abbrev pub are_distinct : List DomainConfig → Bool
@@ -33,7 +33,7 @@ is_used (c ∷ cs) = not (c == 35)
 
 -- the lines that are neither empty nor comments
 abbrev pub used_lines_of : List ℕ → List (List ℕ)
-used_lines_of text = filter is_used (parted 10 text)
+used_lines_of text = filter is_used (parts_at 10 text)
 
 -- these lines spell domains at a site, one line for each, and then events, one line for each
 abbrev pub SpellsParts : SiteNo → List (List ℕ) → List DomainConfig → List Event → Type 0

@@ -18,7 +18,7 @@ use Rattle.cast_script.specs.declared.words.Reason.{Reason}
 use Rattle.cast_script.specs.declared.words.Reason.TheVariants.{UnknownWord, WrongCount, BadNumber, BadHex, Order}
 use Rattle.cast_script.specs.declared.words.LineFault.{LineFault}
 use Rattle.cast_script.specs.declared.words.LineFault.TheVariants as fault
-use Rattle.cast_script.specs.Words.{groups_rise, is_configured, parted, quota_name_text, sites_rise}
+use Rattle.cast_script.specs.Words.{groups_rise, is_configured, parts_at, quota_name_text, sites_rise}
 
 infixl 10 ◌>>=◌
 abbrev pub ◌>>=◌ : {A B E : Type 0} → Result A E → (A → Result B E) → Result B E
@@ -107,7 +107,7 @@ checked_sites home own sites =
 
 unfoldable pub sites_of : SiteNo → SiteNo → List ℕ → Result (List SiteNo) Reason
 sites_of home own word = do
-  sites ← each site_of (parted 44 word)
+  sites ← each site_of (parts_at 44 word)
   checked_sites home own sites
 
 -- 1 to 32 groups, which rise
@@ -119,7 +119,7 @@ checked_groups groups =
 
 unfoldable pub groups_of : List ℕ → Result (List GroupNo) Reason
 groups_of word = do
-  groups ← each group_of (parted 44 word)
+  groups ← each group_of (parts_at 44 word)
   checked_groups groups
 
 -- which of these a word names
@@ -138,16 +138,16 @@ quota_name_of word = named_among quota_name_text quota_names word
 unfoldable pub fixed_of : List ℕ → List ℕ → Result (Unit {0}) Reason
 fixed_of fixed word = if bytes_eq word fixed then Ok tt else Err UnknownWord
 
-abbrev pub decoded : Result (List ℕ) FromHexError → Result (List ℕ) Reason
-decoded (Ok bytes) = Ok bytes
-decoded (Err e) = Err BadHex
+abbrev pub bytes_or_reason : Result (List ℕ) FromHexError → Result (List ℕ) Reason
+bytes_or_reason (Ok bytes) = Ok bytes
+bytes_or_reason (Err e) = Err BadHex
 
 -- the bytes of hexadecimal digits, of which there are some; `-` has none
 unfoldable pub bytes_of : List ℕ → Result (List ℕ) Reason
 bytes_of word =
     if bytes_eq word (codes "-") then Ok []
     else if length word == 0 then Err BadHex
-    else decoded (decode_of word)
+    else bytes_or_reason (decode_of word)
 
 -- `D home S`, where these domains stand before
 unfoldable pub place_words : List DomainConfig → List (List ℕ) → Result (DomainNo × SiteNo) Reason

@@ -59,8 +59,8 @@ pub record AreWithinLimits (q : Quotas) : Type 0 where
   pub resend : IsBetween 10 60000 q.resend
 
 -- a text's parts, parted by a byte
-abbrev pub parted : ℕ → List ℕ → List (List ℕ)
-parted by text = slice_split (λ b. b == by) text
+abbrev pub parts_at : ℕ → List ℕ → List (List ℕ)
+parts_at by text = slice_split (λ b. b == by) text
 
 -- the texts of words
 abbrev pub texts : List (Bor (List ℕ)) → List (List ℕ)
@@ -76,11 +76,11 @@ proc_text p = decimal p.site.0 ++ (codes "." ++ decimal p.serial)
 
 -- a word spells sites, parted by commas
 abbrev pub SpellsSites : List ℕ → List SiteNo → Type 0
-SpellsSites word sites = parted 44 word ≡ map (λ s. decimal s.0) sites
+SpellsSites word sites = parts_at 44 word ≡ map (λ s. decimal s.0) sites
 
 -- a word spells groups, parted by commas
 abbrev pub SpellsGroups : List ℕ → List GroupNo → Type 0
-SpellsGroups word groups = parted 44 word ≡ map (λ g. decimal g.0) groups
+SpellsGroups word groups = parts_at 44 word ≡ map (λ g. decimal g.0) groups
 
 -- the word that names a quota
 abbrev pub quota_name_text : QuotaName → List ℕ

@@ -1,7 +1,7 @@
 ghost use Rattle.std.specs.Prelude.{◌≡◌};
 ghost use Rattle.cast_script.specs.Words.{texts};
 ghost use Rattle.cast_script.specs.WordReadings.{Gives};
-ghost use Rattle.cast_script.specs.LineReadings.{bad_words, cast_words, frame_words, gone_words, join_words, leave_words, open_words, pass_words, quota_event_words, request_parts, requested, suspect_words, take_words, tick_words};
+ghost use Rattle.cast_script.specs.LineReadings.{bad_words, cast_words, frame_words, gone_words, join_words, leave_words, open_words, pass_words, quota_event_words, request_parts, request_event, suspect_words, take_words, tick_words};
 
 use crate::words::{
     LineFault, Reason, bytes_word, domain_word, group_word, long_number, number, proc_word,
@@ -26,7 +26,7 @@ struct RequestParts {
 impl RequestParts {
     // The event that is a request with these parts.
     fn event(self, request: Request) -> Event
-        ensures { result ≡ requested self request }
+        ensures { result ≡ request_event self request }
     {
         Event::Command {
             domain: self.domain,

@@ -1,5 +1,5 @@
 ghost use Rattle.std.specs.Prelude.{◌≡◌, [], IfOk, filter, map};
-ghost use Rattle.cast_script.specs.Words.{parted, texts};
+ghost use Rattle.cast_script.specs.Words.{parts_at, texts};
 ghost use Rattle.cast_script.specs.Scripts.{HasDomains, is_used as is_used_text};
 ghost use Rattle.cast_script.specs.Readings.{GivesAt, domain_or_event_at, domains_on, end_after, event_at, events_from, events_on, fault_at, no_events, numbered_line, script_of, site_at, site_on, used_of};
 ghost use Rattle.cast_script.specs.declared.words.Reason.TheVariants.{Order};
@@ -216,7 +216,7 @@ fn events_from(alloc: Global, first: Event, lines: &[Line<'_>]) -> Result<List<E
 
 // The lines of a text. What stands behind the last line feed is one of them, though it may be empty.
 fn lines_of(alloc: Global, text: &str) -> Result<Vec<&str>, NoMemory>
-    ensures { IfOk result (λ lines. texts lines.items ≡ parted 10 text.now) }
+    ensures { IfOk result (λ lines. texts lines.items ≡ parts_at 10 text.now) }
 {
     text.split('\n').collect(alloc)
 }

@@ -1,5 +1,5 @@
 ghost use Rattle.std.specs.Prelude.{◌≡◌, ◌≢◌, ◌≤◌, ◌<◌, ◌⊎◌, IfOk, IsTrue, false, length, slice_index};
-ghost use Rattle.cast_script.specs.Words.{groups_rise as are_rising_groups, parted, sites_rise as are_rising_sites, texts};
+ghost use Rattle.cast_script.specs.Words.{groups_rise as are_rising_groups, parts_at, sites_rise as are_rising_sites, texts};
 ghost use Rattle.cast_script.specs.WordReadings.{GivesAs, bytes_of, domain_of, each, fixed_of, group_of, number_of, number_within, proc_of, quota_name_of, site_and_serial, site_of};
 ghost use Rattle.cast_script.specs.Reasons.{reason_text};
 ghost use Rattle.cast_script.specs.declared.words.LineFault.TheVariants.{Refused, NoMemory};
@@ -169,14 +169,14 @@ fn site_and_serial(site: &str, serial: &str) -> Result<Proc, Reason>
 
 // The pieces of a word, parted by commas.
 fn pieces_of(alloc: Global, word: &str) -> Result<Vec<&str>, AllocError>
-    ensures { IfOk result (λ pieces. texts pieces.items ≡ parted 44 word.now) }
+    ensures { IfOk result (λ pieces. texts pieces.items ≡ parts_at 44 word.now) }
 {
     word.split(',').collect(alloc)
 }
 
 /// Numbers of sites, parted by commas.
 pub fn site_list(alloc: Global, word: &str) -> Result<Vec<SiteNo>, LineFault>
-    ensures { GivesAs (λ sites. sites.items) result (each site_of (parted 44 word.now)) }
+    ensures { GivesAs (λ sites. sites.items) result (each site_of (parts_at 44 word.now)) }
 {
     let pieces = pieces_of(alloc, word)?;
     let mut sites = Vec::new(alloc);
@@ -188,7 +188,7 @@ pub fn site_list(alloc: Global, word: &str) -> Result<Vec<SiteNo>, LineFault>
 
 /// Numbers of groups, parted by commas.
 pub fn group_list(alloc: Global, word: &str) -> Result<Vec<GroupNo>, LineFault>
-    ensures { GivesAs (λ groups. groups.items) result (each group_of (parted 44 word.now)) }
+    ensures { GivesAs (λ groups. groups.items) result (each group_of (parts_at 44 word.now)) }
 {
     let pieces = pieces_of(alloc, word)?;
     let mut groups = Vec::new(alloc);

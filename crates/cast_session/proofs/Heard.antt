@@ -13,7 +13,7 @@ use Rattle.cast_message.specs.declared.client.Command.TheVariants.{Request}
 use Rattle.cast_client.specs.Reading.{client_of}
 use Rattle.cast_client.proofs.Stays.{frame_is_there, length_fits, frame_stays, fault_stays}
 use Rattle.cast_device.specs.Writing.{IsBeginning}
-use Rattle.cast_session.specs.Commands.{Heard, nothing, and_then, heard, commands_within, commands_of}
+use Rattle.cast_session.specs.Commands.{Heard, nothing, and_then, heard_of, commands_within, commands_of}
 use Rattle.cast_session.proofs.Fronts.{no_front}
 use Rattle.cast_session.specs.Laws.{CommandsStay, FaultEnds, RequestsThenBad, bad_for}
 
@@ -30,7 +30,7 @@ behind bytes f n e =
 
 -- ---- all that is heard is what the first frame says, and then what is heard behind it
 
-same_heard : (read : Result ClientRead FrameFault) (a b : ℕ → Heard) → ((f : ClientFrame) (n : ℕ) → read ≡ Ok (Frame f n) → a n ≡ b n) → heard read a ≡ heard read b
+same_heard : (read : Result ClientRead FrameFault) (a b : ℕ → Heard) → ((f : ClientFrame) (n : ℕ) → read ≡ Ok (Frame f n) → a n ≡ b n) → heard_of read a ≡ heard_of read b
 same_heard (Ok (Frame (client.Request r) n)) a b same = ap (and_then (Request r ∷ [])) (same (client.Request r) n refl)
 same_heard (Ok (Frame (client.Push p) n)) a b same = refl
 same_heard (Ok (More n)) a b same = refl
@@ -47,15 +47,15 @@ enough (suc i) (suc j) bytes p q =
     same_heard (client_of bytes) (λ n. commands_within i (drop n bytes)) (λ n. commands_within j (drop n bytes))
     (λ f n e. let left = behind bytes f n e in enough i j (drop n bytes) (left.shorter i p) (left.shorter j q))
 
-pub by_the_first : (bytes : List ℕ) → commands_of bytes ≡ heard (client_of bytes) (λ n. commands_of (drop n bytes))
+pub by_the_first : (bytes : List ℕ) → commands_of bytes ≡ heard_of (client_of bytes) (λ n. commands_of (drop n bytes))
 unfolding commands_of commands_within
 by_the_first [] = rw no_front refl
 by_the_first (b ∷ bytes) =
     same_heard (client_of (b ∷ bytes)) (λ n. commands_within (length bytes) (drop n (b ∷ bytes))) (λ n. commands_of (drop n (b ∷ bytes)))
     (λ f n e. let left = behind (b ∷ bytes) f n e in enough (length bytes) (length (drop n (b ∷ bytes))) (drop n (b ∷ bytes)) (left.shorter (length bytes) (omega arith)) (omega arith))
 
-pub by_what_stands : (bytes : List ℕ) (read : Result ClientRead FrameFault) → client_of bytes ≡ read → commands_of bytes ≡ heard read (λ n. commands_of (drop n bytes))
-by_what_stands bytes read e = by_the_first bytes ∙ ap (λ (r : Result ClientRead FrameFault). heard r (λ n. commands_of (drop n bytes))) e
+pub by_what_stands : (bytes : List ℕ) (read : Result ClientRead FrameFault) → client_of bytes ≡ read → commands_of bytes ≡ heard_of read (λ n. commands_of (drop n bytes))
+by_what_stands bytes read e = by_the_first bytes ∙ ap (λ (r : Result ClientRead FrameFault). heard_of r (λ n. commands_of (drop n bytes))) e
 
 -- a whole request, and whatever comes behind it
 pub request_first : (bytes rest : List ℕ) (r : Asked) → client_of bytes ≡ Ok (Frame (client.Request r) (length bytes)) → commands_of (bytes ++ rest) ≡ and_then (Request r ∷ []) (commands_of rest)

@@ -27,16 +27,16 @@ and_then commands behind = record { commands = commands ++ behind.commands; faul
 
 -- by what stands at the front: a request, and then what is heard behind it; a push and a fault end it, and a part of a
 -- frame says nothing
-abbrev pub heard : Result ClientRead FrameFault → (ℕ → Heard) → Heard
-heard (Ok (Frame (client.Request r) n)) behind = and_then (Request r ∷ []) (behind n)
-heard (Ok (Frame (client.Push p) n)) behind = only_bad WrongType
-heard (Ok (More n)) behind = nothing
-heard (Err e) behind = only_bad e
+abbrev pub heard_of : Result ClientRead FrameFault → (ℕ → Heard) → Heard
+heard_of (Ok (Frame (client.Request r) n)) behind = and_then (Request r ∷ []) (behind n)
+heard_of (Ok (Frame (client.Push p) n)) behind = only_bad WrongType
+heard_of (Ok (More n)) behind = nothing
+heard_of (Err e) behind = only_bad e
 
 -- of at most so many frames
 unfoldable pub commands_within : ℕ → List ℕ → Heard
 commands_within zero bytes = nothing
-commands_within (suc frames) bytes = heard (client_of bytes) (λ n. commands_within frames (drop n bytes))
+commands_within (suc frames) bytes = heard_of (client_of bytes) (λ n. commands_within frames (drop n bytes))
 
 -- of all frames, each of which has a byte at least
 unfoldable pub commands_of : List ℕ → Heard

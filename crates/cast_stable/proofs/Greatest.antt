@@ -8,7 +8,7 @@ use Rattle.cast_types.specs.declared.names.SiteNo.{SiteNo}
 use Rattle.cast_types.specs.declared.names.GroupNo.{GroupNo}
 use Rattle.cast_types.specs.declared.names.Proc.{Proc}
 use Rattle.cast_types.specs.declared.names.Uid.{Uid}
-use Rattle.cast_types.specs.Names.{site_eq, uid_eq, named}
+use Rattle.cast_types.specs.Names.{site_eq, uid_eq, uid_in}
 use Rattle.cast_types.proofs.Orders.{same_uid}
 use Rattle.cast_stable.specs.Stable.{Acked, has_acked, greatest_acked, acked_from, stable_upto, IsStableUpto}
 use Rattle.cast_stable.proofs.Lists.{each_passes, some_fails}
@@ -27,10 +27,10 @@ none_beyond (a ∷ acks) u s beyond =
 
 module _ (acks : List Acked) (sites : List SiteNo) (g : GroupNo) (view : ℕ) (p : Proc) where
   abbrev all_have : ℕ → Bool
-  all_have k = list_all (has_acked acks (named g view (p, k))) sites
+  all_have k = list_all (has_acked acks (uid_in g view (p, k))) sites
 
   abbrev from : ℕ → ℕ → ℕ
-  from most n = acked_from most acks sites (named g view (p, n))
+  from most n = acked_from most acks sites (uid_in g view (p, n))
 
   -- each site has acknowledged what is counted
   counted : (most n k : ℕ) → n < k → k ≤ from most n → all_have k ≡ true
@@ -59,16 +59,16 @@ module _ (acks : List Acked) (sites : List SiteNo) (g : GroupNo) (view : ℕ) (p
   -- the number of stable messages is the greatest one
   pub stable_greatest : sites ≢ [] → IsStableUpto acks sites g view p (stable_upto acks sites g view p)
   stable_greatest some = record {
-    all = λ s k in_sites low high. each_passes (has_acked acks (named g view (p, k))) sites s (counted (greatest_acked acks) 0 k low high) in_sites;
+    all = λ s k in_sites low high. each_passes (has_acked acks (uid_in g view (p, k))) sites s (counted (greatest_acked acks) 0 k low high) in_sites;
     next = elim (next_lacks (greatest_acked acks) 0) [
-      | inl lacks ↦ some_fails (has_acked acks (named g view (p, from (greatest_acked acks) 0 + 1))) sites lacks
+      | inl lacks ↦ some_fails (has_acked acks (uid_in g view (p, from (greatest_acked acks) 0 + 1))) sites lacks
       | inr bound ↦ at_bound sites some bound
     ];
   }
     where
-      at_bound : (others : List SiteNo) → others ≢ [] → from (greatest_acked acks) 0 ≡ 0 + greatest_acked acks → (s : SiteNo) × Contains others s × (has_acked acks (named g view (p, from (greatest_acked acks) 0 + 1)) s ≡ false)
+      at_bound : (others : List SiteNo) → others ≢ [] → from (greatest_acked acks) 0 ≡ 0 + greatest_acked acks → (s : SiteNo) × Contains others s × (has_acked acks (uid_in g view (p, from (greatest_acked acks) 0 + 1)) s ≡ false)
       at_bound [] some bound = absurd (some refl)
-      at_bound (s ∷ others) some bound = (s, contains_here s others, none_beyond acks (named g view (p, from (greatest_acked acks) 0 + 1)) s (omega (arith, bound)))
+      at_bound (s ∷ others) some bound = (s, contains_here s others, none_beyond acks (uid_in g view (p, from (greatest_acked acks) 0 + 1)) s (omega (arith, bound)))
 
   -- one number is below another only if it is not the greatest
   not_below : (n m : ℕ) → IsStableUpto acks sites g view p n → IsStableUpto acks sites g view p m → n < m → ⊥

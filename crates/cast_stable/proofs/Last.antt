@@ -7,7 +7,7 @@ use Rattle.std.proofs.lemmas.Bool.{and_parts, and_from, or_cases, or_left, or_ri
 use Rattle.std.proofs.lemmas.Option.{none-some, same_Some, slice_get_within}
 use Rattle.cast_types.specs.declared.names.Uid.{Uid}
 use Rattle.cast_types.specs.declared.source.Source.{Source}
-use Rattle.cast_types.specs.Names.{uid_eq, named}
+use Rattle.cast_types.specs.Names.{uid_eq, uid_in}
 use Rattle.cast_types.specs.Sets.{is_among}
 use Rattle.cast_types.specs.Sources.{source_of}
 use Rattle.cast_stable.specs.Runs.{Run, rises_above, is_run, contains, greatest}
@@ -83,15 +83,15 @@ last_most past l fits u live positive among =
     greatest_most (received_run l (source_of u)) u.count (fits.receipts u live positive ∙ among)
 
 -- and one with that count was received, unless it is 0
-pub last_each : (past : Past) (l : Acks) → Fits past l → (s : Source) → past.is_live s ≡ true → 0 < last_received_in l s → is_among uid_eq (named s.group s.view (s.process, last_received_in l s)) past.received ≡ true
+pub last_each : (past : Past) (l : Acks) → Fits past l → (s : Source) → past.is_live s ≡ true → 0 < last_received_in l s → is_among uid_eq (uid_in s.group s.view (s.process, last_received_in l s)) past.received ≡ true
 last_each past l fits s live some =
-    sym (fits.receipts (named s.group s.view (s.process, last_received_in l s)) live some) ∙ greatest_in (received_run l s) some
+    sym (fits.receipts (uid_in s.group s.view (s.process, last_received_in l s)) live some) ∙ greatest_in (received_run l s) some
 
 -- what the ledger answers means that
 pub last_means : (l : Acks) (s : Source) (last : ℕ) → last ≡ last_received_in l s → (past : Past) → Fits past l → past.is_live s ≡ true → SaysLast past.received s last
 last_means l s last is past fits live =
     subst (λ n. SaysLast past.received s n) (sym is)
     (record {
-      most = λ count positive among. last_most past l fits (named s.group s.view (s.process, count)) live positive among;
+      most = λ count positive among. last_most past l fits (uid_in s.group s.view (s.process, count)) live positive among;
       was = last_each past l fits s live;
     })

@@ -11,13 +11,13 @@ use Rattle.cast_types.specs.declared.names.SiteNo.{SiteNo}
 use Rattle.cast_types.specs.declared.names.GroupNo.{GroupNo}
 use Rattle.cast_types.specs.declared.names.Uid.{Uid}
 use Rattle.cast_types.specs.declared.source.Source.{Source}
-use Rattle.cast_types.specs.Names.{site_eq, group_eq, proc_eq, uid_eq, named}
+use Rattle.cast_types.specs.Names.{site_eq, group_eq, proc_eq, uid_eq, uid_in}
 use Rattle.cast_types.specs.Sets.{is_among, set_at}
 use Rattle.cast_types.specs.Sources.{source, is_ended, source_of}
 use Rattle.cast_types.proofs.Orders.{group_total, group_exact, same_site, same_group, same_proc, same_uid, site_itself, group_itself, proc_itself}
 use Rattle.cast_types.proofs.Sources.{source_total, source_exact, find_but_ended}
 use Rattle.cast_stable.specs.declared.witness.Witness.{Witness}
-use Rattle.cast_stable.specs.Runs.{no_counts, is_run, contains, inserted}
+use Rattle.cast_stable.specs.Runs.{no_counts, is_run, contains, insert_count}
 use Rattle.cast_stable.specs.Witnesses.{witness_cmp, witness}
 use Rattle.cast_stable.specs.Stable.{Acked, has_acked, stable_upto, was_told, is_known_stable}
 use Rattle.cast_stable.specs.Acks.{Acks, others_in, received_run, acked_run, told_count, is_received_in, has_acked_in, least_acked, upto_in, is_stable_among, is_stable_in, new_ledger, told_ledger, received_ledger, acked_ledger, learnt_ledger}
@@ -141,14 +141,14 @@ module _ (past : Past) (l : Acks) (fits : Fits past l) where
       receipts_now : (x : Uid) → past.is_live (source_of x) ≡ true → 0 < x.count → is_received_in (received_ledger l id) x ≡ is_among uid_eq x (past.received ++ id ∷ [])
       receipts_now x live positive = elim (key_cases source_total source_exact (source_of x) (source_of id)) [
         | inl same ↦
-            ap (λ r. contains r x.count) (put_here source_total l.received (source_of x) (source_of id) (inserted (received_run l (source_of id)) id.count) no_counts same)
+            ap (λ r. contains r x.count) (put_here source_total l.received (source_of x) (source_of id) (insert_count (received_run l (source_of id)) id.count) no_counts same)
             ∙ contains_inserted (received_run l (source_of id)) id.count x.count positive
             ∙ ap (λ s. contains (received_run l s) x.count || (x.count == id.count)) (sym same)
             ∙ ap (λ b. b || (x.count == id.count)) (fits.receipts x live positive)
             ∙ ap (λ b. is_among uid_eq x past.received || b) (sym (source_tells x id (x.count == id.count) same))
             ∙ sym (pushed x)
         | inr differ ↦
-            ap (λ r. contains r x.count) (put_elsewhere source_total source_exact l.received (source_of x) (source_of id) (inserted (received_run l (source_of id)) id.count) no_counts differ)
+            ap (λ r. contains r x.count) (put_elsewhere source_total source_exact l.received (source_of x) (source_of id) (insert_count (received_run l (source_of id)) id.count) no_counts differ)
             ∙ fits.receipts x live positive
             ∙ sym (or_false (is_among uid_eq x past.received))
             ∙ ap (λ b. is_among uid_eq x past.received || b) (sym (sources_differ x id (x.count == id.count) differ))
@@ -187,14 +187,14 @@ module _ (past : Past) (l : Acks) (fits : Fits past l) where
       acked_now : (s : SiteNo) (x : Uid) → past.is_live (source_of x) ≡ true → 0 < x.count → has_acked_in (acked_ledger l from id) s x ≡ has_acked (past.acks ++ (from, id) ∷ []) x s
       acked_now s x live positive = elim (key_cases witness_total witness_exact (witness (source_of x) s) (witness (source_of id) from)) [
         | inl same ↦
-            ap (λ r. contains r x.count) (put_here witness_total l.acked (witness (source_of x) s) (witness (source_of id) from) (inserted (acked_run l (source_of id) from) id.count) no_counts same)
+            ap (λ r. contains r x.count) (put_here witness_total l.acked (witness (source_of x) s) (witness (source_of id) from) (insert_count (acked_run l (source_of id) from) id.count) no_counts same)
             ∙ contains_inserted (acked_run l (source_of id) from) id.count x.count positive
             ∙ ap (λ (w : Witness). contains (acked_run l w.source w.site) x.count || (x.count == id.count)) (sym same)
             ∙ ap (λ b. b || (x.count == id.count)) (fits.acked s x live positive)
             ∙ ap (λ b. has_acked past.acks x s || b) (this s x same)
             ∙ sym (pushed s x)
         | inr differ ↦
-            ap (λ r. contains r x.count) (put_elsewhere witness_total witness_exact l.acked (witness (source_of x) s) (witness (source_of id) from) (inserted (acked_run l (source_of id) from) id.count) no_counts differ)
+            ap (λ r. contains r x.count) (put_elsewhere witness_total witness_exact l.acked (witness (source_of x) s) (witness (source_of id) from) (insert_count (acked_run l (source_of id) from) id.count) no_counts differ)
             ∙ fits.acked s x live positive
             ∙ sym (or_false (has_acked past.acks x s))
             ∙ ap (λ b. has_acked past.acks x s || b) (sym (another s x differ))
@@ -204,10 +204,10 @@ module _ (past : Past) (l : Acks) (fits : Fits past l) where
       runs_now : (t : Source) (s : SiteNo) → is_run (acked_run (acked_ledger l from id) t s) ≡ true
       runs_now t s = elim (key_cases witness_total witness_exact (witness t s) (witness (source_of id) from)) [
         | inl same ↦
-            ap (λ r. is_run r) (put_here witness_total l.acked (witness t s) (witness (source_of id) from) (inserted (acked_run l (source_of id) from) id.count) no_counts same)
+            ap (λ r. is_run r) (put_here witness_total l.acked (witness t s) (witness (source_of id) from) (insert_count (acked_run l (source_of id) from) id.count) no_counts same)
             ∙ inserted_is (acked_run l (source_of id) from) id.count (fits.runs (source_of id) from)
         | inr differ ↦
-            ap (λ r. is_run r) (put_elsewhere witness_total witness_exact l.acked (witness t s) (witness (source_of id) from) (inserted (acked_run l (source_of id) from) id.count) no_counts differ)
+            ap (λ r. is_run r) (put_elsewhere witness_total witness_exact l.acked (witness t s) (witness (source_of id) from) (insert_count (acked_run l (source_of id) from) id.count) no_counts differ)
             ∙ fits.runs t s
       ]
 
@@ -269,20 +269,20 @@ module _ (past : Past) (l : Acks) (fits : Fits past l) where
         | inr later ↦ least_each (acked_to u) (acked_to u s) sites t later
       ]
 
-      all : (t : SiteNo) (k : ℕ) → Contains (s ∷ sites) t → 0 < k → k ≤ least_of u s sites → has_acked past.acks (named u.group u.view (u.proc, k)) t ≡ true
+      all : (t : SiteNo) (k : ℕ) → Contains (s ∷ sites) t → 0 < k → k ≤ least_of u s sites → has_acked past.acks (uid_in u.group u.view (u.proc, k)) t ≡ true
       all t k in_sites low high =
           let le : k ≤ acked_to u t = omega (arith, high, within t in_sites) in
-          sym (fits.acked t (named u.group u.view (u.proc, k)) live low)
+          sym (fits.acked t (uid_in u.group u.view (u.proc, k)) live low)
           ∙ or_left (nat_lt 0 k && nat_le k (acked_to u t)) (list_any (λ x. x == k) (acked_run l (source_of u) t).above)
           (and_from (nat_lt 0 k) (nat_le k (acked_to u t)) (lt-ltb 0 k low) (le-leb k (acked_to u t) le))
 
-      lacks : (t : SiteNo) → least_of u s sites ≡ acked_to u t → has_acked past.acks (named u.group u.view (u.proc, least_of u s sites + 1)) t ≡ false
+      lacks : (t : SiteNo) → least_of u s sites ≡ acked_to u t → has_acked past.acks (uid_in u.group u.view (u.proc, least_of u s sites + 1)) t ≡ false
       lacks t is =
-          ap (λ n. has_acked past.acks (named u.group u.view (u.proc, n + 1)) t) is
-          ∙ sym (fits.acked t (named u.group u.view (u.proc, acked_to u t + 1)) live (omega arith))
+          ap (λ n. has_acked past.acks (uid_in u.group u.view (u.proc, n + 1)) t) is
+          ∙ sym (fits.acked t (uid_in u.group u.view (u.proc, acked_to u t + 1)) live (omega arith))
           ∙ next_apart (acked_run l (source_of u) t) (fits.runs (source_of u) t)
 
-      next : (t : SiteNo) × Contains (s ∷ sites) t × (has_acked past.acks (named u.group u.view (u.proc, least_of u s sites + 1)) t ≡ false)
+      next : (t : SiteNo) × Contains (s ∷ sites) t × (has_acked past.acks (uid_in u.group u.view (u.proc, least_of u s sites + 1)) t ≡ false)
       next = elim (least_reached (acked_to u) (acked_to u s) sites) [
         | inl first ↦ (s, contains_here s sites, lacks s first)
         | inr (t, in_sites, is) ↦ (t, contains_later t s sites in_sites, lacks t is)

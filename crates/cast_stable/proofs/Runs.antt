@@ -7,7 +7,7 @@ use Rattle.std.specs.List.{list_any, slice_get}
 use Rattle.std.proofs.Math.Bool.{or_assoc, or_comm}
 use Rattle.std.proofs.lemmas.Bool.{and_parts, and_from, or_cases, or_left, or_right, cases_lt, cases_eq, lt-ltb, ltb-true, le-leb, leb-true, leb-false, lt-leb, eq-eqb, eqb-true, eqb-false, false_from_ne_true}
 use Rattle.cast_types.specs.Sets.{with_item, at_order}
-use Rattle.cast_stable.specs.Runs.{Run, rises_above, is_run, contains, run_after, absorbed, inserted}
+use Rattle.cast_stable.specs.Runs.{Run, rises_above, is_run, contains, run_after, absorb, insert_count}
 use Rattle.cast_types.proofs.Bools.{same_bools}
 
 pub eqb_sym : (m k : ℕ) → (m == k) ≡ (k == m)
@@ -51,13 +51,13 @@ abbrev absorbing : ℕ → ℕ → List ℕ → Bool → Run
 absorbing n m ms b = record { upto = (going_on n m ms b).0; above = drop (going_on n m ms b).1 (m ∷ ms) }
 
 -- where the first count does not go on with the run, none does
-pub absorbed_apart : (n m : ℕ) (ms : List ℕ) → slice_get ms 0 ≡ Some m → (m ≡ n + 1 → ⊥) → absorbed n ms ≡ record { upto = n; above = ms }
+pub absorbed_apart : (n m : ℕ) (ms : List ℕ) → slice_get ms 0 ≡ Some m → (m ≡ n + 1 → ⊥) → absorb n ms ≡ record { upto = n; above = ms }
 absorbed_apart n m [] first apart = refl
 absorbed_apart n m (x ∷ ms) first apart =
     ap (λ b. absorbing n x ms b) (false_from_ne_true (x == n + 1) (λ e. apart (sym (ap (λ o. unwrap_or o m) first) ∙ eqb-true x (n + 1) e)))
 
 -- what joins the run leaves a run
-pub absorbed_is : (n : ℕ) (ms : List ℕ) → rises_above n ms ≡ true → is_run (absorbed n ms) ≡ true
+pub absorbed_is : (n : ℕ) (ms : List ℕ) → rises_above n ms ≡ true → is_run (absorb n ms) ≡ true
 absorbed_is n [] h = refl
 absorbed_is n (m ∷ ms) h =
     let parts = and_parts (nat_lt n m) (rises_above m ms) h in
@@ -87,11 +87,11 @@ with_item_rises n m (x ∷ ms) lt h =
     ]
 
 -- a further count leaves a run
-pub inserted_is : (r : Run) (m : ℕ) → is_run r ≡ true → is_run (inserted r m) ≡ true
+pub inserted_is : (r : Run) (m : ℕ) → is_run r ≡ true → is_run (insert_count r m) ≡ true
 inserted_is r m h =
-    elim (nat_le m r.upto) as (λ b. nat_le m r.upto ≡ b → is_run (if b then r else if m == r.upto + 1 then absorbed m r.above else record r { above = with_item nat_cmp m r.above }) ≡ true) [
+    elim (nat_le m r.upto) as (λ b. nat_le m r.upto ≡ b → is_run (if b then r else if m == r.upto + 1 then absorb m r.above else record r { above = with_item nat_cmp m r.above }) ≡ true) [
       | true ↦ λ _. h
-      | false ↦ λ big. elim (m == r.upto + 1) as (λ b. (m == r.upto + 1) ≡ b → is_run (if b then absorbed m r.above else record r { above = with_item nat_cmp m r.above }) ≡ true) [
+      | false ↦ λ big. elim (m == r.upto + 1) as (λ b. (m == r.upto + 1) ≡ b → is_run (if b then absorb m r.above else record r { above = with_item nat_cmp m r.above }) ≡ true) [
         | true ↦ λ same. absorbed_is m r.above (subst (λ k. rises_above k r.above ≡ true) (sym (eqb-true m (r.upto + 1) same)) h)
         | false ↦ λ other.
             let apart = eqb-false m (r.upto + 1) other in
@@ -125,7 +125,7 @@ range_grows n k = same_bools (nat_lt 0 k && nat_le k (n + 1)) ((nat_lt 0 k && na
     ]
 
 -- what joins the run is in the set as before
-contains_absorbed : (n k : ℕ) (ms : List ℕ) → contains (absorbed n ms) k ≡ ((nat_lt 0 k && nat_le k n) || list_any (λ x. x == k) ms)
+contains_absorbed : (n k : ℕ) (ms : List ℕ) → contains (absorb n ms) k ≡ ((nat_lt 0 k && nat_le k n) || list_any (λ x. x == k) ms)
 contains_absorbed n k [] = refl
 contains_absorbed n k (m ∷ ms) =
     elim (m == n + 1) as (λ b. (m == n + 1) ≡ b → contains (absorbing n m ms b) k ≡ ((nat_lt 0 k && nat_le k n) || ((m == k) || list_any (λ x. x == k) ms))) [
@@ -160,9 +160,9 @@ with_item_any m k (x ∷ ms) =
     ]
 
 -- a set with a count in it has that and what it had
-pub contains_inserted : (r : Run) (m k : ℕ) → 0 < k → contains (inserted r m) k ≡ (contains r k || (k == m))
+pub contains_inserted : (r : Run) (m k : ℕ) → 0 < k → contains (insert_count r m) k ≡ (contains r k || (k == m))
 contains_inserted r m k positive =
-    elim (nat_le m r.upto) as (λ b. nat_le m r.upto ≡ b → contains (if b then r else if m == r.upto + 1 then absorbed m r.above else record r { above = with_item nat_cmp m r.above }) k ≡ (contains r k || (k == m))) [
+    elim (nat_le m r.upto) as (λ b. nat_le m r.upto ≡ b → contains (if b then r else if m == r.upto + 1 then absorb m r.above else record r { above = with_item nat_cmp m r.above }) k ≡ (contains r k || (k == m))) [
       | true ↦ λ within. same_bools (contains r k) (contains r k || (k == m)) (or_left (contains r k) (k == m)) (λ h. elim (or_cases (contains r k) (k == m) h) [
         | inl before ↦ before
         | inr now ↦
@@ -170,7 +170,7 @@ contains_inserted r m k positive =
             let le = leb-true m r.upto within in
             or_left (nat_lt 0 k && nat_le k r.upto) (list_any (λ x. x == k) r.above) (and_from (nat_lt 0 k) (nat_le k r.upto) (lt-ltb 0 k positive) (le-leb k r.upto (omega (arith, same, le))))
       ])
-      | false ↦ λ big. elim (m == r.upto + 1) as (λ b. (m == r.upto + 1) ≡ b → contains (if b then absorbed m r.above else record r { above = with_item nat_cmp m r.above }) k ≡ (contains r k || (k == m))) [
+      | false ↦ λ big. elim (m == r.upto + 1) as (λ b. (m == r.upto + 1) ≡ b → contains (if b then absorb m r.above else record r { above = with_item nat_cmp m r.above }) k ≡ (contains r k || (k == m))) [
         | true ↦ λ next.
             let same = eqb-true m (r.upto + 1) next in
             contains_absorbed m k r.above
@@ -185,23 +185,23 @@ contains_inserted r m k positive =
     ] refl
 
 -- the same of what the code keeps of a set, once a count was put into it
-pub meant : (r s : Run) (m : ℕ) → s ≡ inserted r m → (k : ℕ) → 0 < k → contains s k ≡ (contains r k || (k == m))
+pub meant : (r s : Run) (m : ℕ) → s ≡ insert_count r m → (k : ℕ) → 0 < k → contains s k ≡ (contains r k || (k == m))
 meant r s m same k positive = ap (λ t. contains t k) same ∙ contains_inserted r m k positive
 
-pub still_run : (r s : Run) (m : ℕ) → s ≡ inserted r m → is_run r ≡ true → is_run s ≡ true
+pub still_run : (r s : Run) (m : ℕ) → s ≡ insert_count r m → is_run r ≡ true → is_run s ≡ true
 still_run r s m same h = subst (λ t. is_run t ≡ true) (sym same) (inserted_is r m h)
 
 -- a count beyond the run goes on with it, or stands apart from it
 module _ (r : Run) (m : ℕ) (beyond : r.upto < m) where
-  past_run : inserted r m ≡ (if m == r.upto + 1 then absorbed m r.above else record r { above = with_item nat_cmp m r.above })
-  past_run = ap (λ b. if b then r else if m == r.upto + 1 then absorbed m r.above else record r { above = with_item nat_cmp m r.above }) (lt-leb m r.upto beyond)
+  past_run : insert_count r m ≡ (if m == r.upto + 1 then absorb m r.above else record r { above = with_item nat_cmp m r.above })
+  past_run = ap (λ b. if b then r else if m == r.upto + 1 then absorb m r.above else record r { above = with_item nat_cmp m r.above }) (lt-leb m r.upto beyond)
 
-  pub inserted_next : (upto : ℕ) (above : List ℕ) → m ≡ r.upto + 1 → upto ≡ (absorbed m r.above).upto → above ≡ (absorbed m r.above).above → record { upto = upto; above = above } ≡ inserted r m
+  pub inserted_next : (upto : ℕ) (above : List ℕ) → m ≡ r.upto + 1 → upto ≡ (absorb m r.above).upto → above ≡ (absorb m r.above).above → record { upto = upto; above = above } ≡ insert_count r m
   inserted_next upto above next last rest =
       (λ i. record { upto = last i; above = rest i })
-      ∙ sym (past_run ∙ ap (λ b. if b then absorbed m r.above else record r { above = with_item nat_cmp m r.above }) (eq-eqb m (r.upto + 1) next))
+      ∙ sym (past_run ∙ ap (λ b. if b then absorb m r.above else record r { above = with_item nat_cmp m r.above }) (eq-eqb m (r.upto + 1) next))
 
-  pub inserted_apart : (above : List ℕ) → (m ≡ r.upto + 1 → ⊥) → above ≡ with_item nat_cmp m r.above → record { upto = r.upto; above = above } ≡ inserted r m
+  pub inserted_apart : (above : List ℕ) → (m ≡ r.upto + 1 → ⊥) → above ≡ with_item nat_cmp m r.above → record { upto = r.upto; above = above } ≡ insert_count r m
   inserted_apart above apart is =
       (λ i. record { upto = r.upto; above = is i })
-      ∙ sym (past_run ∙ ap (λ b. if b then absorbed m r.above else record r { above = with_item nat_cmp m r.above }) (false_from_ne_true (m == r.upto + 1) (λ e. apart (eqb-true m (r.upto + 1) e))))
+      ∙ sym (past_run ∙ ap (λ b. if b then absorb m r.above else record r { above = with_item nat_cmp m r.above }) (false_from_ne_true (m == r.upto + 1) (λ e. apart (eqb-true m (r.upto + 1) e))))

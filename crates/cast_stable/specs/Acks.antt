@@ -9,7 +9,7 @@ use Rattle.cast_types.specs.declared.source.Source.{Source}
 use Rattle.cast_types.specs.Names.{group_cmp, site_eq}
 use Rattle.cast_types.specs.Sources.{source_cmp, source_of, is_ended, but_ended}
 use Rattle.cast_stable.specs.declared.witness.Witness.{Witness}
-use Rattle.cast_stable.specs.Runs.{Run, no_counts, contains, greatest, inserted}
+use Rattle.cast_stable.specs.Runs.{Run, no_counts, contains, greatest, insert_count}
 use Rattle.cast_stable.specs.Witnesses.{witness_cmp, witness}
 
 -- the site itself, the other sites of each group's view, the counts received of each source, those that each site
@@ -83,11 +83,11 @@ told_ledger l g number sites =
 
 abbrev pub received_ledger : Acks → Uid → Acks
 received_ledger l u =
-    record l { received = put source_cmp (source_of u) (inserted (received_run l (source_of u)) u.count) l.received }
+    record l { received = put source_cmp (source_of u) (insert_count (received_run l (source_of u)) u.count) l.received }
 
 abbrev pub acked_ledger : Acks → SiteNo → Uid → Acks
 acked_ledger l from u =
-    record l { acked = put witness_cmp (witness (source_of u) from) (inserted (acked_run l (source_of u) from) u.count) l.acked }
+    record l { acked = put witness_cmp (witness (source_of u) from) (insert_count (acked_run l (source_of u) from) u.count) l.acked }
 
 abbrev pub learnt_ledger : Acks → Uid → Acks
 learnt_ledger l u =

@@ -6,7 +6,7 @@ use Rattle.cast_types.specs.declared.names.SiteNo.{SiteNo}
 use Rattle.cast_types.specs.declared.names.GroupNo.{GroupNo}
 use Rattle.cast_types.specs.declared.names.Uid.{Uid}
 use Rattle.cast_types.specs.declared.source.Source.{Source}
-use Rattle.cast_types.specs.Names.{uid_eq, named}
+use Rattle.cast_types.specs.Names.{uid_eq, uid_in}
 use Rattle.cast_types.specs.Sets.{is_among}
 use Rattle.cast_types.specs.Sources.{source_of}
 use Rattle.cast_stable.specs.Runs.{is_run}
@@ -46,5 +46,5 @@ WhileLive l s P = (past : Past) → Fits past l → past.is_live s ≡ true → 
 
 -- no message of the source with a greater count was received, and one with this count was, unless it is 0
 pub record SaysLast (received : List Uid) (s : Source) (last : ℕ) : Type 0 where
-  pub most : (count : ℕ) → 0 < count → is_among uid_eq (named s.group s.view (s.process, count)) received ≡ true → count ≤ last
-  pub was : 0 < last → is_among uid_eq (named s.group s.view (s.process, last)) received ≡ true
+  pub most : (count : ℕ) → 0 < count → is_among uid_eq (uid_in s.group s.view (s.process, count)) received ≡ true → count ≤ last
+  pub was : 0 < last → is_among uid_eq (uid_in s.group s.view (s.process, last)) received ≡ true

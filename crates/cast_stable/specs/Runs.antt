@@ -33,12 +33,12 @@ run_after n [] = (n, 0)
 run_after n (m ∷ ms) = if m == n + 1 then ((run_after m ms).0, suc (run_after m ms).1) else (n, 0)
 
 -- all counts to n, and further ones, of which those that follow n without a gap join the run
-abbrev pub absorbed : ℕ → List ℕ → Run
-absorbed n ms = record { upto = (run_after n ms).0; above = drop (run_after n ms).1 ms }
+abbrev pub absorb : ℕ → List ℕ → Run
+absorb n ms = record { upto = (run_after n ms).0; above = drop (run_after n ms).1 ms }
 
 -- the set with a count in it
-abbrev pub inserted : Run → ℕ → Run
-inserted r m =
+abbrev pub insert_count : Run → ℕ → Run
+insert_count r m =
     if nat_le m r.upto then r
-    else if m == r.upto + 1 then absorbed m r.above
+    else if m == r.upto + 1 then absorb m r.above
     else record r { above = with_item nat_cmp m r.above }

@@ -5,7 +5,7 @@ use Rattle.cast_types.specs.declared.names.SiteNo.{SiteNo}
 use Rattle.cast_types.specs.declared.names.GroupNo.{GroupNo}
 use Rattle.cast_types.specs.declared.names.Proc.{Proc}
 use Rattle.cast_types.specs.declared.names.Uid.{Uid}
-use Rattle.cast_types.specs.Names.{site_eq, group_eq, proc_eq, uid_eq, named}
+use Rattle.cast_types.specs.Names.{site_eq, group_eq, proc_eq, uid_eq, uid_in}
 
 -- a site told that it has a message
 abbrev pub Acked : Type 0
@@ -30,7 +30,7 @@ acked_from (suc most) acks sites u =
 -- how many messages of a local process are stable: the greatest n such that each of the view's other sites, of which
 -- there are some, has acknowledged counts 1 to n
 abbrev pub stable_upto : List Acked → List SiteNo → GroupNo → ℕ → Proc → ℕ
-stable_upto acks others g view p = acked_from (greatest_acked acks) acks others (named g view (p, 0))
+stable_upto acks others g view p = acked_from (greatest_acked acks) acks others (uid_in g view (p, 0))
 
 -- a site was told by the process's own site that its messages up to a count are stable
 abbrev pub was_told : List Uid → Uid → Bool
@@ -46,8 +46,8 @@ is_known_stable here (s ∷ others) acks told u =
 
 -- each other site has acknowledged counts 1 to n of a process in a view, and some other site not the next one
 pub record IsStableUpto (acks : List Acked) (others : List SiteNo) (g : GroupNo) (view : ℕ) (p : Proc) (n : ℕ) : Type 0 where
-  pub all : (s : SiteNo) (k : ℕ) → Contains others s → 0 < k → k ≤ n → has_acked acks (named g view (p, k)) s ≡ true
-  pub next : (s : SiteNo) × Contains others s × (has_acked acks (named g view (p, n + 1)) s ≡ false)
+  pub all : (s : SiteNo) (k : ℕ) → Contains others s → 0 < k → k ≤ n → has_acked acks (uid_in g view (p, k)) s ≡ true
+  pub next : (s : SiteNo) × Contains others s × (has_acked acks (uid_in g view (p, n + 1)) s ≡ false)
 
 -- the number of stable messages in words
 abbrev pub StableIsGreatest : Type 0

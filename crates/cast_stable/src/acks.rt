@@ -7,7 +7,7 @@ ghost use Rattle.cast_types.specs.Sets.{is_among};
 ghost use Rattle.cast_types.specs.Sources.{source, but_ended, source_of};
 ghost use Rattle.cast_stable.specs.Stable.{has_acked, stable_upto};
 ghost use Rattle.cast_stable.specs.Fits.{upto_by, is_stable_by, WhileLive, SaysLast};
-ghost use Rattle.cast_stable.specs.Runs.{no_counts, contains, inserted};
+ghost use Rattle.cast_stable.specs.Runs.{no_counts, contains, insert_count};
 ghost use Rattle.cast_stable.specs.Acks.{new_ledger, others_in, acked_run, acked_but_ended, told_count, told_ledger, received_ledger, acked_ledger, learnt_ledger, is_received_in, last_received_in, has_acked_in, upto_in, is_stable_in};
 
 use crate::counted::Counted;
@@ -263,7 +263,7 @@ fn insert_count<K: Ord + Drop>(
     key: K,
     count: u32,
 ) -> Result<(), NoMemory>
-    ensures ok { OnOk result (runs.new.entries ≡ put K.cmp key (inserted (unwrap_or (find K.cmp key runs.old.entries) no_counts) count) runs.old.entries) }
+    ensures ok { OnOk result (runs.new.entries ≡ put K.cmp key (insert_count (unwrap_or (find K.cmp key runs.old.entries) no_counts) count) runs.old.entries) }
     ensures err { OnErr result (runs.new.entries ≡ runs.old.entries) }
 {
     match runs.get_mut(&key) {

@@ -1,5 +1,5 @@
 ghost use Rattle.std.specs.Prelude.{◌≡◌, ℕ, ◌+◌, ◌<◌, ◌≤◌, ◌||◌, ◌==◌, true, false, OnOk, OnErr, IfOk};
-ghost use Rattle.cast_stable.specs.Runs.{no_counts, contains, greatest, absorbed, inserted};
+ghost use Rattle.cast_stable.specs.Runs.{no_counts, contains, greatest, absorb, insert_count};
 
 use cast_types::NoMemory;
 use std::alloc::Global;
@@ -49,7 +49,7 @@ impl Counted {
 
     /// Puts a count into the set. Count 0 changes nothing, and neither does `NoMemory`.
     pub fn insert(&mut self, count: u32) -> Result<(), NoMemory>
-        ensures ok { OnOk result (self.new ≡ inserted self.old count) }
+        ensures ok { OnOk result (self.new ≡ insert_count self.old count) }
         ensures meaning { OnOk result ((m : ℕ) → 0 < m → contains self.new m ≡ (contains self.old m || m == count)) }
         ensures err { OnErr result (self.new ≡ self.old) }
     {
@@ -103,8 +103,8 @@ impl Counted {
 
 // The last count of the run that goes on from a count. What the run takes leaves the set.
 fn absorb(count: u32, above: &mut BTreeSet<u32>) -> u32
-    ensures last { result ≡ (absorbed count above.old.keys).upto }
-    ensures rest { above.new.keys ≡ (absorbed count above.old.keys).above }
+    ensures last { result ≡ (absorb count above.old.keys).upto }
+    ensures rest { above.new.keys ≡ (absorb count above.old.keys).above }
 {
     let mut last = count;
     while let Some(next) = above.first() {

@@ -15,7 +15,7 @@ use Rattle.cast_events.specs.declared.event.Taken.TheVariants.{Nothing, Refused}
 use Rattle.cast_domain.specs.Records.{number_of, is_halted}
 use Rattle.cast_events.specs.declared.log.Fault.{Fault}
 use Rattle.cast_events.specs.declared.log.Fault.TheVariants.{NoMemory, Halted, NoDomain}
-use Rattle.cast_table.specs.Tables.{AreTurns, IsTurn, Lent, answer_in_turn, halted_by, stopped, lower, IsLeast, IsLeastOf, domain_eq}
+use Rattle.cast_table.specs.Tables.{AreTurns, IsTurn, Lent, answer_in_turn, halted_by, halted_in_turn, lower, IsLeast, IsLeastOf, domain_eq}
 
 -- One turn more
 
@@ -33,13 +33,13 @@ turns_push event (o ∷ olds) [] old new first last next turns turn = absurd tur
 turns_push event (o ∷ olds) (n ∷ news) old new first last next turns turn =
     (turns.0, turns.1, turns_push event olds news old new turns.0 last next turns.2 turn)
 
-stopped_push : (olds news : List Domain) (old new : Domain) → length olds ≡ length news → stopped (olds ++ old ∷ []) (news ++ new ∷ []) ≡ stopped olds news ++ halted_by (answer_in_turn old new)
+stopped_push : (olds news : List Domain) (old new : Domain) → length olds ≡ length news → halted_in_turn (olds ++ old ∷ []) (news ++ new ∷ []) ≡ halted_in_turn olds news ++ halted_by (answer_in_turn old new)
 stopped_push [] [] old new long = append-nil (halted_by (answer_in_turn old new))
 stopped_push [] (n ∷ news) old new long = absurd (omega arith)
 stopped_push (o ∷ olds) [] old new long = absurd (omega arith)
 stopped_push (o ∷ olds) (n ∷ news) old new long =
     ap (λ more. halted_by (answer_in_turn o n) ++ more) (stopped_push olds news old new (omega arith))
-    ∙ sym (append_assoc (halted_by (answer_in_turn o n)) (stopped olds news) (halted_by (answer_in_turn old new)))
+    ∙ sym (append_assoc (halted_by (answer_in_turn o n)) (halted_in_turn olds news) (halted_by (answer_in_turn old new)))
 
 one_at_most : (b : Result Taken Fault) → length (halted_by b) ≤ 1
 one_at_most (Ok t) = omega arith
@@ -53,17 +53,17 @@ nothing_stops : (halted : Bool) (d : DomainNo) → halted_by (cond halted (Ok (R
 nothing_stops true d = refl
 nothing_stops false d = refl
 
-pub none_stopped : (domains : List Domain) → stopped domains domains ≡ []
+pub none_stopped : (domains : List Domain) → halted_in_turn domains domains ≡ []
 none_stopped [] = refl
 none_stopped (d ∷ domains) =
-    ap (λ front. front ++ stopped domains domains) (nothing_stops (is_halted d) (number_of d)) ∙ none_stopped domains
+    ap (λ front. front ++ halted_in_turn domains domains) (nothing_stops (is_halted d) (number_of d)) ∙ none_stopped domains
 
 -- the first domains have taken their turns, and the others are as they were
 pub record Turned (event : Event) (olds : List Domain) (news : List Domain) (i : ℕ) (first : Lent) (last : Lent) : Type 0 where
   pub turns : AreTurns event (take i olds) (take i news) first last
   pub rest : drop i news ≡ drop i olds
-  pub noted : last.outs.halted ≡ first.outs.halted ++ stopped (take i olds) (take i news)
-  pub few : length (stopped (take i olds) (take i news)) ≤ i
+  pub noted : last.outs.halted ≡ first.outs.halted ++ halted_in_turn (take i olds) (take i news)
+  pub few : length (halted_in_turn (take i olds) (take i news)) ≤ i
 
 pub turned_none : (event : Event) (domains : List Domain) (first : Lent) → Turned event domains domains 0 first first
 turned_none event domains first =
@@ -83,8 +83,8 @@ module _ (event : Event) (olds news : List Domain) (i : ℕ) (first last : Lent)
       take_more olds i old within ∙ ap (λ d. take i olds ++ d ∷ []) (sym (read ∙ waits old)) in
       let after : take (i + 1) (slice_set news i new) ≡ take i news ++ new ∷ [] = take_more_set news i new below in
       let same : length (take i olds) ≡ length (take i news) = turns_length event (take i olds) (take i news) first last turned.turns in
-      let more : stopped (take (i + 1) olds) (take (i + 1) (slice_set news i new)) ≡ stopped (take i olds) (take i news) ++ halted_by b =
-      (λ j. stopped (before j) (after j)) ∙ stopped_push (take i olds) (take i news) old new same ∙ ap (λ a. stopped (take i olds) (take i news) ++ halted_by a) (sym is) in
+      let more : halted_in_turn (take (i + 1) olds) (take (i + 1) (slice_set news i new)) ≡ halted_in_turn (take i olds) (take i news) ++ halted_by b =
+      (λ j. halted_in_turn (before j) (after j)) ∙ stopped_push (take i olds) (take i news) old new same ∙ ap (λ a. halted_in_turn (take i olds) (take i news) ++ halted_by a) (sym is) in
       record {
         turns =
             subst (λ xs. AreTurns event xs (take (i + 1) (slice_set news i new)) first next) (sym before)
@@ -99,10 +99,10 @@ module _ (event : Event) (olds news : List Domain) (i : ℕ) (first last : Lent)
         noted =
             noted
             ∙ ap (λ front. front ++ halted_by b) turned.noted
-            ∙ append_assoc first.outs.halted (stopped (take i olds) (take i news)) (halted_by b)
+            ∙ append_assoc first.outs.halted (halted_in_turn (take i olds) (take i news)) (halted_by b)
             ∙ ap (λ all. first.outs.halted ++ all) (sym more);
         few =
-            let sizes = ap length more ∙ length-append (stopped (take i olds) (take i news)) (halted_by b) in
+            let sizes = ap length more ∙ length-append (halted_in_turn (take i olds) (take i news)) (halted_by b) in
             let one = one_at_most b in
             let so_far = turned.few in
             omega (arith, sizes, one, so_far);
@@ -113,12 +113,12 @@ pub written : {X : Type 0} (xs ys : List X) (n : ℕ) → length xs ≡ length y
 written xs ys n long all =
     ap (λ k. take k (xs ++ drop (length xs) ys)) (all ∙ sym long) ∙ take-append_seam xs (drop (length xs) ys)
 
-pub turned_all : (event : Event) (olds news : List Domain) (i : ℕ) (first last : Lent) → length news ≡ length olds → length news ≤ i → Turned event olds news i first last → AreTurns event olds news first last × (last.outs.halted ≡ first.outs.halted ++ stopped olds news)
+pub turned_all : (event : Event) (olds news : List Domain) (i : ℕ) (first last : Lent) → length news ≡ length olds → length news ≤ i → Turned event olds news i first last → AreTurns event olds news first last × (last.outs.halted ≡ first.outs.halted ++ halted_in_turn olds news)
 turned_all event olds news i first last long above turned =
     let before : take i olds ≡ olds = take_all i olds (omega (arith, long, above)) in
     let after : take i news ≡ news = take_all i news above in (
       subst (λ xs. AreTurns event xs news first last) before (subst (λ xs. AreTurns event (take i olds) xs first last) after turned.turns),
-      turned.noted ∙ (λ j. first.outs.halted ++ stopped (before j) (after j)),
+      turned.noted ∙ (λ j. first.outs.halted ++ halted_in_turn (before j) (after j)),
     )
 
 -- The least of the numbers so far

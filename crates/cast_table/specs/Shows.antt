@@ -10,7 +10,7 @@ use Rattle.cast_domain.specs.Records.{number_of, is_halted}
 use Rattle.cast_domain.specs.Shared.{part_of}
 use Rattle.cast_domain.specs.Shows.{shown_of, group_shown, groups_shown}
 use Rattle.cast_domain.specs.Fits.{Represents}
-use Rattle.cast_rules.specs.State.{State, sessions, held}
+use Rattle.cast_rules.specs.State.{State, sessions, held_count}
 use Rattle.cast_table.specs.declared.table.Table.{Table}
 use Rattle.cast_table.specs.Tables.{domain_eq, domains_of}
 
@@ -28,7 +28,7 @@ groups_at n table = option_map groups_shown (domain_at n table)
 -- what a history says of the same
 abbrev pub shown_by : State → Bool → Shown
 shown_by s halted =
-    record { sessions = sessions s; held = held s; casts = s.casts; moment = s.moment; halted = halted }
+    record { sessions = sessions s; held = held_count s; casts = s.casts; moment = s.moment; halted = halted }
 
 abbrev pub groups_by : State → List GroupShown
 groups_by s = map (λ g. group_shown g (s.group g)) s.config.groups

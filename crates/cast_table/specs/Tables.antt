@@ -62,10 +62,10 @@ without n [] = []
 without n (d ∷ domains) = if domain_eq (number_of d) n then domains else d ∷ without n domains
 
 -- for each of these configurations the first domain of its number that is left
-abbrev pub picked : List DomainConfig → List Domain → List Domain
-picked [] domains = []
-picked (c ∷ configs) domains =
-    option_to_list (find (λ d. domain_eq (number_of d) c.domain) domains) ++ picked configs (without c.domain domains)
+abbrev pub pick_domains : List DomainConfig → List Domain → List Domain
+pick_domains [] domains = []
+pick_domains (c ∷ configs) domains =
+    option_to_list (find (λ d. domain_eq (number_of d) c.domain) domains) ++ pick_domains configs (without c.domain domains)
 
 -- Domains, and what they are lent
 
@@ -93,8 +93,8 @@ pub record Lent : Type 0 where
   pub shared : Shared
   pub outs : Outs
 
-abbrev pub lent : Table → Outs → Lent
-lent table outs = record { shared = table.shared; outs = outs }
+abbrev pub lent_of : Table → Outs → Lent
+lent_of table outs = record { shared = table.shared; outs = outs }
 
 -- the same where the halted domains are noted apart
 abbrev pub lending : Shared → Outs → List DomainNo → Lent
@@ -106,7 +106,7 @@ OnLent Related shared before halted later after more = Related (lending shared b
 
 -- and of a table's domains and what these are lent
 abbrev pub InTable : (List Domain → List Domain → Lent → Lent → Type 0) → Table → Outs → Table → Outs → Type 0
-InTable Related old before new after = Related (domains_of old) (domains_of new) (lent old before) (lent new after)
+InTable Related old before new after = Related (domains_of old) (domains_of new) (lent_of old before) (lent_of new after)
 
 -- the part of a domain in what is lent
 abbrev pub part_in : Lent → Domain → Part
@@ -175,10 +175,10 @@ halted_by (Err (Halted d)) = d ∷ []
 halted_by (Err NoDomain) = []
 
 -- the domains that were halted in their turns, in order
-abbrev pub stopped : List Domain → List Domain → List DomainNo
-stopped [] news = []
-stopped (old ∷ olds) [] = []
-stopped (old ∷ olds) (new ∷ news) = halted_by (answer_in_turn old new) ++ stopped olds news
+abbrev pub halted_in_turn : List Domain → List Domain → List DomainNo
+halted_in_turn [] news = []
+halted_in_turn (old ∷ olds) [] = []
+halted_in_turn (old ∷ olds) (new ∷ news) = halted_by (answer_in_turn old new) ++ halted_in_turn olds news
 
 -- the lower of two numbers, where the first is there
 abbrev pub lower : Option DomainNo → DomainNo → DomainNo
@@ -198,9 +198,9 @@ IsLeastOf (Some d) numbers = IsLeast d numbers
 -- what a tick does to domains: all take it in turn, and the answer tells the least number of those that it halted
 abbrev pub IsTicked : Result Taken Fault → Event → List Domain → List Domain → Lent → Lent → Type 0
 IsTicked (Ok taken) event old new before after =
-    (taken ≡ Nothing) × IsLeastOf None (stopped old new) × AreTurns event old new before after
+    (taken ≡ Nothing) × IsLeastOf None (halted_in_turn old new) × AreTurns event old new before after
 IsTicked (Err NoMemory) event old new before after = (new ≡ old) × (after ≡ before)
-IsTicked (Err (Halted d)) event old new before after = IsLeastOf (Some d) (stopped old new) × AreTurns event old new before after
+IsTicked (Err (Halted d)) event old new before after = IsLeastOf (Some d) (halted_in_turn old new) × AreTurns event old new before after
 IsTicked (Err NoDomain) event old new before after = ⊥
 
 -- Any event
@@ -230,7 +230,7 @@ NotesOne (Err NoDomain) named before after = after ≡ before
 
 -- and at a tick each domain whose step halts it
 abbrev pub NotesHaltsOf : Option DomainNo → Result Taken Fault → List Domain → List Domain → List DomainNo → List DomainNo → Type 0
-NotesHaltsOf None answer old new before after = after ≡ before ++ stopped old new
+NotesHaltsOf None answer old new before after = after ≡ before ++ halted_in_turn old new
 NotesHaltsOf (Some d) answer old new before after = NotesOne answer d before after
 
 -- domains are noted as halted exactly where their steps halt them

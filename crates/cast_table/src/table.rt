@@ -6,7 +6,7 @@ ghost use Rattle.indexmap.specs.IndexMap.{get as place_at};
 ghost use Rattle.cast_domain.specs.Copies.{IsCopyOf as IsDomainCopy};
 ghost use Rattle.cast_domain.specs.Records.{number_of};
 ghost use Rattle.cast_events.specs.Events.{domain_of};
-ghost use Rattle.cast_table.specs.Tables.{ArePlaces, AreTurns, IsApplied, IsAppliedTo, IsLeastOf, IsNew, IsTicked, IsTurn, IsUnchanged, NotesHalts, NotesOne, SharesNothing, answer_in_turn, by_number, domains_of, halted_by, lower, place_above, place_for, place_named, stopped, OnLent, InTable};
+ghost use Rattle.cast_table.specs.Tables.{ArePlaces, AreTurns, IsApplied, IsAppliedTo, IsLeastOf, IsNew, IsTicked, IsTurn, IsUnchanged, NotesHalts, NotesOne, SharesNothing, answer_in_turn, by_number, domains_of, halted_by, lower, place_above, place_for, place_named, halted_in_turn, OnLent, InTable};
 ghost use Rattle.cast_table.specs.Copies.{IsCopyOf};
 ghost use Rattle.cast_table.specs.Backlogs.{backlog_at};
 ghost use Rattle.cast_table.specs.Shows.{ShowsGroups, ShowsHistory, domain_at, groups_at, shown_at};
@@ -178,7 +178,7 @@ impl Table {
         requires { domain_of event.now ≡ None }
         ensures applied { InTable (IsTicked result event.now) self.old outs.old self.new outs.new }
         ensures unchanged { IsUnchanged result self.old self.new outs.old outs.new }
-        ensures halted { outs.new.halted ≡ outs.old.halted ++ stopped (domains_of self.old) (domains_of self.new) }
+        ensures halted { outs.new.halted ≡ outs.old.halted ++ halted_in_turn (domains_of self.old) (domains_of self.new) }
     {
         let Ok(mut halted) = halted_with_room(outs, self.domains.len()) else {
             return Err(Fault::NoMemory);
@@ -308,7 +308,7 @@ fn turns(
     requires unnamed { domain_of event.now ≡ None }
     requires room { length halted.old.items + vec_len domains.old ≤ vec_capacity halted.old }
     ensures turns { OnLent (AreTurns event.now domains.old.items domains.new.items) shared.old outs.old halted.old.items shared.new outs.new halted.new.items }
-    ensures noted { halted.new.items ≡ halted.old.items ++ stopped domains.old.items domains.new.items }
+    ensures noted { halted.new.items ≡ halted.old.items ++ halted_in_turn domains.old.items domains.new.items }
 {
     for domain in domains.iter_mut() {
         let _ = turn(domain, shared, event, outs, halted);

@@ -11,7 +11,7 @@ use Rattle.cast_types.specs.Rising.{is_rising}
 use Rattle.cast_types.proofs.Rising.{rising_kept, less_is}
 use Rattle.cast_timer.specs.declared.key.OwedKey.{OwedKey}
 use Rattle.cast_timer.specs.declared.key.Owed.{Owed}
-use Rattle.cast_timer.specs.Owed.{owed_cmp, key_eq, is_owed, renewed, due_frames, due_at, all_renewed}
+use Rattle.cast_timer.specs.Owed.{owed_cmp, key_eq, is_owed, renew, due_frames, due_at, all_renewed}
 use Rattle.cast_timer.specs.Rows.{has_key, has_some}
 use Rattle.cast_timer.specs.Index.{frame_eq, has, is_due, IsIndex, renewed_due, moved_to}
 use Rattle.cast_timer.proofs.Orders.{owed_total, before}
@@ -93,11 +93,11 @@ index_alike due next os is index = record {
 
 -- Frames of keys that are owed for a moment one after the other
 
-index_each : (t : ℕ) (ks : List OwedKey) (due : OwedKey → Option ℕ) (os : List Owed) → IsIndex due os → (next : OwedKey → Option ℕ) → ((q : OwedKey) → next q ≡ cond (list_any (λ k. key_eq k q) ks) (Some t) (due q)) → IsIndex next (fold (λ ps key. renewed ps key t) os ks)
+index_each : (t : ℕ) (ks : List OwedKey) (due : OwedKey → Option ℕ) (os : List Owed) → IsIndex due os → (next : OwedKey → Option ℕ) → ((q : OwedKey) → next q ≡ cond (list_any (λ k. key_eq k q) ks) (Some t) (due q)) → IsIndex next (fold (λ ps key. renew ps key t) os ks)
 index_each t [] due os index next is = index_alike due next os is index
 index_each t (k ∷ ks) due os index next is =
     let first = λ (q : OwedKey). cond (key_eq k q) (Some t) (due q) in
-    index_each t ks first (renewed os k t) (index_renewed due os index (record { due = t; key = k }) first (λ q. refl)) next
+    index_each t ks first (renew os k t) (index_renewed due os index (record { due = t; key = k }) first (λ q. refl)) next
     (λ q. is q ∙ in_turn (key_eq k q) (list_any (λ j. key_eq j q) ks) (Some t) (due q))
   where
     in_turn : (a b : Bool) (s m : Option ℕ) → cond (a || b) s m ≡ cond b s (cond a s m)

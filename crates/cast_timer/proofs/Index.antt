@@ -16,7 +16,7 @@ use Rattle.cast_types.specs.Sets.{with_item}
 use Rattle.cast_types.proofs.Rising.{rising-with_item, rising_kept, all_kept}
 use Rattle.cast_timer.specs.declared.key.OwedKey.{OwedKey}
 use Rattle.cast_timer.specs.declared.key.Owed.{Owed}
-use Rattle.cast_timer.specs.Owed.{kind_rank, side_rank, key_cmp, owed_cmp, key_eq, is_owed, paid, is_upto, renewed}
+use Rattle.cast_timer.specs.Owed.{kind_rank, side_rank, key_cmp, owed_cmp, key_eq, is_owed, paid, is_upto, renew}
 use Rattle.cast_timer.specs.Index.{frame_eq, has, due_of, IsIndex}
 use Rattle.cast_timer.specs.contracts.key.OwedKeyOrd.TheImpl as keys
 use Rattle.cast_timer.proofs.Derived.{key_order}
@@ -196,7 +196,7 @@ module _ (due : OwedKey → Option ℕ) (os : List Owed) (index : IsIndex due os
           later false b h = h
 
 -- a key is put in both, in the place of what it had
-pub index_renewed : (due : OwedKey → Option ℕ) (os : List Owed) → IsIndex due os → (x : Owed) (next : OwedKey → Option ℕ) → ((q : OwedKey) → next q ≡ cond (key_eq x.key q) (Some x.due) (due q)) → IsIndex next (renewed os x.key x.due)
+pub index_renewed : (due : OwedKey → Option ℕ) (os : List Owed) → IsIndex due os → (x : Owed) (next : OwedKey → Option ℕ) → ((q : OwedKey) → next q ≡ cond (key_eq x.key q) (Some x.due) (due q)) → IsIndex next (renew os x.key x.due)
 index_renewed due os index x next is =
     let less = λ (q : OwedKey). cond (key_eq x.key q) None (due q) in
     index_with less (paid (key_eq x.key) os) (index_paid due os index (key_eq x.key) less (λ q. refl)) x next

@@ -84,8 +84,8 @@ abbrev pub is_of_view : GroupNo → OwedKey → Bool
 is_of_view g key = group_eq key.group g && is_of_messages key.kind key.side
 
 -- owes a frame for a moment, and for no other
-abbrev pub renewed : List Owed → OwedKey → ℕ → List Owed
-renewed owed key due = with_owed (paid (key_eq key) owed) key due
+abbrev pub renew : List Owed → OwedKey → ℕ → List Owed
+renew owed key due = with_owed (paid (key_eq key) owed) key due
 
 -- the frames that are due at a moment
 abbrev pub due_frames : ℕ → List Owed → List Owed
@@ -97,4 +97,4 @@ due_at now owed = map (λ o. o.key) (due_frames now owed)
 
 -- all frames that are due at a moment are owed for another one, one after the other
 abbrev pub all_renewed : ℕ → ℕ → List Owed → List Owed
-all_renewed now due owed = fold (λ os key. renewed os key due) owed (due_at now owed)
+all_renewed now due owed = fold (λ os key. renew os key due) owed (due_at now owed)

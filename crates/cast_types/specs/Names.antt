@@ -61,8 +61,8 @@ is_order Atomic = false
 is_order Order = true
 
 -- the message with this entry, in this view of this group
-abbrev pub named : GroupNo → ℕ → Entry → Uid
-named g view e = record { group = g; view = view; proc = e.0; count = e.1 }
+abbrev pub uid_in : GroupNo → ℕ → Entry → Uid
+uid_in g view e = record { group = g; view = view; proc = e.0; count = e.1 }
 
 abbrev pub entry_of : Uid → Entry
 entry_of u = (u.proc, u.count)

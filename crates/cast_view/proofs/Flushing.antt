@@ -3,7 +3,7 @@ use Rattle.std.specs.Prelude.{◌≡◌, ℕ, zero, suc, true, false, List, [], 
 use Rattle.cast_types.specs.declared.names.SiteNo.{SiteNo}
 use Rattle.cast_types.specs.declared.names.GroupNo.{GroupNo}
 use Rattle.cast_types.specs.declared.names.Proc.{Proc}
-use Rattle.cast_types.specs.Names.{Entry, named}
+use Rattle.cast_types.specs.Names.{Entry, uid_in}
 use Rattle.cast_types.specs.Counts.{CountList}
 use Rattle.cast_message.specs.declared.message.Body.TheVariants as body
 use Rattle.cast_message.specs.declared.message.Message.{Message}
@@ -35,7 +35,7 @@ nothing = report [] [] []
 
 -- a message of the group's third view
 abbrev message : Proc → ℕ → Message
-message p n = record { id = named group 3 (p, n); times = []; body = body.Causal [] }
+message p n = record { id = uid_in group 3 (p, n); times = []; body = body.Causal [] }
 
 -- the first processes of sites 1, 2 and 3 have joined, one view after another; site 1 has the holder
 abbrev three : Home

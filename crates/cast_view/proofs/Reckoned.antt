@@ -5,10 +5,10 @@ use Rattle.std.specs.Cmp.Lexicographic.{pointwise}
 use Rattle.std.proofs.lemmas.Bool.{and_parts, false≢true}
 use Rattle.cast_types.specs.declared.names.GroupNo.{GroupNo}
 use Rattle.cast_types.specs.declared.names.Proc.{Proc}
-use Rattle.cast_types.specs.Names.{Entry, proc_eq, uid_eq, named}
+use Rattle.cast_types.specs.Names.{Entry, proc_eq, uid_eq, uid_in}
 use Rattle.cast_types.proofs.Orders.{same_proc}
 use Rattle.cast_message.specs.declared.message.Message.{Message}
-use Rattle.cast_flush.specs.Reports.{needed, cut_from, has_body}
+use Rattle.cast_flush.specs.Reports.{needed_entries, cut_from, has_body}
 use Rattle.cast_flush.proofs.Gathered.{any_append}
 use Rattle.cast_view.specs.declared.phase.Phase.{Phase}
 use Rattle.cast_view.specs.declared.phase.Phase.TheVariants.{Idle, Gathering, Installing}
@@ -30,17 +30,17 @@ or_false false = refl
 
 module _ (g : GroupNo) (view : ℕ) (m : Message) where
   -- a message that came is there beside those that were
-  one_more : (bodies : List Message) (e : Entry) → has_body g view (bodies ++ m ∷ []) e ≡ (has_body g view bodies e || uid_eq m.id (named g view e))
+  one_more : (bodies : List Message) (e : Entry) → has_body g view (bodies ++ m ∷ []) e ≡ (has_body g view bodies e || uid_eq m.id (uid_in g view e))
   one_more bodies e =
-      any_append (λ x. uid_eq x.id (named g view e)) bodies (m ∷ [])
-      ∙ ap (λ b. has_body g view bodies e || b) (or_false (uid_eq m.id (named g view e)))
+      any_append (λ x. uid_eq x.id (uid_in g view e)) bodies (m ∷ [])
+      ∙ ap (λ b. has_body g view bodies e || b) (or_false (uid_eq m.id (uid_in g view e)))
 
   -- with a message that came, what was lacking but for this
-  pub lacking_but : (members : List Proc) (phase : Phase) → filter (λ e. not (uid_eq m.id (named g view e))) (lacking_in g view members phase) ≡ lacking_in g view members (phase_with_body m phase)
+  pub lacking_but : (members : List Proc) (phase : Phase) → filter (λ e. not (uid_eq m.id (uid_in g view e))) (lacking_in g view members phase) ≡ lacking_in g view members (phase_with_body m phase)
   lacking_but members Idle = refl
   lacking_but members (Gathering awaited reports bodies) =
-      sym (filter_both (has_body g view bodies) (λ e. uid_eq m.id (named g view e)) (needed (cut_from members reports) reports))
-      ∙ sym (λ i. filter (λ e. not (one_more bodies e i)) (needed (cut_from members reports) reports))
+      sym (filter_both (has_body g view bodies) (λ e. uid_eq m.id (uid_in g view e)) (needed_entries (cut_from members reports) reports))
+      ∙ sym (λ i. filter (λ e. not (one_more bodies e i)) (needed_entries (cut_from members reports) reports))
   lacking_but members (Installing waiting decision bodies) = refl
 
 -- lists of processes that are equal one by one are equal

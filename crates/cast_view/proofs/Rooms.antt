@@ -21,7 +21,7 @@ use Rattle.cast_view.specs.declared.phase.Phase.TheVariants.{Idle, Gathering, In
 use Rattle.cast_flush.specs.Reports.{cut_from}
 use Rattle.cast_flush.specs.Decisions.{order_from}
 use Rattle.cast_view.specs.Sites.{sites_of}
-use Rattle.cast_view.specs.Home.{Home, expected, stays, is_leaving, is_suspected, is_crowded, is_refused, is_sound, has_next_number, installing, decided_list, decided_phase, decided, marked_leaving}
+use Rattle.cast_view.specs.Home.{Home, expected_members, stays, is_leaving, is_suspected, is_crowded, is_refused, is_sound, has_next_number, installing, decided_list, decided_phase, decide_view, marked_leaving}
 use Rattle.cast_types.proofs.Rising.{rising_kept, rising-with_items}
 use Rattle.cast_view.proofs.Among.{among_kept, among_with_item, among_set_of}
 use Rattle.cast_flush.proofs.Each.{length_filter}
@@ -68,7 +68,7 @@ rising_length (x ∷ xs) ys rising within =
     omega arith
 
 -- expected are the members that stay, and the joins
-among_expected : (h : Home) (p : Proc) → is_among proc_eq p (expected h) ≡ ((is_among proc_eq p h.members.list && stays h p) || is_among proc_eq p h.joins)
+among_expected : (h : Home) (p : Proc) → is_among proc_eq p (expected_members h) ≡ ((is_among proc_eq p h.members.list && stays h p) || is_among proc_eq p h.joins)
 among_expected h p =
     among_set_of proc_cmp proc_exact proc_eq p (filter (stays h) h.members.list ++ h.joins)
     ∙ list_any-append (proc_eq p) (filter (stays h) h.members.list) h.joins
@@ -86,25 +86,25 @@ among_decided h p =
     ∙ ap (λ (b : Bool). (is_among proc_eq p h.members.list && stays h p) || b) (among_kept proc_eq same_proc (λ q. not (is_suspected h q.site)) p h.joins)
 
 -- whom the next views are to have stand in rising order
-rising_expected : (h : Home) → is_rising proc_cmp (expected h) ≡ true
+rising_expected : (h : Home) → is_rising proc_cmp (expected_members h) ≡ true
 rising_expected h = rising-with_items proc_cmp proc_total (filter (stays h) h.members.list ++ h.joins) [] refl
 
 -- members that stay are expected
-member_expected : (h : Home) (p : Proc) → is_among proc_eq p h.members.list ≡ true → stays h p ≡ true → is_among proc_eq p (expected h) ≡ true
+member_expected : (h : Home) (p : Proc) → is_among proc_eq p h.members.list ≡ true → stays h p ≡ true → is_among proc_eq p (expected_members h) ≡ true
 member_expected h p member stay =
     among_expected h p
     ∙ or_left (is_among proc_eq p h.members.list && stays h p) (is_among proc_eq p h.joins) (and_from (is_among proc_eq p h.members.list) (stays h p) member stay)
 
 -- and so are joins
-join_expected : (h : Home) (p : Proc) → is_among proc_eq p h.joins ≡ true → is_among proc_eq p (expected h) ≡ true
+join_expected : (h : Home) (p : Proc) → is_among proc_eq p h.joins ≡ true → is_among proc_eq p (expected_members h) ≡ true
 join_expected h p joins = among_expected h p ∙ or_right (is_among proc_eq p h.members.list && stays h p) (is_among proc_eq p h.joins) joins
 
 -- where only members that were to stay stay, and whoever joins was expected, nobody is expected who was not
 expected_within :
     (new old : Home)
-    → ((p : Proc) → is_among proc_eq p new.members.list ≡ true → stays new p ≡ true → is_among proc_eq p (expected old) ≡ true)
-    → ((p : Proc) → is_among proc_eq p new.joins ≡ true → is_among proc_eq p (expected old) ≡ true)
-    → (p : Proc) → is_among proc_eq p (expected new) ≡ true → is_among proc_eq p (expected old) ≡ true
+    → ((p : Proc) → is_among proc_eq p new.members.list ≡ true → stays new p ≡ true → is_among proc_eq p (expected_members old) ≡ true)
+    → ((p : Proc) → is_among proc_eq p new.joins ≡ true → is_among proc_eq p (expected_members old) ≡ true)
+    → (p : Proc) → is_among proc_eq p (expected_members new) ≡ true → is_among proc_eq p (expected_members old) ≡ true
 expected_within new old members joins p among =
     elim (or_cases (is_among proc_eq p new.members.list && stays new p) (is_among proc_eq p new.joins) (sym (among_expected new p) ∙ among)) [
       | inl member ↦ (let parts = and_parts (is_among proc_eq p new.members.list) (stays new p) member in members p parts.0 parts.1)
@@ -114,13 +114,13 @@ expected_within new old members joins p among =
 -- where nobody is expected who was not, there is still room
 sound_within :
     (new old : Home) → IsTrue (is_sound old)
-    → ((p : Proc) → is_among proc_eq p (expected new) ≡ true → is_among proc_eq p (expected old) ≡ true)
+    → ((p : Proc) → is_among proc_eq p (expected_members new) ≡ true → is_among proc_eq p (expected_members old) ≡ true)
     → has_next_number new.number new.phase ≡ true → IsTrue (is_sound new)
 sound_within new old sound within number =
-    let parts = and_parts (nat_le (length (expected old)) MAX_MEMBERS) (has_next_number old.number old.phase) sound in
-    let room = leb-true (length (expected old)) MAX_MEMBERS parts.0 in
-    let few = rising_length (expected new) (expected old) (rising_expected new) within in
-    and_from (nat_le (length (expected new)) MAX_MEMBERS) (has_next_number new.number new.phase) (le-leb (length (expected new)) MAX_MEMBERS (omega arith)) number
+    let parts = and_parts (nat_le (length (expected_members old)) MAX_MEMBERS) (has_next_number old.number old.phase) sound in
+    let room = leb-true (length (expected_members old)) MAX_MEMBERS parts.0 in
+    let few = rising_length (expected_members new) (expected_members old) (rising_expected new) within in
+    and_from (nat_le (length (expected_members new)) MAX_MEMBERS) (has_next_number new.number new.phase) (le-leb (length (expected_members new)) MAX_MEMBERS (omega arith)) number
 
 -- whoever stays is neither leaving nor at a suspected site
 stays_parts : (a b c d : Bool) → (a ≡ true → c ≡ true) → (b ≡ true → d ≡ true) → (not c && not d) ≡ true → (not a && not b) ≡ true
@@ -135,7 +135,7 @@ stays_parts false true c d first second stay = absurd (false≢true (sym (and_no
 -- with more leaving nobody is expected who was not
 leaving_within :
     (h : Home) (leavings : List Proc) → ((p : Proc) → is_among proc_eq p h.leavings ≡ true → is_among proc_eq p leavings ≡ true)
-    → (p : Proc) → is_among proc_eq p (expected (record h { leavings = leavings })) ≡ true → is_among proc_eq p (expected h) ≡ true
+    → (p : Proc) → is_among proc_eq p (expected_members (record h { leavings = leavings })) ≡ true → is_among proc_eq p (expected_members h) ≡ true
 leaving_within h leavings more =
     expected_within (record h { leavings = leavings }) h
     (λ p member stay. member_expected h p member (stays_parts (is_leaving h p) (is_suspected h p.site) (is_among proc_eq p leavings) (is_suspected h p.site) (more p) (λ is. is) stay))
@@ -146,7 +146,7 @@ pub sound_leaving :
     (h : Home) (leavings : List Proc) → ((p : Proc) → is_among proc_eq p h.leavings ≡ true → is_among proc_eq p leavings ≡ true)
     → IsTrue (is_sound h) → IsTrue (is_sound (record h { leavings = leavings }))
 sound_leaving h leavings more sound =
-    let parts = and_parts (nat_le (length (expected h)) MAX_MEMBERS) (has_next_number h.number h.phase) sound in
+    let parts = and_parts (nat_le (length (expected_members h)) MAX_MEMBERS) (has_next_number h.number h.phase) sound in
     sound_within (record h { leavings = leavings }) h sound (leaving_within h leavings more) parts.1
 
 -- with more suspected there is still room
@@ -154,7 +154,7 @@ pub sound_suspected :
     (h : Home) (suspected : List SiteNo) → ((s : SiteNo) → is_among site_eq s h.suspected ≡ true → is_among site_eq s suspected ≡ true)
     → IsTrue (is_sound h) → IsTrue (is_sound (record h { suspected = suspected }))
 sound_suspected h suspected more sound =
-    let parts = and_parts (nat_le (length (expected h)) MAX_MEMBERS) (has_next_number h.number h.phase) sound in
+    let parts = and_parts (nat_le (length (expected_members h)) MAX_MEMBERS) (has_next_number h.number h.phase) sound in
     sound_within (record h { suspected = suspected }) h sound
     (expected_within (record h { suspected = suspected }) h
     (λ p member stay. member_expected h p member (stays_parts (is_leaving h p) (is_suspected h p.site) (is_leaving h p) (is_among site_eq p.site suspected) (λ is. is) (more p.site) stay))
@@ -166,7 +166,7 @@ pub sound_joins :
     (h : Home) (joins : List Proc) → ((p : Proc) → is_among proc_eq p joins ≡ true → is_among proc_eq p h.joins ≡ true)
     → IsTrue (is_sound h) → IsTrue (is_sound (record h { joins = joins }))
 sound_joins h joins fewer sound =
-    let parts = and_parts (nat_le (length (expected h)) MAX_MEMBERS) (has_next_number h.number h.phase) sound in
+    let parts = and_parts (nat_le (length (expected_members h)) MAX_MEMBERS) (has_next_number h.number h.phase) sound in
     sound_within (record h { joins = joins }) h sound
     (expected_within (record h { joins = joins }) h (member_expected h) (λ p join. join_expected h p (fewer p join)))
     parts.1
@@ -197,7 +197,7 @@ next_decided h n members (Gathering awaited reports bodies) =
 next_decided h n members (Installing waiting decision bodies) = refl
 
 -- whoever is decided was expected
-decided_expected : (h : Home) (p : Proc) → is_among proc_eq p (decided_list h) ≡ true → is_among proc_eq p (expected h) ≡ true
+decided_expected : (h : Home) (p : Proc) → is_among proc_eq p (decided_list h) ≡ true → is_among proc_eq p (expected_members h) ≡ true
 decided_expected h p among =
     elim (or_cases (is_among proc_eq p h.members.list && stays h p) (is_among proc_eq p h.joins && not (is_suspected h p.site)) (sym (among_decided h p) ∙ among)) [
       | inl member ↦ (let parts = and_parts (is_among proc_eq p h.members.list) (stays h p) member in member_expected h p parts.0 parts.1)
@@ -211,16 +211,16 @@ rising_decided h = rising-with_items proc_cmp proc_total (filter (stays h) h.mem
 -- the next view has no more members than a view may have
 pub few_decided : (h : Home) → IsTrue (is_sound h) → length (decided_list h) ≤ MAX_MEMBERS
 few_decided h sound =
-    let parts = and_parts (nat_le (length (expected h)) MAX_MEMBERS) (has_next_number h.number h.phase) sound in
-    let room = leb-true (length (expected h)) MAX_MEMBERS parts.0 in
-    let few = rising_length (decided_list h) (expected h) (rising_decided h) (decided_expected h) in
+    let parts = and_parts (nat_le (length (expected_members h)) MAX_MEMBERS) (has_next_number h.number h.phase) sound in
+    let room = leb-true (length (expected_members h)) MAX_MEMBERS parts.0 in
+    let few = rising_length (decided_list h) (expected_members h) (rising_decided h) (decided_expected h) in
     omega arith
 
 -- after a decision there is still room: the members were expected, and so were the joins that are left
-pub sound_decided : (h : Home) → IsTrue (is_sound h) → IsTrue (is_sound (decided h))
+pub sound_decided : (h : Home) → IsTrue (is_sound h) → IsTrue (is_sound (decide_view h))
 sound_decided h sound =
-    sound_within (decided h) h sound
-    (expected_within (decided h) h
+    sound_within (decide_view h) h sound
+    (expected_within (decide_view h) h
     (λ p member stay. decided_expected h p member)
     (λ p join.
     join_expected h p
@@ -228,14 +228,14 @@ sound_decided h sound =
     (next_decided h (h.number + 1) (decided_list h) h.phase)
 
 -- in whatever phase that needs no further number
-pub sound_passed : (h : Home) (phase : Phase) → has_next_number (h.number + 1) phase ≡ true → IsTrue (is_sound h) → IsTrue (is_sound (record (decided h) { phase = phase }))
+pub sound_passed : (h : Home) (phase : Phase) → has_next_number (h.number + 1) phase ≡ true → IsTrue (is_sound h) → IsTrue (is_sound (record (decide_view h) { phase = phase }))
 sound_passed h phase next sound =
-    let parts = and_parts (nat_le (length (expected (decided h))) MAX_MEMBERS) (has_next_number (h.number + 1) (decided_phase h (decided_list h) h.phase)) (sound_decided h sound) in
-    and_from (nat_le (length (expected (decided h))) MAX_MEMBERS) (has_next_number (h.number + 1) phase) parts.0 next
+    let parts = and_parts (nat_le (length (expected_members (decide_view h))) MAX_MEMBERS) (has_next_number (h.number + 1) (decided_phase h (decided_list h) h.phase)) (sound_decided h sound) in
+    and_from (nat_le (length (expected_members (decide_view h))) MAX_MEMBERS) (has_next_number (h.number + 1) phase) parts.0 next
 
 -- where a process is not crowded out, there is room for one beside the others
-not_crowded : (h : Home) (p : Proc) → is_crowded h p ≡ false → length (without proc_eq p (expected h)) < MAX_MEMBERS
-not_crowded h p free = leb-false MAX_MEMBERS (length (without proc_eq p (expected h))) free
+not_crowded : (h : Home) (p : Proc) → is_crowded h p ≡ false → length (without proc_eq p (expected_members h)) < MAX_MEMBERS
+not_crowded h p free = leb-false MAX_MEMBERS (length (without proc_eq p (expected_members h))) free
 
 -- an item among a list is the one or among the list without it
 one_or_rest : (p q : Proc) (xs : List Proc) → is_among proc_eq q xs ≡ true → is_among proc_eq q (p ∷ without proc_eq p xs) ≡ true
@@ -251,42 +251,42 @@ one_or_rest p q xs among =
 
 -- with a join nobody else is expected
 joined_within :
-    (h : Home) (p q : Proc) → is_among proc_eq q (expected (record h { joins = with_item proc_cmp p h.joins })) ≡ true
-    → is_among proc_eq q (p ∷ without proc_eq p (expected h)) ≡ true
+    (h : Home) (p q : Proc) → is_among proc_eq q (expected_members (record h { joins = with_item proc_cmp p h.joins })) ≡ true
+    → is_among proc_eq q (p ∷ without proc_eq p (expected_members h)) ≡ true
 joined_within h p q among =
     elim (or_cases (is_among proc_eq q h.members.list && stays h q) (is_among proc_eq q (with_item proc_cmp p h.joins)) (sym (among_expected (record h { joins = with_item proc_cmp p h.joins }) q) ∙ among)) [
-      | inl member ↦ (let both = and_parts (is_among proc_eq q h.members.list) (stays h q) member in one_or_rest p q (expected h) (member_expected h q both.0 both.1))
+      | inl member ↦ (let both = and_parts (is_among proc_eq q h.members.list) (stays h q) member in one_or_rest p q (expected_members h) (member_expected h q both.0 both.1))
       | inr join ↦ elim (or_cases (proc_eq q p) (is_among proc_eq q h.joins) (sym (among_with_item proc_cmp proc_exact proc_eq q p h.joins) ∙ join)) [
-        | inl one ↦ or_left (proc_eq q p) (is_among proc_eq q (without proc_eq p (expected h))) one
-        | inr before ↦ one_or_rest p q (expected h) (join_expected h q before)
+        | inl one ↦ or_left (proc_eq q p) (is_among proc_eq q (without proc_eq p (expected_members h))) one
+        | inr before ↦ one_or_rest p q (expected_members h) (join_expected h q before)
       ]
     ]
 
 -- with a join that is not crowded there is still room
 pub sound_joined : (h : Home) (p : Proc) → is_crowded h p ≡ false → IsTrue (is_sound h) → IsTrue (is_sound (record h { joins = with_item proc_cmp p h.joins }))
 sound_joined h p free sound =
-    let parts = and_parts (nat_le (length (expected h)) MAX_MEMBERS) (has_next_number h.number h.phase) sound in
+    let parts = and_parts (nat_le (length (expected_members h)) MAX_MEMBERS) (has_next_number h.number h.phase) sound in
     let room = not_crowded h p free in
     let few =
-    rising_length (expected (record h { joins = with_item proc_cmp p h.joins })) (p ∷ without proc_eq p (expected h)) (rising_expected (record h { joins = with_item proc_cmp p h.joins }))
+    rising_length (expected_members (record h { joins = with_item proc_cmp p h.joins })) (p ∷ without proc_eq p (expected_members h)) (rising_expected (record h { joins = with_item proc_cmp p h.joins }))
     (joined_within h p) in
-    and_from (nat_le (length (expected (record h { joins = with_item proc_cmp p h.joins }))) MAX_MEMBERS) (has_next_number h.number h.phase)
-    (le-leb (length (expected (record h { joins = with_item proc_cmp p h.joins }))) MAX_MEMBERS (omega arith)) parts.1
+    and_from (nat_le (length (expected_members (record h { joins = with_item proc_cmp p h.joins }))) MAX_MEMBERS) (has_next_number h.number h.phase)
+    (le-leb (length (expected_members (record h { joins = with_item proc_cmp p h.joins }))) MAX_MEMBERS (omega arith)) parts.1
 
 -- where others are expected, but nobody who was not, a process that was not crowded is not
 crowded_within :
-    (new old : Home) (p : Proc) → ((q : Proc) → is_among proc_eq q (expected new) ≡ true → is_among proc_eq q (expected old) ≡ true)
+    (new old : Home) (p : Proc) → ((q : Proc) → is_among proc_eq q (expected_members new) ≡ true → is_among proc_eq q (expected_members old) ≡ true)
     → is_crowded old p ≡ false → is_crowded new p ≡ false
 crowded_within new old p within free =
     let room = not_crowded old p free in
     let few =
-    rising_length (without proc_eq p (expected new)) (without proc_eq p (expected old))
-    (rising_kept proc_cmp (λ y. not (proc_eq p y)) (expected new) (rising_expected new))
+    rising_length (without proc_eq p (expected_members new)) (without proc_eq p (expected_members old))
+    (rising_kept proc_cmp (λ y. not (proc_eq p y)) (expected_members new) (rising_expected new))
     (λ q among.
-    let parts = and_parts (is_among proc_eq q (expected new)) (not (proc_eq p q)) (sym (among_kept proc_eq same_proc (λ y. not (proc_eq p y)) q (expected new)) ∙ among) in
-    among_kept proc_eq same_proc (λ y. not (proc_eq p y)) q (expected old)
-    ∙ and_from (is_among proc_eq q (expected old)) (not (proc_eq p q)) (within q parts.0) parts.1) in
-    lt-leb MAX_MEMBERS (length (without proc_eq p (expected new))) (omega arith)
+    let parts = and_parts (is_among proc_eq q (expected_members new)) (not (proc_eq p q)) (sym (among_kept proc_eq same_proc (λ y. not (proc_eq p y)) q (expected_members new)) ∙ among) in
+    among_kept proc_eq same_proc (λ y. not (proc_eq p y)) q (expected_members old)
+    ∙ and_from (is_among proc_eq q (expected_members old)) (not (proc_eq p q)) (within q parts.0) parts.1) in
+    lt-leb MAX_MEMBERS (length (without proc_eq p (expected_members new))) (omega arith)
 
 -- a process that is not crowded is not after it is marked
 crowded_marked : (h : Home) (p : Proc) → is_crowded h p ≡ false → is_crowded (marked_leaving h p) p ≡ false

@@ -58,12 +58,12 @@ abbrev pub stays : Home → Proc → Bool
 stays h p = not (is_leaving h p) && not (is_suspected h p.site)
 
 -- whom the next views have, when nothing else changes
-abbrev pub expected : Home → List Proc
-expected h = set_of proc_cmp (filter (stays h) h.members.list ++ h.joins)
+abbrev pub expected_members : Home → List Proc
+expected_members h = set_of proc_cmp (filter (stays h) h.members.list ++ h.joins)
 
 -- with p there would be more of them than a view may have
 abbrev pub is_crowded : Home → Proc → Bool
-is_crowded h p = nat_le MAX_MEMBERS (length (without proc_eq p (expected h)))
+is_crowded h p = nat_le MAX_MEMBERS (length (without proc_eq p (expected_members h)))
 
 abbrev pub marked_leaving : Home → Proc → Home
 marked_leaving h p = if is_among proc_eq p h.members.list then record h { leavings = with_item proc_cmp p h.leavings } else h
@@ -249,8 +249,8 @@ decided_phase h members (Gathering awaited reports bodies) =
 decided_phase h members (Installing waiting decision bodies) = Installing waiting decision bodies
 
 -- the next view is decided. Joins from suspected sites stay for the one after it
-abbrev pub decided : Home → Home
-decided h =
+abbrev pub decide_view : Home → Home
+decide_view h =
     record h {
       number = h.number + 1;
       members = decided_members h;
@@ -261,7 +261,7 @@ decided h =
     }
 
 abbrev pub after_decision : GroupNo → Home → Home
-after_decision g h = if may_decide g h then decided h else h
+after_decision g h = if may_decide g h then decide_view h else h
 
 -- a site has answered that the view is installed
 abbrev pub awaits_installed : Phase → SiteNo → Bool
@@ -293,14 +293,14 @@ pub data HomeMove : Type 0 where
   -- a site has installed a view
   Installed : (from : SiteNo) (view : ℕ) → HomeMove
 
-abbrev pub moved : HomeMove → Home → Home
-moved (Asked from number what p) h = after_ask h from number what p
-moved (Suspected site) h = after_suspicion h site
-moved Started h = after_start h
-moved (Reported from view report) h = after_reply h from view report
-moved (Brought message) h = after_body h message
-moved Decided h = decided h
-moved (Installed from view) h = after_installed h from view
+abbrev pub apply_move : HomeMove → Home → Home
+apply_move (Asked from number what p) h = after_ask h from number what p
+apply_move (Suspected site) h = after_suspicion h site
+apply_move Started h = after_start h
+apply_move (Reported from view report) h = after_reply h from view report
+apply_move (Brought message) h = after_body h message
+apply_move Decided h = decide_view h
+apply_move (Installed from view) h = after_installed h from view
 
 -- What holds at all times: the next views have room for whom they are to have, and a flush runs only where a number is
 -- left for the next view
@@ -311,4 +311,4 @@ has_next_number n (Gathering awaited reports bodies) = nat_lt n MAX_NUMBER
 has_next_number n (Installing waiting decision bodies) = true
 
 abbrev pub is_sound : Home → Bool
-is_sound h = nat_le (length (expected h)) MAX_MEMBERS && has_next_number h.number h.phase
+is_sound h = nat_le (length (expected_members h)) MAX_MEMBERS && has_next_number h.number h.phase

@@ -1,5 +1,5 @@
 ghost use Rattle.std.specs.Prelude.{◌≡◌, ◌≤◌, IfOk, IfSome, IsTrue, length, not, filter};
-ghost use Rattle.cast_types.specs.Names.{proc_cmp, uid_eq, named};
+ghost use Rattle.cast_types.specs.Names.{proc_cmp, uid_eq, uid_in};
 ghost use Rattle.cast_types.specs.Rising.{is_rising};
 ghost use Rattle.cast_view.specs.Home.{phase_with_body};
 ghost use Rattle.cast_view.specs.Flush.{lacking_in, AreReckoned};
@@ -161,7 +161,7 @@ impl Lacking {
         ensures group { result.group ≡ self.group }
         ensures view { result.view ≡ self.view }
         ensures members { result.members ≡ self.members }
-        ensures ids { result.ids.items ≡ filter (λ e. not (uid_eq id (named self.group self.view e))) self.ids.items }
+        ensures ids { result.ids.items ≡ filter (λ e. not (uid_eq id (uid_in self.group self.view e))) self.ids.items }
     {
         let Lacking {
             group,
@@ -181,7 +181,7 @@ impl Lacking {
 
 // The message of a view that is named by its process and count.
 fn named(group: GroupNo, view: u32, entry: (Proc, u32)) -> Uid
-    ensures { result ≡ named group view entry }
+    ensures { result ≡ uid_in group view entry }
 {
     Uid {
         group,

@@ -46,7 +46,7 @@ impl Model for HomeSide {
 }
 
 impl HomeSide {
-    ghost use Rattle.cast_view.specs.Home.{first_home, answer_of, decision_of, answer_to, is_refused, is_crowded, expected, stays, marked_leaving, with_suspect, changed_by, after_request, after_ask, after_suspicion, may_start, after_start, takes_report, after_reply, after_body, bodies_of, wants_in, may_decide, decided_list, decided_holder, decided_phase, decided, has_next_number, after_decision, takes_installed, after_installed};
+    ghost use Rattle.cast_view.specs.Home.{first_home, answer_of, decision_of, answer_to, is_refused, is_crowded, expected_members, stays, marked_leaving, with_suspect, changed_by, after_request, after_ask, after_suspicion, may_start, after_start, takes_report, after_reply, after_body, bodies_of, wants_in, may_decide, decided_list, decided_holder, decided_phase, decide_view, has_next_number, after_decision, takes_installed, after_installed};
 
     /// No view, nothing to change and no requests.
     pub fn new(alloc: Global) -> Self
@@ -189,7 +189,7 @@ impl HomeSide {
 
     // Whom the next views have, when nothing else changes.
     fn expected_members(&self) -> Result<Procs, NoMemory>
-        ensures { IfOk result (λ procs. procs ≡ expected self.now) }
+        ensures { IfOk result (λ procs. procs ≡ expected_members self.now) }
     {
         let mut procs = Procs::new(self.joins.alloc());
         for member in self.members.list() {
@@ -441,7 +441,7 @@ impl HomeSide {
         requires list { list ≡ decided_list self.old }
         requires few { length list ≤ 64 }
         requires phase { IsTrue (has_next_number (self.old.number + 1) self.old.phase) }
-        ensures { self.new ≡ record (decided self.old) { phase = self.old.phase } }
+        ensures { self.new ≡ record (decide_view self.old) { phase = self.old.phase } }
     {
         let holder = self.decided_holder(list.as_slice());
         let suspected = mem::replace(&mut self.suspected, Vec::new(self.joins.alloc()));

@@ -8,14 +8,14 @@ use Rattle.std.specs.List.{list_all, list_any, range_with_len}
 use Rattle.std.specs.Ordering.{eq_by_cmp}
 use Rattle.std.specs.Prelude.{◌+◌, ◌<◌, ◌==◌, Bool, Contains, List, [], cond, false, filter, map, not, refl, suc, take, true, zero, ◌||◌, ℕ, ◌∷◌, ◌≡◌, ◌≤◌}
 use Rattle.cast_clock.specs.Times.{clock_of, count_in, has_room, join, view_of}
-use Rattle.cast_ready.specs.Ready.{Process, covered, first_of, group_allows, has_delivered, has_turn, is_causally_ready, is_member, is_open_to, is_outside, is_ready, past_in}
+use Rattle.cast_ready.specs.Ready.{Process, covered_entries, first_of, group_allows, has_delivered, has_turn, is_causally_ready, is_member, is_open_to, is_outside, is_ready, past_in}
 use Rattle.cast_ready.specs.declared.gate.Gate.{Gate}
 use Rattle.cast_ready.specs.declared.turn.Turn.{Turn}
 use Rattle.cast_message.specs.Bodies.{kind_of}
 use Rattle.cast_message.specs.declared.message.Message.{Message}
 use Rattle.cast_types.specs.Counts.{CountList, count_of}
 use Rattle.cast_types.specs.Sets.{is_among}
-use Rattle.cast_types.specs.Names.{entry_of, is_atomic, named, proc_cmp, uid_eq}
+use Rattle.cast_types.specs.Names.{entry_of, is_atomic, uid_in, proc_cmp, uid_eq}
 use Rattle.cast_types.specs.declared.names.GroupNo.{GroupNo}
 use Rattle.cast_types.specs.declared.names.Proc.{Proc}
 use Rattle.cast_types.specs.declared.names.Standing.TheVariants.{Member}
@@ -80,19 +80,19 @@ contains_range a (suc n) k le lt = elim (cases_lt a k) [
   | inr less ↦ let same : a ≡ k = omega (arith, less, le) in (0, omega arith, same)
 ]
 
-pub contains_covered : (c : CountList) (p : Proc) (n : ℕ) → 1 ≤ n → n ≤ count_of c p → Contains (covered c) (p, n)
+pub contains_covered : (c : CountList) (p : Proc) (n : ℕ) → 1 ≤ n → n ≤ count_of c p → Contains (covered_entries c) (p, n)
 contains_covered [] p n one le = absurd (omega (arith, one, le))
 contains_covered (e ∷ c) p n one le = go (eq_by_cmp proc_cmp p e.0) refl (contains_covered c p n one)
   where
     is : count_of (e ∷ c) p ≡ cond (eq_by_cmp proc_cmp p e.0) e.1 (count_of c p)
     is = unwrapped (eq_by_cmp proc_cmp p e.0) e.1 0 (find proc_cmp p c)
 
-    go : (b : Bool) → eq_by_cmp proc_cmp p e.0 ≡ b → (n ≤ count_of c p → Contains (covered c) (p, n)) → Contains (covered (e ∷ c)) (p, n)
+    go : (b : Bool) → eq_by_cmp proc_cmp p e.0 ≡ b → (n ≤ count_of c p → Contains (covered_entries c) (p, n)) → Contains (covered_entries (e ∷ c)) (p, n)
     go true tie more =
         let low : n ≤ e.1 = subst (λ k. n ≤ k) (is ∙ ap (λ b. cond b e.1 (count_of c p)) tie) le in
         let at = contains_mapped (λ (k : ℕ). (e.0, k)) (range_with_len 1 e.1) n (contains_range 1 e.1 n one (omega (arith, low))) in
-        Contains-append_left (first_of e) (covered c) (p, n) (subst (λ (q : Proc). Contains (first_of e) (q, n)) (sym (tells_apart proc_exact p e.0 tie)) at)
-    go false tie more = Contains-append_right (first_of e) (covered c) (p, n) (more (subst (λ k. n ≤ k) (is ∙ ap (λ b. cond b e.1 (count_of c p)) tie) le))
+        Contains-append_left (first_of e) (covered_entries c) (p, n) (subst (λ (q : Proc). Contains (first_of e) (q, n)) (sym (tells_apart proc_exact p e.0 tie)) at)
+    go false tie more = Contains-append_right (first_of e) (covered_entries c) (p, n) (more (subst (λ k. n ≤ k) (is ∙ ap (λ b. cond b e.1 (count_of c p)) tie) le))
 
 pub same_uid : (a b : Uid) → uid_eq a b ≡ true → a ≡ b
 same_uid a b e =
@@ -118,11 +118,11 @@ found_among u (v ∷ us) e = go (uid_eq u v) refl (found_among u us)
 past_delivered : (p : Process) (m : Message) (h : GroupNo) (u : Uid) → list_all (has_delivered p) (past_in m h) ≡ true → u.group ≡ h → u.view ≡ view_of m.times h →
     1 ≤ u.count → u.count ≤ count_in m.times h u.proc → (u ≡ m.id → ⊥) → Contains p.delivered u
 past_delivered p m h u all group view one le other =
-    let is : named h (view_of m.times h) (u.proc, u.count) ≡ u = λ i. record { group = sym group i; view = sym view i; proc = u.proc; count = u.count } in
-    let at = contains_mapped (named h (view_of m.times h)) (covered (clock_of m.times h).counts) (u.proc, u.count) (contains_covered (clock_of m.times h).counts u.proc u.count one le) in
+    let is : uid_in h (view_of m.times h) (u.proc, u.count) ≡ u = λ i. record { group = sym group i; view = sym view i; proc = u.proc; count = u.count } in
+    let at = contains_mapped (uid_in h (view_of m.times h)) (covered_entries (clock_of m.times h).counts) (u.proc, u.count) (contains_covered (clock_of m.times h).counts u.proc u.count one le) in
     let apart : not (uid_eq m.id u) ≡ true = ap not (false_from_ne_true (uid_eq m.id u) (λ same. other (sym (same_uid m.id u same)))) in
     found_among u p.delivered (passes (has_delivered p) (past_in m h) all u
-    (contains_kept (λ v. not (uid_eq m.id v)) (map (named h (view_of m.times h)) (covered (clock_of m.times h).counts)) u (subst (λ v. Contains (map (named h (view_of m.times h)) (covered (clock_of m.times h).counts)) v) is at) apart))
+    (contains_kept (λ v. not (uid_eq m.id v)) (map (uid_in h (view_of m.times h)) (covered_entries (clock_of m.times h).counts)) u (subst (λ v. Contains (map (uid_in h (view_of m.times h)) (covered_entries (clock_of m.times h).counts)) v) is at) apart))
 
 module _ (groups : List GroupNo) (gate : GroupNo → Gate) (turn : GroupNo → Turn) (p : Process) (m : Message)
     (known : (g : GroupNo) → is_outside (p.standing g) ≡ false → Contains groups g)

@@ -16,7 +16,7 @@ use Rattle.cast_events.specs.declared.log.Fault.TheVariants.{Halted, NoDomain}
 use Rattle.cast_types.specs.declared.names.DomainNo.{DomainNo}
 use Rattle.cast_types.specs.declared.names.SiteNo.{SiteNo}
 use Rattle.cast_types.specs.declared.refusal.Refusal.TheVariants as refusal
-use Rattle.cast_table.specs.Tables.{AreTurns, IsApplied, IsAppliedAt, IsAppliedTo, IsNew, IsTaken, IsTicked, IsTurn, IsTurnAt, Lent, answer_in_turn, domain_eq, halted_by, part_in, place_named, stopped}
+use Rattle.cast_table.specs.Tables.{AreTurns, IsApplied, IsAppliedAt, IsAppliedTo, IsNew, IsTaken, IsTicked, IsTurn, IsTurnAt, Lent, answer_in_turn, domain_eq, halted_by, part_in, place_named, halted_in_turn}
 use Rattle.cast_world.specs.Network.{names}
 
 -- the only domain of a table made its step, and runs on
@@ -70,7 +70,7 @@ module _ (e : Event) (taken : Taken) (old : Domain) (running : is_halted old ≡
       (took at.next (subst (λ d. IsTaken d e taken at.next before after) (sym (some_is old at.domain at.stands)) at.turn))
 
   -- at a tick; a domain that it halts is told of
-  took_turn : (new : Domain) → taken ≡ Nothing → stopped (old ∷ []) (new ∷ []) ≡ [] → AreTurns e (old ∷ []) (new ∷ []) before after → StepsAlone e taken old (new ∷ []) before after
+  took_turn : (new : Domain) → taken ≡ Nothing → halted_in_turn (old ∷ []) (new ∷ []) ≡ [] → AreTurns e (old ∷ []) (new ∷ []) before after → StepsAlone e taken old (new ∷ []) before after
   took_turn new nothing none turns = go (is_halted new) refl
     where
       answers : (b : Bool) → is_halted new ≡ b → answer_in_turn old new ≡ cond b (Err (Halted (number_of old))) (Ok Nothing)

@@ -5,7 +5,7 @@ use Rattle.std.proofs.lemmas.List.Elements.{Contains-push_cases, filter-append}
 use Rattle.std.proofs.lemmas.List.{length-append}
 use Rattle.std.specs.List.{AllByRecursion}
 use Rattle.std.specs.Prelude.{◌&&◌, ◌*◌, ◌+◌, ◌++◌, ◌<◌, ◌==◌, ◌||◌, Bool, Contains, List, None, Option, Some, [], cond, false, filter, if◌then◌else◌, length, nat_lt, not, refl, true, ℕ, ◌∷◌, ◌≡◌, ◌≤◌, ◌⊎◌}
-use Rattle.cast_ready.specs.Ready.{covered}
+use Rattle.cast_ready.specs.Ready.{covered_entries}
 use Rattle.cast_order.proofs.Told.{order_in_words}
 use Rattle.cast_rules.specs.Effects.{next_message}
 use Rattle.cast_rules.specs.History.{history}
@@ -30,7 +30,7 @@ use Rattle.cast_quota.specs.declared.quotas.Quotas.{Quotas}
 use Rattle.cast_quota.specs.declared.quotas.QuotaName.{QuotaName}
 use Rattle.cast_quota.specs.declared.quotas.QuotaName.TheVariants.{Sessions, Held, Outbox, Resend}
 use Rattle.cast_timer.proofs.Owing.{same_key}
-use Rattle.cast_timer.specs.Owed.{is_of_messages, is_of_view, is_owed, key_eq, owed_cmp, paid, renewed, with_owed}
+use Rattle.cast_timer.specs.Owed.{is_of_messages, is_of_view, is_owed, key_eq, owed_cmp, paid, renew, with_owed}
 use Rattle.cast_timer.specs.declared.key.Owed.{Owed}
 use Rattle.cast_timer.specs.declared.key.OwedKey.{OwedKey}
 use Rattle.cast_timer.specs.declared.key.OwedKind.{OwedKind}
@@ -125,7 +125,7 @@ number_up Came s g skipped n members request cut (ends from came is up ms) = up
 pub covers_waits : (group : MemberSide) (u : Uid) → covers group u ≡ true → is_pending group ≡ true
 covers_waits group u = go group.pending
   where
-    go : (o : Option Pending) → (elim o as (λ p. Bool) [ Some p ↦ (u.view == group.number) && is_among entry_eq (entry_of u) (covered p.cut) | None ↦ false ]) ≡ true →
+    go : (o : Option Pending) → (elim o as (λ p. Bool) [ Some p ↦ (u.view == group.number) && is_among entry_eq (entry_of u) (covered_entries p.cut) | None ↦ false ]) ≡ true →
         (elim o as (λ p. Bool) [ Some p ↦ true | None ↦ false ]) ≡ true
     go (Some p) e = refl
     go None e = e
@@ -230,7 +230,7 @@ module _ (most : ℕ) (home_here : Bool) where
     homes = x.homes;
   }
 
-  renewed_bounded : (o : Option GroupNo) (s : State) (key : OwedKey) (due : ℕ) → At o s → IsOwed s key → At o (record s { owed = renewed s.owed key due })
+  renewed_bounded : (o : Option GroupNo) (s : State) (key : OwedKey) (due : ℕ) → At o s → IsOwed s key → At o (record s { owed = renew s.owed key due })
   renewed_bounded o s key due x (y, at, is) = owed_bounded o s key due (paid (key_eq key) s.owed) (among_kept (λ (z : Owed). not (key_eq key z.key)) s.owed) x
       (subst (λ (k : OwedKey). (past o k ≡ true) ⊎ Wants s k) is (x.wants y at))
 

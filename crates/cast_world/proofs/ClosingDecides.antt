@@ -5,7 +5,7 @@ use Rattle.std.proofs.lemmas.Bool.{ltb-false, ltb-true}
 use Rattle.std.proofs.lemmas.List.{length-append}
 use Rattle.std.specs.List.{flat_map, fold}
 use Rattle.std.specs.Prelude.{◌++◌, ◌-◌, Bool, Contains, List, Option, [], drop, false, filter, if◌then◌else◌, length, map, min, nat_lt, not, refl, suc, take, true, unwrap_or, zero, ℕ, ◌∷◌, ◌≡◌, ◌≤◌, ◌⊎◌}
-use Rattle.cast_flush.specs.Decisions.{added, end_of, longest, no_stretch, order_from, unplaced}
+use Rattle.cast_flush.specs.Decisions.{added_entries, end_of, longest, no_stretch, order_from, unplaced_entries}
 use Rattle.cast_flush.specs.Reports.{Reports}
 use Rattle.cast_flush.specs.declared.report.Report.{Report}
 use Rattle.cast_rules.specs.Reports.{tail_of}
@@ -126,7 +126,7 @@ module _ (choice : Choice) (at : Sites) (order : Orders) (handed : HandOvers) (s
   placed = filter (is_within cut) (longest reports).ids
 
   abbrev extra : List Entry
-  extra = added cut reports placed
+  extra = added_entries cut reports placed
 
   is_longest : IsLongest no_stretch reports (longest reports)
   is_longest = longest_from no_stretch reports
@@ -177,9 +177,9 @@ module _ (choice : Choice) (at : Sites) (order : Orders) (handed : HandOvers) (s
   -- what is added are ABCASTs
   pub added_kinds : (e : Entry) → Contains extra e → IsAbcast at g v e
   added_kinds e c =
-      let apart = taken_of MAX_PLACED (apart_from entry_eq (filter (is_within cut) (unplaced reports)) placed) e c in
-      let within = among_kept (λ (z : Entry). not (is_among entry_eq z placed)) (filter (is_within cut) (unplaced reports)) e apart in
-      let all = set_had entry_cmp (flat_map (λ (r : SiteNo × Report). map (λ (k : Entry × Bool). k.0) (filter (λ k. k.1) r.1.kept)) reports) e (among_kept (is_within cut) (unplaced reports) e within) in
+      let apart = taken_of MAX_PLACED (apart_from entry_eq (filter (is_within cut) (unplaced_entries reports)) placed) e c in
+      let within = among_kept (λ (z : Entry). not (is_among entry_eq z placed)) (filter (is_within cut) (unplaced_entries reports)) e apart in
+      let all = set_had entry_cmp (flat_map (λ (r : SiteNo × Report). map (λ (k : Entry × Bool). k.0) (filter (λ k. k.1) r.1.kept)) reports) e (among_kept (is_within cut) (unplaced_entries reports) e within) in
       let r = in_flat (λ (r : SiteNo × Report). map (λ (k : Entry × Bool). k.0) (filter (λ k. k.1) r.1.kept)) reports e all in
       let k = from_mapped (λ (k : Entry × Bool). k.0) (filter (λ k. k.1) r.0.1.kept) e r.2 in
       let mark : k.0.1 ≡ true = passed (λ (z : Entry × Bool). z.1) r.0.1.kept k.0 k.1 in
@@ -194,7 +194,7 @@ module _ (choice : Choice) (at : Sites) (order : Orders) (handed : HandOvers) (s
       let kept = kept_length (is_within cut) (longest reports).ids in
       let tail = ap length (ap (λ (s : Tail). s.ids) longest_is.tail) in
       let short = tail_few longest_is.whole in
-      let more = take_most MAX_PLACED (apart_from entry_eq (filter (is_within cut) (unplaced reports)) placed) in
+      let more = take_most MAX_PLACED (apart_from entry_eq (filter (is_within cut) (unplaced_entries reports)) placed) in
       omega (arith, parts, kept, tail, short, more)) in
       λ i. record { start = (longest reports).start; ids = (take_all MAX_ORDER (placed ++ extra) few ∙ ap (λ l. filter (is_within cut) l ++ extra) ids_are) i }
 

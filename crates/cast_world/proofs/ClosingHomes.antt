@@ -15,7 +15,7 @@ use Rattle.cast_types.specs.Sets.{with_items}
 use Rattle.cast_types.specs.declared.names.GroupNo.{GroupNo}
 use Rattle.cast_types.specs.declared.names.Proc.{Proc}
 use Rattle.cast_types.specs.declared.names.SiteNo.{SiteNo}
-use Rattle.cast_view.specs.Home.{Home, HomeMove, after_ask, after_body, after_installed, after_reply, after_start, after_suspicion, decided, decided_list, decided_phase, decision_of, may_decide_in, moved}
+use Rattle.cast_view.specs.Home.{Home, HomeMove, after_ask, after_body, after_installed, after_reply, after_start, after_suspicion, decide_view, decided_list, decided_phase, decision_of, may_decide_in, apply_move}
 use Rattle.cast_view.specs.Home.HomeMove.{Asked, Brought, Decided, Installed, Reported, Started, Suspected}
 use Rattle.cast_view.specs.Sites.{sites_of}
 use Rattle.cast_view.specs.declared.phase.Decision.{Decision}
@@ -86,12 +86,12 @@ module _ (home : SiteNo) (w : Network) (a : SiteNo) where
     h = t.home g
 
     abbrev u : State
-    u = set_home t g (decided (t.home g))
+    u = set_home t g (decide_view (t.home g))
 
     abbrev v : ℕ
     v = (t.home g).number
 
-    abbrev up : (t.home g).number ≤ (decided (t.home g)).number
+    abbrev up : (t.home g).number ≤ (decide_view (t.home g)).number
     up = moves_up home w a t g Decided may
 
     abbrev j : WindowNow home w a no_key u
@@ -107,11 +107,11 @@ module _ (home : SiteNo) (w : Network) (a : SiteNo) where
     number_t = ap (λ (y : State). (y.home g).number) (subst (λ z. at t z ≡ t) home_is (own_is home w a t))
 
     number_u : number u g ≡ v + 1
-    number_u = ap (λ (y : State). (y.home g).number) (subst (λ z. at u z ≡ u) home_is (own_is home w a u)) ∙ ap (λ (y : Home). y.number) (set_here t.home g (decided h) g refl)
+    number_u = ap (λ (y : State). (y.home g).number) (subst (λ z. at u z ≡ u) home_is (own_is home w a u)) ∙ ap (λ (y : Home). y.number) (set_here t.home g (decide_view h) g refl)
 
     number_else : (y : GroupNo) → (g ≡ y → ⊥) → number u y ≡ number t y
     number_else y apart =
-        ap (λ (z : State). (z.home y).number) (subst (λ z. at u z ≡ u) home_is (own_is home w a u)) ∙ ap (λ (z : Home). z.number) (set_other t.home g (decided h) y apart)
+        ap (λ (z : State). (z.home y).number) (subst (λ z. at u z ≡ u) home_is (own_is home w a u)) ∙ ap (λ (z : Home). z.number) (set_other t.home g (decide_view h) y apart)
         ∙ sym (ap (λ (z : State). (z.home y).number) (subst (λ z. at t z ≡ t) home_is (own_is home w a t)))
 
     abbrev mine : SiteClosing i.0.0.1 (at t) i.0.0.3 i.0.0.4 i.0.1 i.1 a t
@@ -151,7 +151,7 @@ module _ (home : SiteNo) (w : Network) (a : SiteNo) where
     low = let top = number_t in omega (arith, top)
 
     lift : (q : SiteNo) (whole : List Entry) → HasSaid i.0.0.1 (at t) i.0.0.3 i.0.0.4 i.0.1 q g v whole → HasSaid j.0.1 (at u) j.0.3 j.0.4 j.1 q g v whole
-    lift q whole x = said_later home w a t u (later_home t g (decided h) up) i.0.0.0 i.0.0.1 j.0.1 i.0.0.2 ext i.0.0.3 j.0.3 i.0.0.4 j.0.4 i.0.1 j.1 (λ y z. omega arith) (λ y z. ([], append-nil (i.0.0.3 y z))) (λ y z. inl (refl, refl)) (no_stops t) (no_notes t) (no_calm t) q g v whole low x
+    lift q whole x = said_later home w a t u (later_home t g (decide_view h) up) i.0.0.0 i.0.0.1 j.0.1 i.0.0.2 ext i.0.0.3 j.0.3 i.0.0.4 j.0.4 i.0.1 j.1 (λ y z. omega arith) (λ y z. ([], append-nil (i.0.0.3 y z))) (λ y z. inl (refl, refl)) (no_stops t) (no_notes t) (no_calm t) q g v whole low x
 
     abbrev whole : List Entry
     whole = (longest_is i.0.0.1 (at t) i.0.0.3 i.0.0.4 i.0.1 g v reports said cut).whole
@@ -162,7 +162,7 @@ module _ (home : SiteNo) (w : Network) (a : SiteNo) where
         let y = own_agrees home w a t i.0.0.1 i.0.0.2 in
         let z = own_agrees home w a u j.0.1 j.0.2 in
         let member : Contains h.members.list q = subst (λ (x : Membership). Contains x.list q) (sym (y.homes g).members) (subst (λ (c : Chosen). Contains c.members.list q) ((ext g).1 v low) before) in
-        let made : decided h ≡ u.home g = sym (set_here t.home g (decided h) g refl) in
+        let made : decide_view h ≡ u.home g = sym (set_here t.home g (decide_view h) g refl) in
         let listed : Contains (decided_list h) q = subst (λ (x : Home). Contains x.members.list q) (sym made) (subst (λ (x : Membership). Contains x.list q) (sym (z.homes g).members)
         (subst (λ n. IsChosen j.0.1 g n q) (ap (λ (x : Home). x.number) made) after)) in
         has_reported g h h.phase may.1 (y.homes g).awaits q member (not_suspected h q listed)
@@ -181,7 +181,7 @@ module _ (home : SiteNo) (w : Network) (a : SiteNo) where
           | inl none ↦ absurd (let no = subst (λ l. Contains l z) none one in omega (arith, no.1))
           | inr s ↦ (lift s.0 whole s.1).kinds z one
         ]
-        | inr two ↦ abcast_later home w a t u (later_home t g (decided h) up) i.0.0.0 i.0.0.1 j.0.1 i.0.0.2 ext i.0.0.3 j.0.3 i.0.0.4 j.0.4 i.0.1 j.1 (λ y n. omega arith) (λ y n. ([], append-nil (i.0.0.3 y n))) (λ y n. inl (refl, refl)) (no_stops t) (no_notes t) (no_calm t) g v z
+        | inr two ↦ abcast_later home w a t u (later_home t g (decide_view h) up) i.0.0.0 i.0.0.1 j.0.1 i.0.0.2 ext i.0.0.3 j.0.3 i.0.0.4 j.0.4 i.0.1 j.1 (λ y n. omega arith) (λ y n. ([], append-nil (i.0.0.3 y n))) (λ y n. inl (refl, refl)) (no_stops t) (no_notes t) (no_calm t) g v z
             (added_kinds i.0.0.1 (at t) i.0.0.3 i.0.0.4 i.0.1 g v reports said cut z two)
       ];
       covered = λ q before after.
@@ -199,10 +199,10 @@ module _ (home : SiteNo) (w : Network) (a : SiteNo) where
         (ap (λ (x : Decision). x.cut) one ∙ ap (cut_from h.members.list) known, ap (λ (x : Decision). x.tail) one ∙ ap (λ l. order_from (cut_from h.members.list l) l) known)
     decision_is (Installing left c more) is may_in waiting d bodies same = absurd (false≢true may_in)
 
-    new_decision : (waiting : List SiteNo) (d : Decision) (bodies : List Message) (view : ℕ) → (decided h).phase ≡ Installing waiting d bodies → (decided h).number ≡ view + 1 → d.tail ≡ end_tail (j.0.1 g (view + 1)).cut (ends g view)
+    new_decision : (waiting : List SiteNo) (d : Decision) (bodies : List Message) (view : ℕ) → (decide_view h).phase ≡ Installing waiting d bodies → (decide_view h).number ≡ view + 1 → d.tail ≡ end_tail (j.0.1 g (view + 1)).cut (ends g view)
     new_decision waiting d bodies view same is =
         let two = decision_is h.phase refl may.1 waiting d bodies same in
-        let made : u.home g ≡ decided h = set_here t.home g (decided h) g refl in
+        let made : u.home g ≡ decide_view h = set_here t.home g (decide_view h) g refl in
         let chosen : d.cut ≡ (j.0.1 g (v + 1)).cut = ((own_agrees home w a u j.0.1 j.0.2).homes g).decision waiting d bodies (ap (λ (x : Home). x.phase) made ∙ same) ∙ ap (λ (x : Home). (j.0.1 g x.number).cut) made in
         let at_v : v ≡ view = omega (arith, is) in
         subst (λ n. d.tail ≡ end_tail (j.0.1 g (n + 1)).cut (ends g n)) at_v
@@ -212,16 +212,16 @@ module _ (home : SiteNo) (w : Network) (a : SiteNo) where
     decides_closing = (
       j,
       ends,
-      closing_all home w a no_key no_key t u (later_home t g (decided h) up) i j ext (λ y z. omega arith) (λ y z. ([], append-nil (i.0.0.3 y z))) (λ y z. inl (refl, refl)) (no_stops t) (no_notes t) (no_calm t) ends ends_same
-          (let x = old_here home w a no_key no_key t u (later_home t g (decided h) up) i j ext (λ y z. omega arith) (λ y z. ([], append-nil (i.0.0.3 y z))) (λ y z. inl (refl, refl)) (no_stops t) (no_notes t) (no_calm t) ends ends_same in
+      closing_all home w a no_key no_key t u (later_home t g (decide_view h) up) i j ext (λ y z. omega arith) (λ y z. ([], append-nil (i.0.0.3 y z))) (λ y z. inl (refl, refl)) (no_stops t) (no_notes t) (no_calm t) ends ends_same
+          (let x = old_here home w a no_key no_key t u (later_home t g (decide_view h) up) i j ext (λ y z. omega arith) (λ y z. ([], append-nil (i.0.0.3 y z))) (λ y z. inl (refl, refl)) (no_stops t) (no_notes t) (no_calm t) ends ends_same in
           record {
             closes = x.closes;
             begins = x.begins;
             well = x.well;
-            reports = set_group_all (λ y (z : Home). (q : SiteNo) (r : Report) → Contains (reports_of z.phase) (q, r) → HasReported j.0.1 (at u) j.0.3 j.0.4 j.1 q y z.number r.tail r.kept) t.home g (decided h) x.reports
+            reports = set_group_all (λ y (z : Home). (q : SiteNo) (r : Report) → Contains (reports_of z.phase) (q, r) → HasReported j.0.1 (at u) j.0.3 j.0.4 j.1 q y z.number r.tail r.kept) t.home g (decide_view h) x.reports
                 (λ q r c. absurd (no_reports home w a t g may.0 may.1 i.0.0.0 i.0.0.1 i.0.0.2 h.phase may.1 q r c));
             decision = set_group_all (λ y (z : Home). (waiting : List SiteNo) (d : Decision) (bodies : List Message) (view : ℕ) → z.phase ≡ Installing waiting d bodies → z.number ≡ view + 1 → d.tail ≡ end_tail (j.0.1 y (view + 1)).cut (ends y view))
-                t.home g (decided h) x.decision new_decision;
+                t.home g (decide_view h) x.decision new_decision;
             sent = x.sent;
           })
           (λ y z new_one le. elim (cases_group g y) [
@@ -234,7 +234,7 @@ module _ (home : SiteNo) (w : Network) (a : SiteNo) where
           ]),
     )
 
-  pub homes_closing : (t : State) (g : GroupNo) (what : HomeMove) → ClosingNow home w a no_key t → MayMove (Arrived home w a) t g what → ClosingNow home w a no_key (set_home t g (moved what (t.home g)))
+  pub homes_closing : (t : State) (g : GroupNo) (what : HomeMove) → ClosingNow home w a no_key t → MayMove (Arrived home w a) t g what → ClosingNow home w a no_key (set_home t g (apply_move what (t.home g)))
   homes_closing t g (Asked from k what p) i may = follows_closing t g (after_ask (t.home g) from k what p) i ((kept_window home w a).homes t g (Asked from k what p) i.0 may) ((flush home w a t i.0.0).homes t g (Asked from k what p) (begin home w a t i.0.0) may).3 refl refl refl
       (request_follows (Arrived home w a) g (t.home g) from k what p may)
   homes_closing t g (Suspected site) i may = follows_closing t g (after_suspicion (t.home g) site) i ((kept_window home w a).homes t g (Suspected site) i.0 may) ((flush home w a t i.0.0).homes t g (Suspected site) (begin home w a t i.0.0) may).3 refl refl refl

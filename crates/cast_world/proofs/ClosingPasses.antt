@@ -4,7 +4,7 @@ use Rattle.std.proofs.lemmas.Bool.{and_parts, eqb-true, false≢true, true≢fal
 use Rattle.std.proofs.lemmas.List.{append-nil}
 use Rattle.std.specs.Prelude.{◌+◌, ◌++◌, ◌<◌, Bool, Contains, List, Option, Some, [], false, filter, if◌then◌else◌, is_some, refl, true, unwrap_or, ℕ, ◌∷◌, ◌≡◌, ◌≤◌}
 use Rattle.cast_rules.specs.Acts.Act.{Entered, Left}
-use Rattle.cast_rules.specs.Entering.{enters, is_put_out, parted, passing, pending_install, putting_out}
+use Rattle.cast_rules.specs.Entering.{enters, is_put_out, put_outside, passing, pending_install, putting_out}
 use Rattle.cast_rules.specs.Noted.{abcasts_by}
 use Rattle.cast_rules.specs.Order.{order_told}
 use Rattle.cast_rules.specs.State.{State, is_group, local}
@@ -176,7 +176,7 @@ module _ (home : SiteNo) (w : Network) (a : SiteNo) where
     left_member : (k : ℕ) (h : GroupNo) → (left.process k).standing h ≡ Member → (t.process k).standing h ≡ Member
     left_member k h m = go (is_put_out t g skipped members k) m
       where
-        go : (b : Bool) → (if b then parted g (t.process k) else t.process k).standing h ≡ Member → (t.process k).standing h ≡ Member
+        go : (b : Bool) → (if b then put_outside g (t.process k) else t.process k).standing h ≡ Member → (t.process k).standing h ≡ Member
         go true s = stands ((t.process k).standing h) (group_eq g h) s
         go false s = s
 

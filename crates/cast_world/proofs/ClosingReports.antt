@@ -8,12 +8,12 @@ use Rattle.std.specs.List.{find, list_any}
 use Rattle.std.specs.Option.{option_map_or}
 use Rattle.std.specs.Prelude.{◌&&◌, ◌++◌, Bool, Contains, List, None, Option, Some, [], false, if◌then◌else◌, is_some, length, map, not, refl, suc, take, true, unwrap_or, zero, ◌||◌, ℕ, ◌∷◌, ◌≡◌, ◌⊎◌}
 use Rattle.cast_ready.specs.Ready.{is_outside}
-use Rattle.cast_rules.specs.Order.{holder_here, holds, is_of_view, order_told, told_by, unlisted}
+use Rattle.cast_rules.specs.Order.{holder_here, holds, is_of_view, order_told, told_by, unlisted_ids}
 use Rattle.cast_rules.specs.Reports.{is_unplaced, kept_in, kept_list, report_in, whole_order}
 use Rattle.cast_rules.specs.State.{State, local, serials}
 use Rattle.cast_message.specs.Bodies.{kind_of}
 use Rattle.cast_message.specs.declared.message.Message.{Message}
-use Rattle.cast_types.specs.Names.{Entry, entry_cmp, entry_eq, entry_of, is_atomic, named}
+use Rattle.cast_types.specs.Names.{Entry, entry_cmp, entry_eq, entry_of, is_atomic, uid_in}
 use Rattle.cast_types.specs.Sets.{is_among, set_of}
 use Rattle.cast_types.specs.declared.limits.TheConstants.{MAX_KEPT}
 use Rattle.cast_types.specs.declared.names.GroupNo.{GroupNo}
@@ -122,7 +122,7 @@ module _ (home : SiteNo) (w : Network) (a : SiteNo) where
     has_token k held = teller_chosen choice handed g (t.group g) ((own_agrees home w a t choice f).groups g) t.here k (t.acts k) (unwrap_or (token_in t.here (t.group g) g (t.acts k) k) 1) (own.tokens g k held)
 
     -- one does: it has all of the order and more
-    said_by_holder : (k : ℕ) → tells t.here (t.group g) g (t.acts k) k ≡ true → Said (order_told t g ++ unlisted t g k)
+    said_by_holder : (k : ℕ) → tells t.here (t.group g) g (t.acts k) k ≡ true → Said (order_told t g ++ unlisted_ids t g k)
     said_by_holder k held = record {
       stopped = subst (λ (s : State). Stopped (s.group g) v) (sym here_is) record { reached = omega arith; frozen = λ _. frozen };
       side = inr record {
@@ -130,24 +130,24 @@ module _ (home : SiteNo) (w : Network) (a : SiteNo) where
         chosen = has_token k held;
         there = (own_holds home w a t now).here_is;
         all = subst (IsPrefix (order g v)) (sym whole_is) lead.all;
-        done = subst (λ (s : State). IsPrefix (order_told t g ++ unlisted t g k) (done_in g v (s.abcasts k))) (sym here_is) ([], append-nil (order_told t g ++ unlisted t g k) ∙ whole_is);
+        done = subst (λ (s : State). IsPrefix (order_told t g ++ unlisted_ids t g k) (done_in g v (s.abcasts k))) (sym here_is) ([], append-nil (order_told t g ++ unlisted_ids t g k) ∙ whole_is);
       };
       below = (let n = ap length whole_is in let low = own_leading home w a t choice order safe y g k held waits in omega (arith, n, low));
       few = (let n = ap length whole_is in let low = lead.places in omega (arith, n, low));
       apart = subst Apart (sym whole_is) (apart_done g v (t.abcasts k) (own.once k));
       kinds = λ e c.
-          let had = abcast_had home w a t now choice f order handed x k (named g v e) (done_named g v (t.abcasts k) e (subst (λ l. Contains l e) whole_is c)) in
+          let had = abcast_had home w a t now choice f order handed x k (uid_in g v e) (done_named g v (t.abcasts k) e (subst (λ l. Contains l e) whole_is c)) in
           (had.0, had.1, had.2, had.3);
-      begins = members_begin (order_told t g ++ unlisted t g k) (λ j member. elim (cases_Bool (tells t.here (t.group g) g (t.acts j) j)) [
-        | inl is ↦ subst (λ i. IsPrefix (done i) (order_told t g ++ unlisted t g k)) (one j is) ([], append-nil (done k) ∙ sym whole_is)
-        | inr other ↦ (let p = follows_known j member other in (p.0 ++ unlisted t g k, sym (append_assoc (done j) p.0 (unlisted t g k)) ∙ ap (λ l. l ++ unlisted t g k) p.1))
+      begins = members_begin (order_told t g ++ unlisted_ids t g k) (λ j member. elim (cases_Bool (tells t.here (t.group g) g (t.acts j) j)) [
+        | inl is ↦ subst (λ i. IsPrefix (done i) (order_told t g ++ unlisted_ids t g k)) (one j is) ([], append-nil (done k) ∙ sym whole_is)
+        | inr other ↦ (let p = follows_known j member other in (p.0 ++ unlisted_ids t g k, sym (append_assoc (done j) p.0 (unlisted_ids t g k)) ∙ ap (λ l. l ++ unlisted_ids t g k) p.1))
       ]);
     }
       where
         lead : Leads (order g (t.group g).number) (unwrap_or (token_in t.here (t.group g) g (t.acts k) k) 1) g (t.group g).number (local t k) (t.abcasts k) t.got
         lead = leads home w a t now choice f order handed x g k held waits
 
-        whole_is : order_told t g ++ unlisted t g k ≡ done_in g (t.group g).number (t.abcasts k)
+        whole_is : order_told t g ++ unlisted_ids t g k ≡ done_in g (t.group g).number (t.abcasts k)
         whole_is = order_by_is (order g (t.group g).number) t g waits (stand_in home w a t now choice f order handed x g (t.group g).number) k (unwrap_or (token_in t.here (t.group g) g (t.acts k) k) 1) lead ((own_ordered home w a t now choice f order handed x).once k)
 
         one : (j : ℕ) → tells t.here (t.group g) g (t.acts j) j ≡ true → k ≡ j
@@ -164,7 +164,7 @@ module _ (home : SiteNo) (w : Network) (a : SiteNo) where
     said : Said whole
     said = go (holder_here t g) refl
       where
-        go : (o : Option ℕ) → holder_here t g ≡ o → HasSaid choice (at t) order handed safe a g (t.group g).number (order_told t g ++ option_map_or (unlisted t g) o [])
+        go : (o : Option ℕ) → holder_here t g ≡ o → HasSaid choice (at t) order handed safe a g (t.group g).number (order_told t g ++ option_map_or (unlisted_ids t g) o [])
         go (Some k) e = said_by_holder k (found_is (holds t g) (serials t) k e).0
         go None e = subst (λ l. HasSaid choice (at t) order handed safe a g (t.group g).number l) (sym (append-nil (order_told t g))) (said_by_none (λ k member is. none_found (holds t g) (serials t) e k (given_here k member) is))
 
@@ -178,7 +178,7 @@ module _ (home : SiteNo) (w : Network) (a : SiteNo) where
         let in_view : is_in g v m.0.id ≡ true = passed (λ (z : Message). is_of_view t g z.id) t.kept m.0 m.1 in (
           m.0,
           ((own_holds home w a t now).stored m.0 (among_kept (λ (z : Message). is_of_view t g z.id) t.kept m.0 m.1)).sent,
-          sym (name_is g v m.0.id in_view) ∙ ap (named g v) (m.3 ∙ name),
+          sym (name_is g v m.0.id in_view) ∙ ap (uid_in g v) (m.3 ∙ name),
           m.2,
         )
 

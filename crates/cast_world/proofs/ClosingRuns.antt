@@ -23,7 +23,7 @@ use Rattle.cast_events.specs.declared.config.DomainConfig.{DomainConfig}
 use Rattle.cast_events.specs.declared.event.Event.{Event}
 use Rattle.cast_order.specs.Order.{known_order}
 use Rattle.cast_timer.specs.Owed.{is_of_view}
-use Rattle.cast_types.specs.Names.{Entry, entry_of, is_atomic, named, site_eq}
+use Rattle.cast_types.specs.Names.{Entry, entry_of, is_atomic, uid_in, site_eq}
 use Rattle.cast_types.specs.declared.names.GroupNo.{GroupNo}
 use Rattle.cast_types.specs.declared.names.Proc.{Proc}
 use Rattle.cast_types.specs.declared.names.SiteNo.{SiteNo}
@@ -57,7 +57,7 @@ use Rattle.cast_world.proofs.Lists.{never_nil}
 use Rattle.cast_world.specs.Agreement.{IsPrefix, Passes, abcasts_in, delivered_of, is_in, of_view, order_at}
 use Rattle.cast_world.specs.HappenedBefore.{acts_of}
 use Rattle.cast_world.specs.Laws.{AllDeliverInOneOrder, AllStartsAreKnown, SameMessages, StartsAreKnown}
-use Rattle.cast_world.specs.Network.{Becomes, Happens, Leads, Network, Reaches, event_of, moved, start}
+use Rattle.cast_world.specs.Network.{Becomes, Happens, Leads, Network, Reaches, event_of, move_site, start}
 use Rattle.cast_world.specs.declared.step.Packet.{Packet}
 use Rattle.cast_world.specs.declared.step.Step.{Step}
 use Rattle.cast_message.specs.declared.site.SiteFrame.TheVariants as frame
@@ -138,7 +138,7 @@ module _ (home : SiteNo) (w : Network) (choice : Choice) (order : Orders) (hande
   })
 
   -- after it
-  pub last_closing : (s : State) → ClosingNow home w a no_key s → AllEnded home (moved w a s)
+  pub last_closing : (s : State) → ClosingNow home w a no_key s → AllEnded home (move_site w a s)
   last_closing s i = (
     i.0.0.1,
     i.0.0.3,
@@ -290,23 +290,23 @@ module _ (home : SiteNo) (w : Network) (all : AllEnded home w) (seen : EachSeen 
   -- whatever one delivered the other delivered
   has_too : (p q : Proc) (g : GroupNo) (view : ℕ) → Passes w p g view → Passes w q g view → (e : Entry) → Contains (done_in g view (abcasts_by (acts_of w p))) e → Contains (done_in g view (abcasts_by (acts_of w q))) e
   has_too p q g view one two e c =
-      let m = abcast_of (acts_of w p) (named g view e) (done_named g view (abcasts_by (acts_of w p)) e c) in
-      let in_view : is_in g view (named g view e) ≡ true = λ i. group_itself g i && eq-eqb view view refl i in
-      let listed : Contains (of_view g view (delivered_of w p)) (named g view e) = contains_kept (is_in g view) ((w.at p.site).process p.serial).delivered (named g view e)
+      let m = abcast_of (acts_of w p) (uid_in g view e) (done_named g view (abcasts_by (acts_of w p)) e c) in
+      let in_view : is_in g view (uid_in g view e) ≡ true = λ i. group_itself g i && eq-eqb view view refl i in
+      let listed : Contains (of_view g view (delivered_of w p)) (uid_in g view e) = contains_kept (is_in g view) ((w.at p.site).process p.serial).delivered (uid_in g view e)
       (subst (Contains ((w.at p.site).process p.serial).delivered) m.2 (((x.agrees p.site).ones p.serial).has m.0 m.1)) in_view in
-      let other = ((same p q g view one two (named g view e)).0) listed in
-      let n = ((x.holds q.site).ones q.serial).fits.listed (named g view e) (among_kept (is_in g view) ((w.at q.site).process q.serial).delivered (named g view e) other) in
+      let other = ((same p q g view one two (uid_in g view e)).0) listed in
+      let n = ((x.holds q.site).ones q.serial).fits.listed (uid_in g view e) (among_kept (is_in g view) ((w.at q.site).process q.serial).delivered (uid_in g view e) other) in
       let sent_m = ((x.holds p.site).ones p.serial).done m.0 m.1 in
       let sent_n = ((x.holds q.site).ones q.serial).done n.0 n.2 in
       let is : n.0 ≡ m.0 = one_message w.at home x.holds n.0 m.0 sent_n sent_m (n.1 ∙ sym m.2) in
       let noted = abcast_among (acts_of w q) n.0 n.2 (ap (λ (z : Message). is_atomic (kind_of z.body)) is ∙ m.3) in
-      done_has g view (abcasts_by (acts_of w q)) (named g view e) (subst (Contains (abcasts_by (acts_of w q))) n.1 noted) in_view
+      done_has g view (abcasts_by (acts_of w q)) (uid_in g view e) (subst (Contains (abcasts_by (acts_of w q))) n.1 noted) in_view
 
   order_same : (p q : Proc) (g : GroupNo) (view : ℕ) → Passes w p g view → Passes w q g view → abcasts_in w p g view ≡ abcasts_in w q g view
   order_same p q g view one two =
       let common = same_prefixes (done p g view one) (done q g view two) (firsts (final (all.0 g (view + 1)).cut (all.4 g view))) (firsts_apart (final (all.0 g (view + 1)).cut (all.4 g view)))
       (done_begins p g view one) (done_begins q g view two) (has_too p q g view one two) (has_too q p g view two one) in
-      names_of g view (abcasts_by (acts_of w p)) ∙ ap (map (named g view)) common ∙ sym (names_of g view (abcasts_by (acts_of w q)))
+      names_of g view (abcasts_by (acts_of w p)) ∙ ap (map (uid_in g view)) common ∙ sym (names_of g view (abcasts_by (acts_of w q)))
 
 pub same_order : AllDeliverInOneOrder
 same_order sites config steps w r p q g view one two =

@@ -11,7 +11,7 @@ use Rattle.cast_message.specs.Bodies.{kind_of}
 use Rattle.cast_message.specs.declared.message.Message.{Message}
 use Rattle.cast_order.specs.Order.{next_of}
 use Rattle.cast_types.specs.Counts.{CountList, is_within}
-use Rattle.cast_types.specs.Names.{Entry, entry_of, is_atomic, named}
+use Rattle.cast_types.specs.Names.{Entry, entry_of, is_atomic, uid_in}
 use Rattle.cast_types.specs.declared.names.GroupNo.{GroupNo}
 use Rattle.cast_types.specs.declared.names.SiteNo.{SiteNo}
 use Rattle.cast_types.specs.declared.names.Standing.TheVariants.{Member}
@@ -99,7 +99,7 @@ module _ (home : SiteNo) (w : Network) (a : SiteNo) where
     -- what a member that passes has delivered of the view is within the cut
     pub within_cut : (k : ℕ) → (t.process k).standing g ≡ Member → IsChosen choice g (v + 1) (local t k) → (z : Entry) → Contains (done_in g v (t.abcasts k)) z → IsTrue (is_within (choice g (v + 1)).cut z)
     within_cut k member after z c =
-        let had = abcast_had home w a t now choice f order handed x k (named g v z) (done_named g v (t.abcasts k) z c) in
+        let had = abcast_had home w a t now choice f order handed x k (uid_in g v z) (done_named g v (t.abcasts k) z c) in
         let m : Message = had.0 in
         let group : m.id.group ≡ g = ap (λ (u : Uid). u.group) had.2 in
         let view : m.id.view ≡ v = ap (λ (u : Uid). u.view) had.2 in
@@ -130,7 +130,7 @@ module _ (home : SiteNo) (w : Network) (a : SiteNo) where
     done = done_in g view (t.abcasts k)
 
     abbrev had : Entry → Bool
-    had e = has_delivered (t.process k) (named g view e)
+    had e = has_delivered (t.process k) (uid_in g view e)
 
     pub delivers_closed : IsPrefix done (firsts (t.closed g)) → IsPrefix (done ++ entry_of m.id ∷ []) (firsts (t.closed g))
     delivers_closed begin =
@@ -138,5 +138,5 @@ module _ (home : SiteNo) (w : Network) (a : SiteNo) where
         let next : next_of had (firsts (t.closed g)) ≡ Some (entry_of m.id) =
         next_first had (t.closed g) ∙ ap (next_of had) (sym closed) ∙ is_next_frozen t k m tt ready atomic ((own_ordered home w a t now choice f order handed x).frozen g pending) in
         next_begins had done (firsts (t.closed g)) (firsts (t.closed g)) (entry_of m.id) (firsts_apart (t.closed g)) begin ([], append-nil (firsts (t.closed g)))
-        (λ e c. (abcast_had home w a t now choice f order handed x k (named g view e) (done_named g view (t.abcasts k) e c)).5)
+        (λ e c. (abcast_had home w a t now choice f order handed x k (uid_in g view e) (done_named g view (t.abcasts k) e c)).5)
         (λ e c is. noted_abcast home w a t now choice f order handed x k g view e (kinds e (firsts_had (t.closed g) e c)) is) next

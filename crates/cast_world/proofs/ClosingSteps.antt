@@ -9,11 +9,11 @@ use Rattle.cast_ready.specs.Ready.{Process, is_member}
 use Rattle.cast_rules.specs.Acts.{Act}
 use Rattle.cast_rules.specs.Acts.Act.{Delivered, Left, Sent}
 use Rattle.cast_rules.specs.Effects.{next_message}
-use Rattle.cast_rules.specs.Entering.{parted}
+use Rattle.cast_rules.specs.Entering.{put_outside}
 use Rattle.cast_rules.specs.Owing.{paying_view}
 use Rattle.cast_rules.specs.Rules.Keys.{message_key}
 use Rattle.cast_rules.specs.Reports.{report_in}
-use Rattle.cast_rules.specs.State.{State, emitted, is_ended, noting_ack, noting_act, noting_sent, noting_stable, outside, receiving, releasing, releasing_ended, set_group, set_session, set_standing, with_delivery}
+use Rattle.cast_rules.specs.State.{State, emit, is_ended, noting_ack, noting_act, noting_sent, noting_stable, outside, receiving, releasing, releasing_ended, set_group, set_session, set_standing, with_delivery}
 use Rattle.cast_rules.specs.Step.{opening_next}
 use Rattle.cast_rules.specs.Turns.{is_ready_for}
 use Rattle.cast_message.specs.Bodies.{kind_of}
@@ -21,7 +21,7 @@ use Rattle.cast_message.specs.declared.message.Body.{Body}
 use Rattle.cast_message.specs.declared.message.Message.{Message}
 use Rattle.cast_message.specs.declared.site.SiteFrame.{SiteFrame}
 use Rattle.cast_quota.specs.declared.quotas.Quotas.{Quotas}
-use Rattle.cast_timer.specs.Owed.{is_of_view, key_eq, paid, renewed, with_owed}
+use Rattle.cast_timer.specs.Owed.{is_of_view, key_eq, paid, renew, with_owed}
 use Rattle.cast_timer.specs.declared.key.OwedKey.{OwedKey}
 use Rattle.cast_types.specs.Names.{Entry, entry_of, group_eq, is_atomic, site_eq}
 use Rattle.cast_types.specs.Sets.{set_at}
@@ -96,7 +96,7 @@ module _ (home : SiteNo) (w : Network) (a : SiteNo) where
     -- a frame that is sent says what is so
     module _ (t : State) (to : SiteNo) (f : SiteFrame) (i : ClosingNow home w a skip t) (says : Says t to f) (adds : Adds t f) where
       abbrev now : State
-      now = emitted t to f
+      now = emit t to f
 
       abbrev next : WindowNow home w a skip now
       next = n.emits t to f i.0 says adds
@@ -125,7 +125,7 @@ module _ (home : SiteNo) (w : Network) (a : SiteNo) where
 
     -- a process parts
     part_member : (t : State) (k : ℕ) (g : GroupNo) (j : ℕ) (h : GroupNo) → ((outside t k g).process j).standing h ≡ Member → (t.process j).standing h ≡ Member
-    part_member t k g = set_all (λ j (q : Process). (h : GroupNo) → q.standing h ≡ Member → (t.process j).standing h ≡ Member) t.process k (parted g (t.process k)) (λ j h e. e) (λ h e. stands ((t.process k).standing h) (group_eq g h) e)
+    part_member t k g = set_all (λ j (q : Process). (h : GroupNo) → q.standing h ≡ Member → (t.process j).standing h ≡ Member) t.process k (put_outside g (t.process k)) (λ j h e. e) (λ h e. stands ((t.process k).standing h) (group_eq g h) e)
 
     part_well : (P : List Act → Act → Type 0) (t : State) (k : ℕ) (g : GroupNo) → ((acts : List Act) → P acts (Left g)) → ((j : ℕ) → Each P (t.acts j)) → (j : ℕ) → Each P ((outside t k g).acts j)
     part_well P t k g new all j = go (is_member ((t.process k).standing g))
@@ -159,7 +159,7 @@ module _ (home : SiteNo) (w : Network) (a : SiteNo) where
     pub closing_telling : FullyKeptByTelling (ClosingNow home w a skip)
     closing_telling = record {
       emits = λ t to f i says adds.
-          let u : State = emitted t to f in
+          let u : State = emit t to f in
           let j : WindowNow home w a skip u = n.emits t to f i.0 says adds in
           closing_quiet home w a skip skip t u (later_same t) i j ((flush home w a t i.0.0).telling.emits t to f (begin home w a t i.0.0) says).3 refl refl refl refl refl (λ k g e. e) (still t u (λ g. omega arith))
           (λ x. record {
@@ -178,8 +178,8 @@ module _ (home : SiteNo) (w : Network) (a : SiteNo) where
           let u : State = record t { owed = with_owed t.owed key due } in
           closing_quiet home w a skip skip t u (later_same t) i (n.owes t key due i.0 owes wants lacks) ((flush home w a t i.0.0).telling.books t t.quotas t.moment t.acks t.told (with_owed t.owed key due) t.casts t.pushes (begin home w a t i.0.0)).3 refl refl refl refl refl (λ k g e. e) (still t u (λ g. omega arith)) (λ x. x);
       renews = λ t key due i owes owed.
-          let u : State = record t { owed = renewed t.owed key due } in
-          closing_quiet home w a skip skip t u (later_same t) i (n.renews t key due i.0 owes owed) ((flush home w a t i.0.0).telling.books t t.quotas t.moment t.acks t.told (renewed t.owed key due) t.casts t.pushes (begin home w a t i.0.0)).3 refl refl refl refl refl (λ k g e. e) (still t u (λ g. omega arith)) (λ x. x);
+          let u : State = record t { owed = renew t.owed key due } in
+          closing_quiet home w a skip skip t u (later_same t) i (n.renews t key due i.0 owes owed) ((flush home w a t i.0.0).telling.books t t.quotas t.moment t.acks t.told (renew t.owed key due) t.casts t.pushes (begin home w a t i.0.0)).3 refl refl refl refl refl (λ k g e. e) (still t u (λ g. omega arith)) (λ x. x);
       pays = λ t test i.
           let u : State = record t { owed = paid test t.owed } in
           closing_quiet home w a skip skip t u (later_same t) i (n.pays t test i.0) ((flush home w a t i.0.0).telling.books t t.quotas t.moment t.acks t.told (paid test t.owed) t.casts t.pushes (begin home w a t i.0.0)).3 refl refl refl refl refl (λ k g e. e) (still t u (λ g. omega arith)) (λ x. x);

@@ -17,7 +17,7 @@ use Rattle.cast_message.specs.declared.message.Message.{Message}
 use Rattle.cast_message.specs.declared.site.SiteFrame.{SiteFrame}
 use Rattle.cast_order.specs.Order.{closed_order}
 use Rattle.cast_types.specs.Counts.{CountList, is_within}
-use Rattle.cast_types.specs.Names.{Entry, entry_of, is_atomic, named, site_eq}
+use Rattle.cast_types.specs.Names.{Entry, entry_of, is_atomic, uid_in, site_eq}
 use Rattle.cast_types.specs.declared.limits.TheConstants.{MAX_POSITION, MAX_UNSETTLED}
 use Rattle.cast_types.specs.declared.names.GroupNo.{GroupNo}
 use Rattle.cast_types.specs.declared.names.Proc.{Proc}
@@ -75,7 +75,7 @@ pub record Stopped (group : MemberSide) (view : ℕ) : Type 0 where
   pub frozen : group.number ≡ view → group.frozen ≡ true
 
 abbrev pub IsAbcast : Sites → GroupNo → ℕ → Entry → Type 0
-IsAbcast at g view e = (m : Message) × WasSent at m × (m.id ≡ named g view e) × (is_atomic (kind_of m.body) ≡ true)
+IsAbcast at g view e = (m : Message) × WasSent at m × (m.id ≡ uid_in g view e) × (is_atomic (kind_of m.body) ≡ true)
 
 -- an order is what who has the token of the view had delivered, at a site
 pub record ByHolder (choice : Choice) (at : Sites) (order : Orders) (handed : HandOvers) (s : SiteNo) (g : GroupNo) (view : ℕ) (whole : List Entry) : Type 0 where

@@ -3,10 +3,10 @@ use Rattle.std.proofs.Common.{ap, arith, subst, sym, ◌∙◌}
 use Rattle.std.proofs.lemmas.List.Filters.{length-filter_both}
 use Rattle.std.proofs.lemmas.Bool.{and_parts, eqb-true, false≢true}
 use Rattle.std.specs.Prelude.{◌&&◌, ◌==◌, Bool, Contains, List, None, Option, Some, [], false, filter, length, map, not, refl, suc, true, zero, ℕ, ◌∷◌, ◌≡◌, ◌≤◌}
-use Rattle.cast_ready.specs.Ready.{covered}
+use Rattle.cast_ready.specs.Ready.{covered_entries}
 use Rattle.cast_message.specs.declared.message.Message.{Message}
 use Rattle.cast_rules.specs.State.{State}
-use Rattle.cast_types.specs.Names.{entry_eq, entry_of, named, uid_eq}
+use Rattle.cast_types.specs.Names.{entry_eq, entry_of, uid_in, uid_eq}
 use Rattle.cast_types.specs.Sets.{is_among}
 use Rattle.cast_types.specs.declared.names.Uid.{Uid}
 use Rattle.cast_types.proofs.Orders.{uid_itself}
@@ -42,13 +42,13 @@ covers_names s m known is = flat_has (λ g. named_by g (s.group g)) s.config.gro
     number : ℕ
     number = (s.group m.id.group).number
 
-    go : (o : Option Pending) → (elim o as (λ p. Bool) [ Some p ↦ (m.id.view == number) && is_among entry_eq (entry_of m.id) (covered p.cut) | None ↦ false ]) ≡ true →
-        Contains (elim o as (λ p. List Uid) [ Some p ↦ map (named m.id.group number) (covered p.cut) | None ↦ [] ]) m.id
+    go : (o : Option Pending) → (elim o as (λ p. Bool) [ Some p ↦ (m.id.view == number) && is_among entry_eq (entry_of m.id) (covered_entries p.cut) | None ↦ false ]) ≡ true →
+        Contains (elim o as (λ p. List Uid) [ Some p ↦ map (uid_in m.id.group number) (covered_entries p.cut) | None ↦ [] ]) m.id
     go (Some p) e =
-        let parts = and_parts (m.id.view == number) (is_among entry_eq (entry_of m.id) (covered p.cut)) e in
+        let parts = and_parts (m.id.view == number) (is_among entry_eq (entry_of m.id) (covered_entries p.cut)) e in
         let view : m.id.view ≡ number = eqb-true m.id.view number parts.0 in
-        subst (λ n. Contains (map (named m.id.group number) (covered p.cut)) (record { group = m.id.group; view = n; proc = m.id.proc; count = m.id.count })) (sym view)
-        (contains_mapped (named m.id.group number) (covered p.cut) (entry_of m.id) (among_entry (covered p.cut) (entry_of m.id) parts.1))
+        subst (λ n. Contains (map (uid_in m.id.group number) (covered_entries p.cut)) (record { group = m.id.group; view = n; proc = m.id.proc; count = m.id.count })) (sym view)
+        (contains_mapped (uid_in m.id.group number) (covered_entries p.cut) (entry_of m.id) (among_entry (covered_entries p.cut) (entry_of m.id) parts.1))
     go None e = absurd (false≢true e)
 
 pub all_that_is_kept_is_counted : AllThatIsKeptIsCounted

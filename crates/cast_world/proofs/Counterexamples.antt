@@ -34,13 +34,13 @@ use Rattle.cast_types.specs.declared.names.GroupNo.{GroupNo}
 use Rattle.cast_types.specs.declared.names.Proc.{Proc}
 use Rattle.cast_types.specs.declared.names.Standing.{Standing}
 use Rattle.cast_types.specs.declared.names.Standing.TheVariants.{Joining, Member, Outside}
-use Rattle.cast_view.specs.Home.{Home, moved as home_moved}
+use Rattle.cast_view.specs.Home.{Home, apply_move as home_moved}
 use Rattle.cast_view.specs.declared.phase.Phase.{Phase}
 use Rattle.cast_view.specs.declared.phase.Phase.TheVariants.{Gathering, Idle, Installing}
 use Rattle.cast_world.proofs.Schedules.{both, casts, delivered, group, hand, is_leaving, joins, never_left, pair, passes_at, proc, suspects, three, uid}
 use Rattle.cast_world.specs.Agreement.{Passes, delivered_of}
 use Rattle.cast_world.specs.Laws.{DeliversInOrder, SameMessages}
-use Rattle.cast_world.specs.Network.{Network, event_of, moved}
+use Rattle.cast_world.specs.Network.{Network, event_of, move_site}
 use Rattle.cast_world.specs.declared.step.Happening.TheVariants.{Sent}
 use Rattle.cast_world.specs.declared.step.Step.{Step}
 
@@ -50,7 +50,7 @@ module _ (d : Site State GroupNo) (q : Resting State GroupNo) where
   step_by s e = iterate 3 (rest.pass d q) (release.let_go d q (events.acted d sessions_given (before_event s) e))
 
   abbrev happens_by : Network → Step → Network
-  happens_by w step = elim (event_of w step) [ Some e ↦ moved w step.site (step_by (w.at step.site) e) | None ↦ w ]
+  happens_by w step = elim (event_of w step) [ Some e ↦ move_site w step.site (step_by (w.at step.site) e) | None ↦ w ]
 
   abbrev leads_by : Network → List Step → Network
   leads_by w [] = w

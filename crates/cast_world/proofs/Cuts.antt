@@ -8,7 +8,7 @@ use Rattle.cast_rules.specs.Acts.Act.{Delivered, Entered, Left}
 use Rattle.cast_message.specs.declared.message.Message.{Message}
 use Rattle.cast_events.specs.declared.config.DomainConfig.{DomainConfig}
 use Rattle.cast_types.specs.Counts.{CountList, is_within}
-use Rattle.cast_types.specs.Names.{Entry, named}
+use Rattle.cast_types.specs.Names.{Entry, uid_in}
 use Rattle.cast_types.specs.declared.names.GroupNo.{GroupNo}
 use Rattle.cast_types.specs.declared.names.Proc.{Proc}
 use Rattle.cast_types.specs.declared.names.SiteNo.{SiteNo}
@@ -97,7 +97,7 @@ abbrev pub PassesAboveCut : Network → Type 0
 PassesAboveCut w =
     (p : Proc) (g : GroupNo) (view : ℕ) (before cut : CountList) (a b c : List Act) (e : Entry) →
     acts_of w p ≡ a ++ Entered g view before ∷ b ++ Entered g (view + 1) cut ∷ c → NeverLeft g b → 1 ≤ e.1 → IsTrue (is_within cut e) →
-    (m : Message) × (m.id ≡ named g view e) × Contains b (Delivered m)
+    (m : Message) × (m.id ≡ uid_in g view e) × Contains b (Delivered m)
 
 pub passes_above : (w : Network) → Facts w → PassesAboveCut w
 passes_above w f p g view before cut a b c e is stays counted_it within =

@@ -6,7 +6,7 @@ use Rattle.std.specs.Prelude.{◌&&◌, ◌+◌, ◌++◌, ◌==◌, Bool, List,
 use Rattle.cast_clock.specs.Times.{join, view_of}
 use Rattle.cast_ready.specs.Ready.{Process}
 use Rattle.cast_rules.specs.Effects.{next_message}
-use Rattle.cast_rules.specs.Entering.{enters, in_view, is_put_out, parted, passing, putting_out}
+use Rattle.cast_rules.specs.Entering.{enters, in_view, is_put_out, put_outside, passing, putting_out}
 use Rattle.cast_rules.specs.History.{history}
 use Rattle.cast_rules.specs.Rules.Asking.{is_home}
 use Rattle.cast_rules.specs.Run.{IsStep, after_event, before_event}
@@ -67,7 +67,7 @@ module _ (s : State) where
   passing_same : (t : State) → Delivers t → (g : GroupNo) (skipped : Bool) (n : ℕ) (members : Membership) (request : ℕ) (cut : CountList) → Delivers (passing t g skipped n members request cut)
   passing_same t d g skipped n members request cut = same_delivered t d (passing t g skipped n members request cut).process (λ k. two k (enters (putting_out t g skipped members) g members request k) ∙ one k (is_put_out t g skipped members k))
     where
-      one : (k : ℕ) (b : Bool) → (if b then parted g (t.process k) else t.process k).delivered ≡ (t.process k).delivered
+      one : (k : ℕ) (b : Bool) → (if b then put_outside g (t.process k) else t.process k).delivered ≡ (t.process k).delivered
       one k true = refl
       one k false = refl
 
@@ -104,7 +104,7 @@ module _ (s : State) where
       books = λ t quotas moment acks told owed casts pushes d. d;
       releases = λ t lets d. d;
       sets_session = λ t k v d same. d;
-      parts = λ t k g d. one_same t d k (parted g (t.process k)) refl;
+      parts = λ t k g d. one_same t d k (put_outside g (t.process k)) refl;
       requests = λ t g what p d. d;
     };
     fixed = λ t d. λ i. site_eq (d.placed i) (d.same i).home;

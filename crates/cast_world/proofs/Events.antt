@@ -4,11 +4,11 @@ use Rattle.std.proofs.lemmas.Bool.{and_from, and_parts, eq-eqb, false≢true}
 use Rattle.std.specs.List.{find, fold, list_any}
 use Rattle.std.specs.Option.{option_map_or}
 use Rattle.std.specs.Prelude.{Bool, Contains, None, List, Option, Some, [], false, filter, if◌then◌else◌, is_some, length, not, refl, true, unwrap_or, ℕ, ◌&&◌, ◌||◌, ◌+◌, ◌==◌, ◌∷◌, ◌≡◌, ◌⊎◌}
-use Rattle.cast_ready.specs.Ready.{covered, is_member}
+use Rattle.cast_ready.specs.Ready.{covered_entries, is_member}
 use Rattle.cast_rules.specs.Acts.Act.{Delivered}
 use Rattle.cast_rules.specs.Effects.{delivering, sending}
 use Rattle.cast_rules.specs.History.{history}
-use Rattle.cast_rules.specs.Order.{has_place, holders, holds, order_told, unlisted}
+use Rattle.cast_rules.specs.Order.{has_place, holders, holds, order_told, unlisted_ids}
 use Rattle.cast_rules.specs.Owing.{noting_owed}
 use Rattle.cast_rules.specs.Reports.{has_delivered_cut, is_delivered_here, is_missing, missing_in}
 use Rattle.cast_rules.specs.Rest.{RestsAt, deliver_all, deliver_first, is_free, let_go, pass, set_order, set_order_by, set_orders, settle}
@@ -22,7 +22,7 @@ use Rattle.cast_rules.specs.Rules.Room.{may_order}
 use Rattle.cast_rules.specs.Rules.Sending.{may_raise}
 use Rattle.cast_rules.specs.Run.{after_event, before_event}
 use Rattle.cast_rules.specs.State.{State, is_received, local, serials, setting_quota, taking, with_delivery}
-use Rattle.cast_rules.specs.Step.{acted, opening_next, sessions_given}
+use Rattle.cast_rules.specs.Step.{act_of_event, opening_next, sessions_given}
 use Rattle.cast_rules.specs.Turns.{is_ready_for}
 use Rattle.cast_message.specs.Placement.{Placement}
 use Rattle.cast_message.specs.declared.client.Push.{Push}
@@ -36,7 +36,7 @@ use Rattle.cast_timer.specs.Owed.{is_owed}
 use Rattle.cast_timer.specs.declared.key.OwedKey.{OwedKey}
 use Rattle.cast_types.proofs.Orders.{entry_itself}
 use Rattle.cast_types.specs.Counts.{CountList}
-use Rattle.cast_types.specs.Names.{Entry, entry_eq, named, uid_eq}
+use Rattle.cast_types.specs.Names.{Entry, entry_eq, uid_in, uid_eq}
 use Rattle.cast_types.specs.Sets.{is_among}
 use Rattle.cast_types.specs.declared.limits.TheConstants.{MAX_PLACED}
 use Rattle.cast_types.specs.declared.names.GroupNo.{GroupNo}
@@ -105,14 +105,14 @@ sets_any I any s (event.Take d n most) i = tt
 sets_any I any s (event.Tick t) i = tt
 
 -- what is missing within a cut is one that the cut names
-missing_named : (s : State) (g : GroupNo) (cut : CountList) (x : Entry) → Contains (missing_in s g cut) x → is_among entry_eq x (covered cut) ≡ true
+missing_named : (s : State) (g : GroupNo) (cut : CountList) (x : Entry) → Contains (missing_in s g cut) x → is_among entry_eq x (covered_entries cut) ≡ true
 missing_named s g cut x at =
-    among_of entry_eq entry_itself (covered cut) x (among_kept (is_missing s g) (covered cut) x (taken_of MAX_PLACED (filter (is_missing s g) (covered cut)) x at))
+    among_of entry_eq entry_itself (covered_entries cut) x (among_kept (is_missing s g) (covered_entries cut) x (taken_of MAX_PLACED (filter (is_missing s g) (covered_entries cut)) x at))
 
 -- it was not received
-missing_lacked : (s : State) (g : GroupNo) (cut : CountList) (x : Entry) → Contains (missing_in s g cut) x → is_received s (named g (s.group g).number x) ≡ false
+missing_lacked : (s : State) (g : GroupNo) (cut : CountList) (x : Entry) → Contains (missing_in s g cut) x → is_received s (uid_in g (s.group g).number x) ≡ false
 missing_lacked s g cut x at =
-    neither (is_delivered_here s g x) (is_received s (named g (s.group g).number x)) (passed (is_missing s g) (covered cut) x (taken_of MAX_PLACED (filter (is_missing s g) (covered cut)) x at))
+    neither (is_delivered_here s g x) (is_received s (uid_in g (s.group g).number x)) (passed (is_missing s g) (covered_entries cut) x (taken_of MAX_PLACED (filter (is_missing s g) (covered_entries cut)) x at))
   where
     neither : (a b : Bool) → not (a || b) ≡ true → b ≡ false
     neither true b e = absurd (false≢true e)
@@ -120,10 +120,10 @@ missing_lacked s g cut x at =
     neither false false e = refl
 
 -- so a Want of it is of a message that the waiting Install covers
-named_covers : (s : State) (g : GroupNo) (p : Pending) → (s.group g).pending ≡ Some p → (x : Entry) → is_among entry_eq x (covered p.cut) ≡ true → Wants s (own_want_key history s g x)
+named_covers : (s : State) (g : GroupNo) (p : Pending) → (s.group g).pending ≡ Some p → (x : Entry) → is_among entry_eq x (covered_entries p.cut) ≡ true → Wants s (own_want_key history s g x)
 named_covers s g p pending x named_it =
-    ap (λ (o : Option Pending). elim o [ Some q ↦ ((s.group g).number == (s.group g).number) && is_among entry_eq x (covered q.cut) | None ↦ false ]) pending
-    ∙ and_from ((s.group g).number == (s.group g).number) (is_among entry_eq x (covered p.cut)) (eq-eqb (s.group g).number (s.group g).number refl) named_it
+    ap (λ (o : Option Pending). elim o [ Some q ↦ ((s.group g).number == (s.group g).number) && is_among entry_eq x (covered_entries q.cut) | None ↦ false ]) pending
+    ∙ and_from ((s.group g).number == (s.group g).number) (is_among entry_eq x (covered_entries p.cut)) (eq-eqb (s.group g).number (s.group g).number refl) named_it
 
 is_false : (b : Bool) → not b ≡ true → b ≡ false
 is_false true e = absurd (false≢true e)
@@ -159,7 +159,7 @@ module _ (I : State → Type 0) (Between : GroupNo → State → Type 0) (During
 
   -- the places that a holder sets next are those after the order known here
   next_are : (s : State) (g : GroupNo) (n : ℕ) (places : Placement) → next_places s g n ≡ Some places → body.Order places ≡ body.Order (places_of s g n)
-  next_are s g n places e = ap (λ (p : Placement). body.Order p) (go (not (is_empty (unlisted s g n)) && has_place (order_told s g)) e)
+  next_are s g n places e = ap (λ (p : Placement). body.Order p) (go (not (is_empty (unlisted_ids s g n)) && has_place (order_told s g)) e)
     where
       go : (b : Bool) → (if b then Some (places_of s g n) else None) ≡ Some places → places ≡ places_of s g n
       go true is = sym (ap (λ o. unwrap_or o places) is)
@@ -200,15 +200,15 @@ module _ (I : State → Type 0) (Between : GroupNo → State → Type 0) (During
       go false None = refl
       go false (Some f) = refl
 
-  want_all : (g : GroupNo) (p : Pending) (xs : List Entry) (s : State) → I s → (s.group g).pending ≡ Some p → ((x : Entry) → Contains xs x → is_among entry_eq x (covered p.cut) ≡ true) →
-      ((x : Entry) → Contains xs x → is_received s (named g (s.group g).number x) ≡ false) →
+  want_all : (g : GroupNo) (p : Pending) (xs : List Entry) (s : State) → I s → (s.group g).pending ≡ Some p → ((x : Entry) → Contains xs x → is_among entry_eq x (covered_entries p.cut) ≡ true) →
+      ((x : Entry) → Contains xs x → is_received s (uid_in g (s.group g).number x) ≡ false) →
       I (fold (want_own history g) s xs)
   want_all g p [] s i pending named_all lacked = i
   want_all g p (x ∷ xs) s i pending named_all lacked =
       let key : OwedKey = own_want_key history s g x in
       want_all g p xs (owe history s key) (owe_keeps I t s key i tt (named_covers s g p pending x (named_all x (contains_here [] xs x))) (lacked x (contains_here [] xs x)))
       (ap (λ (f : GroupNo → MemberSide). (f g).pending) (same_group s key) ∙ pending) (λ y at. named_all y (contains_more x xs y at))
-      (λ y at. (λ i_at. list_any (λ (m : Message). uid_eq m.id (named g (same_group s key i_at g).number y)) (same_got s key i_at)) ∙ lacked y (contains_more x xs y at))
+      (λ y at. (λ i_at. list_any (λ (m : Message). uid_eq m.id (uid_in g (same_group s key i_at g).number y)) (same_got s key i_at)) ∙ lacked y (contains_more x xs y at))
 
   go_on_keeps : (s : State) (g : GroupNo) → I s → I (go_on history resting s g)
   go_on_keeps s g i = go (s.group g).pending refl
@@ -237,7 +237,7 @@ module _ (I : State → Type 0) (Between : GroupNo → State → Type 0) (During
   owed_or_free : (s : State) → I s → OwedTrue s ⊎ AcksFreely I
   owed_or_free s i = elim k.truly [ inl owed ↦ inl (owed s i) | inr free ↦ inr free ]
 
-  acted_keeps : (s : State) (e : Event) → I s → HasCome Came e → SetsWell I s e → I (acted s e)
+  acted_keeps : (s : State) (e : Event) → I s → HasCome Came e → SetsWell I s e → I (act_of_event s e)
   acted_keeps s (event.Open d) i come sets = keeps_if I (may_open history sessions_given s) (opening_next s) s (λ _. k.opens s i) (λ _. i)
   acted_keeps s (event.Command d n c) i come sets = commanded_keeps I Between During Came home_here k s n c i
   acted_keeps s (event.Gone d n) i come sets = end_session_keeps I t s n i
@@ -250,7 +250,7 @@ module _ (I : State → Type 0) (Between : GroupNo → State → Type 0) (During
   acted_keeps s (event.Tick time) i come sets = tick_keeps I t s time i (owed_or_free s i)
 
   pub event_keeps_fully : (s : State) (e : Event) → I (before_event s) → HasCome Came e → SetsWell I (before_event s) e → I (after_event s e)
-  event_keeps_fully s e i come sets = let_go_keeps (acted (before_event s) e) (acted_keeps (before_event s) e i come sets)
+  event_keeps_fully s e i come sets = let_go_keeps (act_of_event (before_event s) e) (acted_keeps (before_event s) e i come sets)
 
 -- the same of what does not look at what is owed
 module _ (I : State → Type 0) (Came : SiteNo → SiteFrame → Type 0) (home_here : Bool) (k : Kept I Came home_here) where

@@ -7,7 +7,7 @@ use Rattle.cast_rules.specs.Acts.{Act}
 use Rattle.cast_rules.specs.Acts.Act.{Delivered, Entered, Left, Sent}
 use Rattle.cast_message.specs.declared.message.Message.{Message}
 use Rattle.cast_types.specs.Counts.{CountList, is_within}
-use Rattle.cast_types.specs.Names.{Entry, group_cmp, named, proc_cmp}
+use Rattle.cast_types.specs.Names.{Entry, group_cmp, uid_in, proc_cmp}
 use Rattle.cast_types.specs.Stamps.{ClockList}
 use Rattle.cast_types.specs.declared.names.GroupNo.{GroupNo}
 use Rattle.cast_types.specs.declared.names.Proc.{Proc}
@@ -83,7 +83,7 @@ DeliveredWell a m = (u : Uid) → IsIn a u.group u.view → Covers m.times u →
 pub record EnteredWell (a : List Act) (g : GroupNo) (n : ℕ) (cut : CountList) : Type 0 where
   pub above : (m : Message) → HasDone a m → view_of m.times g < n
   pub next : (view : ℕ) → IsIn a g view → n ≡ view + 1
-  pub cuts : (view : ℕ) (e : Entry) → IsAwaited e → IsIn a g view → 1 ≤ e.1 → IsTrue (is_within cut e) → HasDelivered a (named g view e)
+  pub cuts : (view : ℕ) (e : Entry) → IsAwaited e → IsIn a g view → 1 ≤ e.1 → IsTrue (is_within cut e) → HasDelivered a (uid_in g view e)
 
 abbrev pub ActWell : Proc → List Act → Act → Type 0
 ActWell me a (Sent m) = SentWell me a m

@@ -30,7 +30,7 @@ use Rattle.cast_world.proofs.Ones.{outside_not_member}
 use Rattle.cast_world.proofs.Runs.{facts, first, from_mapped, last, nothing, start_holds, step_arrives}
 use Rattle.cast_world.proofs.Steps.{AllHold, Arrived, same_site, sites_at}
 use Rattle.cast_world.specs.Laws.{AllPassWithCut}
-use Rattle.cast_world.specs.Network.{Becomes, Happens, Leads, Network, Reaches, event_of, moved, start}
+use Rattle.cast_world.specs.Network.{Becomes, Happens, Leads, Network, Reaches, event_of, move_site, start}
 use Rattle.cast_world.specs.declared.step.Packet.{Packet}
 use Rattle.cast_world.specs.declared.step.Step.{Step}
 
@@ -90,7 +90,7 @@ module _ (home : SiteNo) (w : Network) (h : AllHold home w) (choice : Choice) (a
           record { groups = y.groups; ones = y.ones; homes = y.homes; received = y.received; sent = λ to f c. absurd (omega (arith, c.1)) })
       go s false e = agrees_later home choice choice w.at at0 (λ g. ((let same = same_number g in omega (arith, same)), λ n le. refl)) same_told s (w.at s) (h.sites s) (agree.sites s)
 
-pub flush_last : (home : SiteNo) (w : Network) (a : SiteNo) (t : State) (choice : Choice) → Flushing home w a t choice → AllAgree home (moved w a t) choice
+pub flush_last : (home : SiteNo) (w : Network) (a : SiteNo) (t : State) (choice : Choice) → Flushing home w a t choice → AllAgree home (move_site w a t) choice
 flush_last home w a t choice f = record {
   sites = f.sites;
   packets = λ p c. elim (Contains-append_cases w.sent (map (λ (x : SiteNo × SiteFrame). record { from = a; to = x.0; frame = x.1 }) t.frames) p c) [
@@ -113,7 +113,7 @@ step_kept home w v step happens (h, choice, agree) = go (event_of w step) refl h
     low : GroupNo → ℕ
     low = numbers (sites_at home w step.site (before_event (w.at step.site))) home
 
-    after : (t : State) → FlushNow home w step.site choice low t → AllKept home (moved w step.site t)
+    after : (t : State) → FlushNow home w step.site choice low t → AllKept home (move_site w step.site t)
     after t (now, more, f, ext) = (last home w h step.site t now, more, flush_last home w step.site t more f)
 
     go : (o : Option Event) → event_of w step ≡ o → Becomes w step.site o v → AllKept home v

@@ -8,10 +8,10 @@ use Rattle.cast_ready.specs.Ready.{Process, is_cut_by, is_member, is_open_to, is
 use Rattle.cast_rules.specs.Acts.{Act}
 use Rattle.cast_rules.specs.Acts.Act.{Entered, Left, Sent}
 use Rattle.cast_rules.specs.Effects.{next_message}
-use Rattle.cast_rules.specs.Entering.{all_parted, completing, enters, in_view, parted}
+use Rattle.cast_rules.specs.Entering.{all_parted, completing, enters, in_view, put_outside}
 use Rattle.cast_rules.specs.Order.{is_of_view}
 use Rattle.cast_rules.specs.Reports.{had_here, had_in, report_in}
-use Rattle.cast_rules.specs.State.{State, emitted, gate_of, local, noting_act, noting_sent, outside, receiving, serials, set_group, set_home, set_standing, with_delivery}
+use Rattle.cast_rules.specs.State.{State, emit, gate_of, local, noting_act, noting_sent, outside, receiving, serials, set_group, set_home, set_standing, with_delivery}
 use Rattle.cast_rules.specs.Step.{opening_next}
 use Rattle.cast_rules.specs.Turns.{is_ready_for}
 use Rattle.cast_message.specs.Membership.{Membership}
@@ -109,7 +109,7 @@ module _ (choice : Choice) (at : Sites) (home s : SiteNo) (t : State) (x : SiteH
           inl (omega (arith, one, two));
     }
 
-    says_true : (to : SiteNo) (f : SiteFrame) → at s ≡ emitted t to f → Says t to f → IsTrueOf choice number at s f
+    says_true : (to : SiteNo) (f : SiteFrame) → at s ≡ emit t to f → Says t to f → IsTrueOf choice number at s f
     says_true to (frame.Data m) own says = tt
     says_true to (frame.Ack u) own says = tt
     says_true to (frame.Stable u) own says = tt
@@ -126,7 +126,7 @@ module _ (choice : Choice) (at : Sites) (home s : SiteNo) (t : State) (x : SiteH
     says_true to (frame.Installed g view) own says = tt
     says_true to (frame.Out g view) own says = tt
 
-    pub emits_agrees : (to : SiteNo) (f : SiteFrame) → at s ≡ emitted t to f → Says t to f → SiteAgrees choice number at s (emitted t to f)
+    pub emits_agrees : (to : SiteNo) (f : SiteFrame) → at s ≡ emit t to f → Says t to f → SiteAgrees choice number at s (emit t to f)
     emits_agrees to f own says = record {
       groups = y.groups;
       ones = y.ones;
@@ -164,23 +164,23 @@ module _ (choice : Choice) (at : Sites) (home s : SiteNo) (t : State) (x : SiteH
         OneAgrees choice number t.here t.used next k st (t.process k).delivered (t.acts k)
     less k next st same = agree_less choice number t.here t.used t.group k (t.process k).standing (t.process k).delivered (t.acts k) (y.ones k) next st same
 
-    gone : (k : ℕ) (g : GroupNo) → One t.group k (parted g (t.process k)) (t.acts k)
-    gone k g = less k t.group (parted g (t.process k)).standing (λ h is. (stands ((t.process k).standing h) (group_eq g h) is, refl))
+    gone : (k : ℕ) (g : GroupNo) → One t.group k (put_outside g (t.process k)) (t.acts k)
+    gone k g = less k t.group (put_outside g (t.process k)).standing (λ h is. (stands ((t.process k).standing h) (group_eq g h) is, refl))
 
-    gone_left : (k : ℕ) (g : GroupNo) → One t.group k (parted g (t.process k)) (t.acts k ++ Left g ∷ [])
-    gone_left k g = agree_left choice number t.here t.used t.group k (parted g (t.process k)).standing (t.process k).delivered (t.acts k) (gone k g) g
+    gone_left : (k : ℕ) (g : GroupNo) → One t.group k (put_outside g (t.process k)) (t.acts k ++ Left g ∷ [])
+    gone_left k g = agree_left choice number t.here t.used t.group k (put_outside g (t.process k)).standing (t.process k).delivered (t.acts k) (gone k g) g
 
     pub part_agrees : (k : ℕ) (g : GroupNo) → SiteAgrees choice number at s (outside t k g)
     part_agrees k g = go (is_member ((t.process k).standing g))
       where
-        go : (b : Bool) → WithOnes (set_at (λ a c. a == c) t.process k (parted g (t.process k))) (if b then (noting_act t k (Left g)).acts else t.acts)
-        go true = with_ones _ _ (changed k (parted g (t.process k)) (t.acts k ++ Left g ∷ []) (gone_left k g))
-        go false = with_ones _ _ (stood k (parted g (t.process k)) (gone k g))
+        go : (b : Bool) → WithOnes (set_at (λ a c. a == c) t.process k (put_outside g (t.process k))) (if b then (noting_act t k (Left g)).acts else t.acts)
+        go true = with_ones _ _ (changed k (put_outside g (t.process k)) (t.acts k ++ Left g ∷ []) (gone_left k g))
+        go false = with_ones _ _ (stood k (put_outside g (t.process k)) (gone k g))
 
     pub all_part_agrees : (g : GroupNo) (goes : ℕ → Bool) → SiteAgrees choice number at s (all_parted t g goes)
     all_part_agrees g goes = with_ones _ _ (λ k. go k (goes k))
       where
-        go : (k : ℕ) (b : Bool) → One t.group k (if b then parted g (t.process k) else t.process k) (if b then t.acts k ++ Left g ∷ [] else t.acts k)
+        go : (k : ℕ) (b : Bool) → One t.group k (if b then put_outside g (t.process k) else t.process k) (if b then t.acts k ++ Left g ∷ [] else t.acts k)
         go k true = gone_left k g
         go k false = y.ones k
 

@@ -12,7 +12,7 @@ use Rattle.cast_rules.specs.Effects.{next_message}
 use Rattle.cast_rules.specs.Entering.{enters, freezing, is_put_out, passing, pending_install, putting_out}
 use Rattle.cast_rules.specs.History.{history}
 use Rattle.cast_rules.specs.Rules.Asking.{is_home}
-use Rattle.cast_rules.specs.State.{State, emitted, local, noting_sent, outside, receiving, releasing, set_group, set_home, set_session, set_standing, with_delivery}
+use Rattle.cast_rules.specs.State.{State, emit, local, noting_sent, outside, receiving, releasing, set_group, set_home, set_session, set_standing, with_delivery}
 use Rattle.cast_rules.specs.Step.{opening_next}
 use Rattle.cast_message.specs.Membership.{Membership}
 use Rattle.cast_message.specs.Tail.{Tail}
@@ -25,7 +25,7 @@ use Rattle.cast_types.specs.declared.names.GroupNo.{GroupNo}
 use Rattle.cast_types.specs.declared.names.Proc.{Proc}
 use Rattle.cast_types.specs.declared.names.SiteNo.{SiteNo}
 use Rattle.cast_types.specs.declared.names.Standing.TheVariants.{Joining}
-use Rattle.cast_view.specs.Home.{Home, HomeMove, after_ask, after_body, after_installed, after_reply, after_start, after_suspicion, decided, decided_list, decided_members, decided_phase, decision_of, installing, is_suspected, may_decide, may_decide_in, moved, stays}
+use Rattle.cast_view.specs.Home.{Home, HomeMove, after_ask, after_body, after_installed, after_reply, after_start, after_suspicion, decide_view, decided_list, decided_members, decided_phase, decision_of, installing, is_suspected, may_decide, may_decide_in, apply_move, stays}
 use Rattle.cast_view.specs.Home.HomeMove.{Asked, Brought, Decided, Installed, Reported, Started, Suspected}
 use Rattle.cast_view.specs.MemberSide.{MemberSide, frozen_side, is_taken_in, with_answer, with_pending, with_request}
 use Rattle.cast_view.specs.Sites.{is_at, local_view, sites_of}
@@ -160,7 +160,7 @@ module _ (home : SiteNo) (w : Network) (a : SiteNo) where
     h = t.home g
 
     abbrev u : State
-    u = set_home t g (decided (t.home g))
+    u = set_home t g (decide_view (t.home g))
 
     abbrev made : Chosen
     made = record { members = decided_members h; cut = cut_from h.members.list (reports_of h.phase) }
@@ -181,10 +181,10 @@ module _ (home : SiteNo) (w : Network) (a : SiteNo) where
     number_t = ap (λ (y : State). (y.home g).number) at_home_t
 
     number_u : number u g ≡ h.number + 1
-    number_u = ap (λ (y : State). (y.home g).number) at_home_u ∙ ap (λ (y : Home). y.number) (set_here t.home g (decided h) g refl)
+    number_u = ap (λ (y : State). (y.home g).number) at_home_u ∙ ap (λ (y : Home). y.number) (set_here t.home g (decide_view h) g refl)
 
     number_else : (j : GroupNo) → (g ≡ j → ⊥) → number u j ≡ number t j
-    number_else j apart = ap (λ (y : State). (y.home j).number) at_home_u ∙ ap (λ (y : Home). y.number) (set_other t.home g (decided h) j apart) ∙ sym (ap (λ (y : State). (y.home j).number) at_home_t)
+    number_else j apart = ap (λ (y : State). (y.home j).number) at_home_u ∙ ap (λ (y : Home). y.number) (set_other t.home g (decide_view h) j apart) ∙ sym (ap (λ (y : State). (y.home j).number) at_home_t)
 
     more_here : more g (h.number + 1) ≡ made
     more_here = λ i. if eq-eqb g.0 g.0 refl i && eq-eqb (h.number + 1) (h.number + 1) refl i then made else choice g (h.number + 1)
@@ -202,7 +202,7 @@ module _ (home : SiteNo) (w : Network) (a : SiteNo) where
         go false e c d = refl
 
     decide_later : Later t u
-    decide_later = later_home t g (decided h) (omega arith)
+    decide_later = later_home t g (decide_view h) (omega arith)
 
     extended : Extends choice (number t) more (number u)
     extended j = ((ahead_at home w a t u decide_later home).decided j, more_else j)
@@ -264,7 +264,7 @@ module _ (home : SiteNo) (w : Network) (a : SiteNo) where
     pub decides_flush : Flushing u more
     decides_flush = flush_move t u decide_later now choice more f extended flows
         (home_agrees more (at u) home a t (site_later (at t) (at u) home (ahead_at home w a t u decide_later) a t (own_holds home w a t now))
-        (old_here t u decide_later now choice more f extended flows) g (decided h) record {
+        (old_here t u decide_later now choice more f extended flows) g (decide_view h) record {
           members = ap (λ (c : Chosen). c.members) (sym more_here);
           decision = λ waiting d bodies e. new_cut h.phase may waiting d bodies e ∙ ap (λ (c : Chosen). c.cut) (sym more_here);
           awaits = λ e. absurd (gathers_not h.phase may e);
@@ -279,8 +279,8 @@ module _ (home : SiteNo) (w : Network) (a : SiteNo) where
 
     flush_telling : KeptByTelling (FlushNow first low)
     flush_telling = record {
-      emits = λ t to fr i says. keep first low t (emitted t to fr) (later_same t) (λ g. omega arith) (k.telling.emits t to fr i.0 says) i (λ choice f. flows_same choice (number t) t)
-          (λ choice f x y own truth. emits_agrees choice (at (emitted t to fr)) home a t x y to fr own says);
+      emits = λ t to fr i says. keep first low t (emit t to fr) (later_same t) (λ g. omega arith) (k.telling.emits t to fr i.0 says) i (λ choice f. flows_same choice (number t) t)
+          (λ choice f x y own truth. emits_agrees choice (at (emit t to fr)) home a t x y to fr own says);
       books = λ t quotas moment acks told_list owed casts pushes i.
           let u : State = record t { quotas = quotas; moment = moment; acks = acks; told = told_list; owed = owed; casts = casts; pushes = pushes } in
           keep first low t u (later_same t) (λ g. omega arith) (k.telling.books t quotas moment acks told_list owed casts pushes i.0) i (λ choice f. flows_same choice (number t) t) (λ choice f x y own truth. y);
@@ -388,14 +388,14 @@ module _ (home : SiteNo) (w : Network) (a : SiteNo) where
         (set_group_all (λ j (z : Home). z.number ≤ (t.home j).number) t.home g h (λ j. omega arith) (let same = f.number in omega (arith, same))) now_u i
         (λ choice fl. flows_same choice (number t) t) (λ choice fl x y own truth. follow_agrees choice (at (set_home t g h)) home a t x y (Arrived home w a) truth g h f)
 
-    homes_flush : (t : State) (g : GroupNo) (what : HomeMove) → FlushNow first low t → MayMove (Arrived home w a) t g what → FlushNow first low (set_home t g (moved what (t.home g)))
+    homes_flush : (t : State) (g : GroupNo) (what : HomeMove) → FlushNow first low t → MayMove (Arrived home w a) t g what → FlushNow first low (set_home t g (apply_move what (t.home g)))
     homes_flush t g (Asked from number_it what p) i may = follows_flush t g (after_ask (t.home g) from number_it what p) i (k.homes t g (Asked from number_it what p) i.0 may) (request_follows (Arrived home w a) g (t.home g) from number_it what p may)
     homes_flush t g (Suspected site) i may = follows_flush t g (after_suspicion (t.home g) site) i (k.homes t g (Suspected site) i.0 may) (suspicion_follows (Arrived home w a) g (t.home g) site)
     homes_flush t g Started i may = follows_flush t g (after_start (t.home g)) i (k.homes t g Started i.0 may) (started_follows (Arrived home w a) g (t.home g))
     homes_flush t g (Reported from view r) i may = follows_flush t g (after_reply (t.home g) from view r) i (k.homes t g (Reported from view r) i.0 may) (replied_follows (Arrived home w a) g (t.home g) from view r may)
     homes_flush t g (Brought m) i may = follows_flush t g (after_body (t.home g) m) i (k.homes t g (Brought m) i.0 may) (brought_follows (Arrived home w a) g (t.home g) may.0 m may.1)
     homes_flush t g Decided i may =
-        let u : State = set_home t g (decided (t.home g)) in (
+        let u : State = set_home t g (decide_view (t.home g)) in (
           k.homes t g Decided i.0 may,
           more t g may.0 may.1 i.0 i.1 i.2,
           decides_flush t g may.0 may.1 i.0 i.1 i.2,

@@ -28,7 +28,7 @@ use Rattle.cast_rules.specs.Rules.Room.{may_order, may_receive, may_take}
 use Rattle.cast_rules.specs.Rules.Sending.{may_raise, send_data}
 use Rattle.cast_rules.specs.Rules.Stability.{is_used_ack, on_ack, on_stable, tell_more, tell_stable, with_ack}
 use Rattle.cast_rules.specs.Rules.Views.{change_view, enter_and_tell, install, no_members, on_install, on_out, tell_out, tell_view}
-use Rattle.cast_rules.specs.State.{State, awaits_own, counting_cast, emitted, is_group, is_received, is_stable, local, local_members, message_of, noting_sent, others_of, outside, receiving, set_group, set_home, set_standing, upto}
+use Rattle.cast_rules.specs.State.{State, awaits_own, counting_cast, emit, is_group, is_received, is_stable, local, local_members, message_of, noting_sent, others_of, outside, receiving, set_group, set_home, set_standing, upto}
 use Rattle.cast_message.specs.Bodies.{kind_of}
 use Rattle.cast_message.specs.KeptIds.{KeptList}
 use Rattle.cast_message.specs.Membership.{Membership}
@@ -55,7 +55,7 @@ use Rattle.cast_types.specs.declared.names.Standing.TheVariants.{Joining}
 use Rattle.cast_types.specs.declared.names.Uid.{Uid}
 use Rattle.cast_types.specs.declared.refusal.Refusal.{Refusal}
 use Rattle.cast_types.specs.declared.refusal.Refusal.TheVariants.{AlreadyMember, BadFrame, Flushing, GroupFull, HeldFull, NoGroup, NotHolder, NotMember, OwnAbcast, TooLong}
-use Rattle.cast_view.specs.Home.{answer_to, awaited_of, bodies_of, may_decide, may_start, moved, takes_installed, takes_report, waiting_of}
+use Rattle.cast_view.specs.Home.{answer_to, awaited_of, bodies_of, may_decide, may_start, apply_move, takes_installed, takes_report, waiting_of}
 use Rattle.cast_view.specs.Home.HomeMove.{Asked, Brought, Decided, Installed, Reported, Started, Suspected}
 use Rattle.cast_view.specs.MemberSide.{MemberSide, answers_prepare, counts_by, first_asking, frozen_side, greatest_of, has_view, is_current, is_pending, is_put_out_by, members_of, with_answer}
 use Rattle.cast_view.specs.declared.member.PendingRequest.{PendingRequest}
@@ -94,7 +94,7 @@ told_counts s g x = counts_by (greatest_of (map entry_of (filter (λ u. group_eq
 -- what was received is acknowledged
 module _ (I : State → Type 0) (t : FullyKeptByTelling I) where
   acknowledge_keeps : (s : State) (to : SiteNo) (u : Uid) → I s → is_received s u ≡ true → u.view ≡ (s.group u.group).number → I (acknowledge history s to u)
-  acknowledge_keeps s to u i has current = keeps_if I (is_stable s u) (emitted s to (frame.Ack u)) (owe history s (message_key kinds.Ack u to))
+  acknowledge_keeps s to u i has current = keeps_if I (is_stable s u) (emit s to (frame.Ack u)) (owe history s (message_key kinds.Ack u to))
       (λ _. t.emits s to (frame.Ack u) i tt has)
       (λ _. owe_keeps I t s (message_key kinds.Ack u to) i (ap (λ n. is_received s (record { group = u.group; view = n; proc = u.proc; count = u.count })) (sym current) ∙ has) tt tt)
 
@@ -232,14 +232,14 @@ module _ (I : State → Type 0) (Between : GroupNo → State → Type 0) (During
       let c = and_parts (m.id.view == (s.group m.id.group).number) (is_well_formed history s (members_of (s.group m.id.group)) m) b.1 in
       let current : m.id.view ≡ (s.group m.id.group).number = eqb-true m.id.view (s.group m.id.group).number c.0 in
       let elsewhere : site_eq m.id.proc.site s.here ≡ false = ap (λ n. n == s.here.0) (eqb-true m.id.proc.site.0 from.0 a.0) ∙ not_false (site_eq from s.here) b.0 in
-      keeps_if I (is_received s m.id) (emitted s from (frame.Ack m.id)) _ (λ has. t.emits s from (frame.Ack m.id) i tt has)
+      keeps_if I (is_received s m.id) (emit s from (frame.Ack m.id)) _ (λ has. t.emits s from (frame.Ack m.id) i tt has)
       (λ lacked. keeps_if I (may_take history s m.body) (want_no_more history (acknowledge history (receiving s m) from m.id) m.id) s
       (λ room. k.received (acknowledge history (receiving s m) from m.id) m.id (acknowledge_keeps (During m.id) (k.during m.id) (receiving s m) from m.id
       (k.receives s from m i (inl came) current (well_formed_member s (members_of (s.group m.id.group)) m c.1) (fits room) (unknown lacked elsewhere)) (received_now s.got m) current)) (λ _. i))
 
   on_data_keeps : (s : State) (from : SiteNo) (m : Message) → I s → Came from (frame.Data m) → I (on_data history s m.id.group from m)
   on_data_keeps s from m i came = keeps_if I (is_used history s m.id.group from m) (use_data history s from m) _ (use_data_keeps s from m i came)
-      (λ _. keeps_if I (is_outdated history s m.id.group from m) (emitted s from (frame.Out m.id.group (s.group m.id.group).number)) s
+      (λ _. keeps_if I (is_outdated history s m.id.group from m) (emit s from (frame.Out m.id.group (s.group m.id.group).number)) s
       (λ _. t.emits s from (frame.Out m.id.group (s.group m.id.group).number) i refl tt) (λ _. i))
 
   -- Stability
@@ -267,11 +267,11 @@ module _ (I : State → Type 0) (Between : GroupNo → State → Type 0) (During
   on_ask_keeps s from g number what q i came = keeps_if I (is_home history s) _ s (λ _. answer (answer_to (s.home g) from number what q)) (λ _. i)
     where
       now : State
-      now = set_home s g (moved (Asked from number what q) (s.home g))
+      now = set_home s g (apply_move (Asked from number what q) (s.home g))
 
-      answer : (o : Option Bool) → I (answer_ask history (set_home s g (moved (Asked from number what q) (s.home g))) g from number o)
+      answer : (o : Option Bool) → I (answer_ask history (set_home s g (apply_move (Asked from number what q) (s.home g))) g from number o)
       answer None = k.homes s g (Asked from number what q) i came
-      answer (Some full) = t.emits (set_home s g (moved (Asked from number what q) (s.home g))) from (frame.Asked g number full) (k.homes s g (Asked from number what q) i came) tt tt
+      answer (Some full) = t.emits (set_home s g (apply_move (Asked from number what q) (s.home g))) from (frame.Asked g number full) (k.homes s g (Asked from number what q) i came) tt tt
 
   deny_keeps : (s : State) (g : GroupNo) (a : PendingRequest) → I s → I (deny history s g a)
   deny_keeps s g a i = keeps_if I (is_joining_by ((s.process a.proc.serial).standing g) a.number) _ s
@@ -331,15 +331,15 @@ module _ (I : State → Type 0) (Between : GroupNo → State → Type 0) (During
   announce_keeps s g i = keeps_fold I (owe_of_home history kinds.Install g) (λ r to j. owe_keeps I t r (home_key kinds.Install g to) j tt tt tt) (waiting_of (s.home g).phase) s i
 
   start_keeps : (s : State) (g : GroupNo) → I s → I (start history s g)
-  start_keeps s g i = keeps_if I (may_start (s.home g)) (prepare history (set_home s g (moved Started (s.home g))) g) s
-      (λ _. prepare_keeps (set_home s g (moved Started (s.home g))) g (k.homes s g Started i tt)) (λ _. i)
+  start_keeps s g i = keeps_if I (may_start (s.home g)) (prepare history (set_home s g (apply_move Started (s.home g))) g) s
+      (λ _. prepare_keeps (set_home s g (apply_move Started (s.home g))) g (k.homes s g Started i tt)) (λ _. i)
 
   want_bodies_keeps : (s : State) (g : GroupNo) → I s → I (want_bodies history s g)
   want_bodies_keeps s g i = keeps_fold I (want history g) (λ r w j. owe_keeps I t r (want_key g w) j tt tt tt) (wants history s g) s i
 
   decide_keeps : (s : State) (g : GroupNo) → home_here ≡ true → I s → I (decide history s g)
-  decide_keeps s g here i = keeps_if I (may_decide g (s.home g)) (announce history (set_home s g (moved Decided (s.home g))) g) s
-      (λ may. announce_keeps (set_home s g (moved Decided (s.home g))) g (k.homes s g Decided i (k.fixed s i ∙ here, may))) (λ _. i)
+  decide_keeps s g here i = keeps_if I (may_decide g (s.home g)) (announce history (set_home s g (apply_move Decided (s.home g))) g) s
+      (λ may. announce_keeps (set_home s g (apply_move Decided (s.home g))) g (k.homes s g Decided i (k.fixed s i ∙ here, may))) (λ _. i)
 
   lead_group_keeps : (s : State) (g : GroupNo) → home_here ≡ true → I s → I (lead_group history s g)
   lead_group_keeps s g here i = decide_keeps (want_bodies history (start history s g) g) g here (want_bodies_keeps (start history s g) g (start_keeps s g i))
@@ -364,7 +364,7 @@ module _ (I : State → Type 0) (Between : GroupNo → State → Type 0) (During
   suspect_in_keeps site s g i =
       let less : State = paying s (home_key kinds.Prepare g site) in
       let free : State = paying less (home_key kinds.Install g site) in
-      drop_wants_keeps (set_home free g (moved (Suspected site) (s.home g))) g (wants history s g)
+      drop_wants_keeps (set_home free g (apply_move (Suspected site) (s.home g))) g (wants history s g)
       (k.homes free g (Suspected site) (pay_keeps I t less (home_key kinds.Install g site) (pay_keeps I t s (home_key kinds.Prepare g site) i)) tt)
 
   pub suspect_keeps : (s : State) (site : SiteNo) → I s → I (suspect history s site)
@@ -383,7 +383,7 @@ module _ (I : State → Type 0) (Between : GroupNo → State → Type 0) (During
 
   on_want_keeps : (s : State) (from : SiteNo) (u : Uid) → I s → I (on_want history s u.group from u)
   on_want_keeps s from u i = keeps_if I (site_eq from s.here && not (is_home history s)) s _ (λ _. i)
-      (λ _. keeps_option I (λ m. emitted s from (frame.Forward m)) (forwardable history s u.group u) s
+      (λ _. keeps_option I (λ m. emit s from (frame.Forward m)) (forwardable history s u.group u) s
       (λ m is. t.emits s from (frame.Forward m) i (has (find (λ x. uid_eq x.id u) (bodies_of (s.home u.group).phase)) refl m is) tt) i)
     where
       has : (o : Option Message) → find (λ x. uid_eq x.id u) (bodies_of (s.home u.group).phase) ≡ o → (m : Message) → option_or o (message_of s u) ≡ Some m →

@@ -15,7 +15,7 @@ use Rattle.cast_rules.specs.Rules.Keys.{id_in, message_key}
 use Rattle.cast_rules.specs.Rules.Room.{may_take}
 use Rattle.cast_rules.specs.Rules.Views.{no_members}
 use Rattle.cast_rules.specs.Rules.Commands.{body_handing}
-use Rattle.cast_rules.specs.State.{State, emitted, is_ended, is_group, is_received, noting_ack, noting_sent, noting_stable, outside, receiving, releasing, releasing_ended, set_group, set_home, set_session, set_standing, with_delivery}
+use Rattle.cast_rules.specs.State.{State, emit, is_ended, is_group, is_received, noting_ack, noting_sent, noting_stable, outside, receiving, releasing, releasing_ended, set_group, set_home, set_session, set_standing, with_delivery}
 use Rattle.cast_rules.specs.Step.{opening_next}
 use Rattle.cast_rules.specs.Turns.{is_ready_for}
 use Rattle.cast_message.specs.Bodies.{kind_of}
@@ -29,7 +29,7 @@ use Rattle.cast_message.specs.declared.site.SiteFrame.{SiteFrame}
 use Rattle.cast_events.specs.Session.{Session, is_open}
 use Rattle.cast_quota.specs.declared.quotas.Quotas.{Quotas}
 use Rattle.cast_stable.specs.Stable.{Acked}
-use Rattle.cast_timer.specs.Owed.{is_of_view, is_owed, key_eq, paid, renewed, with_owed}
+use Rattle.cast_timer.specs.Owed.{is_of_view, is_owed, key_eq, paid, renew, with_owed}
 use Rattle.cast_timer.specs.declared.key.Owed.{Owed}
 use Rattle.cast_timer.specs.declared.key.OwedKey.{OwedKey}
 use Rattle.cast_timer.specs.declared.key.OwedKind.{OwedKind}
@@ -43,7 +43,7 @@ use Rattle.cast_types.specs.declared.names.Proc.{Proc}
 use Rattle.cast_types.specs.declared.names.SiteNo.{SiteNo}
 use Rattle.cast_types.specs.declared.names.Standing.TheVariants.{Joining}
 use Rattle.cast_types.specs.declared.names.Uid.{Uid}
-use Rattle.cast_view.specs.Home.{HomeMove, answer_in, bodies_of, may_decide, moved}
+use Rattle.cast_view.specs.Home.{HomeMove, answer_in, bodies_of, may_decide, apply_move}
 use Rattle.cast_view.specs.Home.HomeMove.{Asked, Brought, Decided, Installed, Reported, Started, Suspected}
 use Rattle.cast_view.specs.MemberSide.{MemberSide, has_view, is_pending, members_of, with_answer, with_request}
 use Rattle.cast_view.specs.declared.member.PendingRequest.{PendingRequest}
@@ -106,7 +106,7 @@ pub data Comes (Came : SiteNo → SiteFrame → Type 0) (s : State) (g : GroupNo
 
 -- what telling programs is made of: bookkeeping, and the requests that follow where a session is closed
 pub record KeptByTelling (I : State → Type 0) : Type 0 where
-  pub emits : (s : State) (to : SiteNo) (f : SiteFrame) → I s → Says s to f → I (emitted s to f)
+  pub emits : (s : State) (to : SiteNo) (f : SiteFrame) → I s → Says s to f → I (emit s to f)
   pub books : (s : State) (quotas : Quotas) (moment : ℕ) (acks : List Acked) (told : List Uid) (owed : List Owed) (casts : ℕ) (pushes : List (ℕ × Push)) → I s →
       I (record s { quotas = quotas; moment = moment; acks = acks; told = told; owed = owed; casts = casts; pushes = pushes })
   pub releases : (s : State) (passes : Uid → Bool) → I s → I (releasing s passes)
@@ -132,7 +132,7 @@ pub record Kept (I : State → Type 0) (Came : SiteNo → SiteFrame → Type 0) 
       Came from (frame.Install g ((s.group g).number + 1) p.members p.request p.cut tail) → has_view (s.group g) ≡ true → I (pending_install s g p tail)
   pub passes : (s : State) (g : GroupNo) (skipped : Bool) (n : ℕ) (members : Membership) (request : ℕ) (cut : CountList) → I s →
       Comes Came s g skipped n members request cut → I (passing s g skipped n members request cut)
-  pub homes : (s : State) (g : GroupNo) (what : HomeMove) → I s → MayMove Came s g what → I (set_home s g (moved what (s.home g)))
+  pub homes : (s : State) (g : GroupNo) (what : HomeMove) → I s → MayMove Came s g what → I (set_home s g (apply_move what (s.home g)))
 
 -- The same moves with all that is known of them: of what is owed, of acknowledgements, of what a report and an Install say, and of what programs
 -- are told
@@ -215,11 +215,11 @@ Adds s (frame.Installed g view) = Unit {0}
 Adds s (frame.Out g view) = Unit {0}
 
 pub record FullyKeptByTelling (I : State → Type 0) : Type 0 where
-  pub emits : (s : State) (to : SiteNo) (f : SiteFrame) → I s → Says s to f → Adds s f → I (emitted s to f)
+  pub emits : (s : State) (to : SiteNo) (f : SiteFrame) → I s → Says s to f → Adds s f → I (emit s to f)
   pub books : (s : State) (moment casts : ℕ) → I s → I (record s { moment = moment; casts = casts })
   pub pushes : (s : State) (k : ℕ) (p : Push) → I s → AgreesWith (s.acts k) p → I (record s { pushes = s.pushes ++ (k, p) ∷ [] })
   pub owes : (s : State) (key : OwedKey) (due : ℕ) → I s → Owes s key → Wants s key → Lacks s key → I (record s { owed = with_owed s.owed key due })
-  pub renews : (s : State) (key : OwedKey) (due : ℕ) → I s → Owes s key → IsOwed s key → I (record s { owed = renewed s.owed key due })
+  pub renews : (s : State) (key : OwedKey) (due : ℕ) → I s → Owes s key → IsOwed s key → I (record s { owed = renew s.owed key due })
   pub pays : (s : State) (test : OwedKey → Bool) → I s → I (record s { owed = paid test s.owed })
   pub releases : (s : State) (passes : Uid → Bool) → I s → I (releasing s passes)
   pub sets_session : (s : State) (k : ℕ) (v : Session) → I s → (is_open v ≡ true → is_open (s.session k) ≡ true) → I (set_session s k v)
@@ -229,8 +229,8 @@ pub record FullyKeptByTelling (I : State → Type 0) : Type 0 where
 -- Acks may be sent, and those that are owed be sent again, at all times
 abbrev pub AcksFreely : (State → Type 0) → Type 0
 AcksFreely I =
-    ((s : State) (to : SiteNo) (u : Uid) → I s → I (emitted s to (frame.Ack u)))
-    × ((s : State) (key : OwedKey) (due : ℕ) → I s → IsOwed s key → I (record s { owed = renewed s.owed key due }))
+    ((s : State) (to : SiteNo) (u : Uid) → I s → I (emit s to (frame.Ack u)))
+    × ((s : State) (key : OwedKey) (due : ℕ) → I s → IsOwed s key → I (record s { owed = renew s.owed key due }))
 
 -- where a site passes to a view, Between holds of the group until nothing is owed for the view before it; where it receives a message, During
 -- holds of its id until it is wanted no more
@@ -259,7 +259,7 @@ pub record FullyKept (I : State → Type 0) (Between : GroupNo → State → Typ
   pub passes : (s : State) (g : GroupNo) (skipped : Bool) (n : ℕ) (members : Membership) (request : ℕ) (cut : CountList) → I s →
       Comes Came s g skipped n members request cut → Between g (passing s g skipped n members request cut)
   pub ends : (s : State) (g : GroupNo) → Between g s → I (paying_view (releasing_ended s g) g)
-  pub homes : (s : State) (g : GroupNo) (what : HomeMove) → I s → MayMove Came s g what → I (set_home s g (moved what (s.home g)))
+  pub homes : (s : State) (g : GroupNo) (what : HomeMove) → I s → MayMove Came s g what → I (set_home s g (apply_move what (s.home g)))
 
 -- what is kept by the moves above is kept by these
 module _ (I : State → Type 0) (Came : SiteNo → SiteFrame → Type 0) (home_here : Bool) (k : Kept I Came home_here) where
@@ -269,7 +269,7 @@ module _ (I : State → Type 0) (Came : SiteNo → SiteFrame → Type 0) (home_h
     books = λ s moment casts i. k.telling.books s s.quotas moment s.acks s.told s.owed casts s.pushes i;
     pushes = λ s n p i agrees. k.telling.books s s.quotas s.moment s.acks s.told s.owed s.casts (s.pushes ++ (n, p) ∷ []) i;
     owes = λ s key due i owes wants lacks. k.telling.books s s.quotas s.moment s.acks s.told (with_owed s.owed key due) s.casts s.pushes i;
-    renews = λ s key due i owes owed. k.telling.books s s.quotas s.moment s.acks s.told (renewed s.owed key due) s.casts s.pushes i;
+    renews = λ s key due i owes owed. k.telling.books s s.quotas s.moment s.acks s.told (renew s.owed key due) s.casts s.pushes i;
     pays = λ s test i. k.telling.books s s.quotas s.moment s.acks s.told (paid test s.owed) s.casts s.pushes i;
     releases = k.telling.releases;
     sets_session = k.telling.sets_session;
@@ -282,7 +282,7 @@ module _ (I : State → Type 0) (Came : SiteNo → SiteFrame → Type 0) (home_h
     telling = full_telling;
     between = λ g. full_telling;
     during = λ u. full_telling;
-    truly = inr ((λ s to u i. k.telling.emits s to (frame.Ack u) i tt), λ s key due i owed. k.telling.books s s.quotas s.moment s.acks s.told (renewed s.owed key due) s.casts s.pushes i);
+    truly = inr ((λ s to u i. k.telling.emits s to (frame.Ack u) i tt), λ s key due i owed. k.telling.books s s.quotas s.moment s.acks s.told (renew s.owed key due) s.casts s.pushes i);
     fixed = k.fixed;
     opens = k.opens;
     answers = k.answers;

@@ -11,7 +11,7 @@ use Rattle.cast_rules.specs.Noted.{abcasts_by}
 use Rattle.cast_message.specs.Bodies.{kind_of}
 use Rattle.cast_message.specs.declared.message.Message.{Message}
 use Rattle.cast_order.specs.Order.{still_to_list}
-use Rattle.cast_types.specs.Names.{Entry, entry_eq, entry_of, group_eq, is_atomic, named, uid_eq}
+use Rattle.cast_types.specs.Names.{Entry, entry_eq, entry_of, group_eq, is_atomic, uid_in, uid_eq}
 use Rattle.cast_types.specs.Sets.{is_among}
 use Rattle.cast_types.specs.declared.names.GroupNo.{GroupNo}
 use Rattle.cast_types.specs.declared.names.Uid.{Uid}
@@ -29,13 +29,13 @@ use Rattle.cast_world.specs.Agreement.{is_in}
 pub parts_of_id : (g : GroupNo) (v : ℕ) (u : Uid) → is_in g v u ≡ true → (u.group ≡ g) × (u.view ≡ v)
 parts_of_id g v u e = let two = and_parts (group_eq u.group g) (u.view == v) e in (same_group u.group g two.0, eqb-true u.view v two.1)
 
-pub name_is : (g : GroupNo) (v : ℕ) (u : Uid) → is_in g v u ≡ true → named g v (entry_of u) ≡ u
+pub name_is : (g : GroupNo) (v : ℕ) (u : Uid) → is_in g v u ≡ true → uid_in g v (entry_of u) ≡ u
 name_is g v u e = let two = parts_of_id g v u e in λ i. record { group = sym two.0 i; view = sym two.1 i; proc = u.proc; count = u.count }
 
-pub done_named : (g : GroupNo) (v : ℕ) (us : List Uid) (e : Entry) → Contains (done_in g v us) e → Contains us (named g v e)
+pub done_named : (g : GroupNo) (v : ℕ) (us : List Uid) (e : Entry) → Contains (done_in g v us) e → Contains us (uid_in g v e)
 done_named g v us e at =
     let from = from_mapped entry_of (filter (is_in g v) us) e at in
-    let is : from.0 ≡ named g v e = sym (name_is g v from.0 (passed (is_in g v) us from.0 from.1)) ∙ ap (named g v) from.2 in
+    let is : from.0 ≡ uid_in g v e = sym (name_is g v from.0 (passed (is_in g v) us from.0 from.1)) ∙ ap (uid_in g v) from.2 in
     subst (Contains us) is (among_kept (is_in g v) us from.0 from.1)
 
 pub done_has : (g : GroupNo) (v : ℕ) (us : List Uid) (u : Uid) → Contains us u → is_in g v u ≡ true → Contains (done_in g v us) (entry_of u)
@@ -66,12 +66,12 @@ apart_done g v (u ∷ us) a = go (is_in g v u) refl (apart_done g v us a.1)
     go false e more = more
 
 -- in the names that laws speak of
-pub names_of : (g : GroupNo) (v : ℕ) (us : List Uid) → filter (is_in g v) us ≡ map (named g v) (done_in g v us)
+pub names_of : (g : GroupNo) (v : ℕ) (us : List Uid) → filter (is_in g v) us ≡ map (uid_in g v) (done_in g v us)
 names_of g v [] = refl
 names_of g v (u ∷ us) = go (is_in g v u) refl (names_of g v us)
   where
-    go : (b : Bool) → is_in g v u ≡ b → filter (is_in g v) us ≡ map (named g v) (done_in g v us) →
-        cond b (u ∷ filter (is_in g v) us) (filter (is_in g v) us) ≡ map (named g v) (map entry_of (cond b (u ∷ filter (is_in g v) us) (filter (is_in g v) us)))
+    go : (b : Bool) → is_in g v u ≡ b → filter (is_in g v) us ≡ map (uid_in g v) (done_in g v us) →
+        cond b (u ∷ filter (is_in g v) us) (filter (is_in g v) us) ≡ map (uid_in g v) (map entry_of (cond b (u ∷ filter (is_in g v) us) (filter (is_in g v) us)))
     go true e more = λ i. sym (name_is g v u e) i ∷ more i
     go false e more = more
 

@@ -11,7 +11,7 @@ use Rattle.cast_ready.specs.Ready.{Process, is_member}
 use Rattle.cast_rules.specs.Acts.{Act}
 use Rattle.cast_rules.specs.Acts.Act.{Delivered, Entered, Left, Sent}
 use Rattle.cast_rules.specs.Effects.{next_message}
-use Rattle.cast_rules.specs.Entering.{enters, in_view, is_put_out, parted, passing, putting_out}
+use Rattle.cast_rules.specs.Entering.{enters, in_view, is_put_out, put_outside, passing, putting_out}
 use Rattle.cast_rules.specs.History.{history}
 use Rattle.cast_rules.specs.Noted.{abcasts_by, delivered_by}
 use Rattle.cast_rules.specs.Rules.Asking.{is_home}
@@ -79,9 +79,9 @@ module _ (s : State) where
   outside_listed : (t : State) → IsListed t → (k : ℕ) (g : GroupNo) → IsListed (outside t k g)
   outside_listed t l k g = (l.0, l.1, go (is_member ((t.process k).standing g)))
     where
-      go : (b : Bool) (j : ℕ) → Fit (set_at (λ a c. a == c) t.process k (parted g (t.process k)) j) ((if b then (noting_act t k (Left g)).acts else t.acts) j)
-      go true = with_one t l k (parted g (t.process k)) (t.acts k ++ Left g ∷ []) (l.2 k ∙ none_more (t.acts k) (Left g) refl)
-      go false = standing_one t l k (parted g (t.process k)) refl
+      go : (b : Bool) (j : ℕ) → Fit (set_at (λ a c. a == c) t.process k (put_outside g (t.process k)) j) ((if b then (noting_act t k (Left g)).acts else t.acts) j)
+      go true = with_one t l k (put_outside g (t.process k)) (t.acts k ++ Left g ∷ []) (l.2 k ∙ none_more (t.acts k) (Left g) refl)
+      go false = standing_one t l k (put_outside g (t.process k)) refl
 
   passing_listed : (t : State) → IsListed t → (g : GroupNo) (skipped : Bool) (n : ℕ) (members : Membership) (request : ℕ) (cut : CountList) → IsListed (passing t g skipped n members request cut)
   passing_listed t l g skipped n members request cut = (l.0, l.1, λ k. two k (enters left g members request k))
@@ -89,7 +89,7 @@ module _ (s : State) where
       left : State
       left = putting_out t g skipped members
 
-      one : (k : ℕ) (b : Bool) → Fit (if b then parted g (t.process k) else t.process k) (if b then t.acts k ++ Left g ∷ [] else t.acts k)
+      one : (k : ℕ) (b : Bool) → Fit (if b then put_outside g (t.process k) else t.process k) (if b then t.acts k ++ Left g ∷ [] else t.acts k)
       one k true = l.2 k ∙ none_more (t.acts k) (Left g) refl
       one k false = l.2 k
 

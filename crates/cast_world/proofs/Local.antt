@@ -3,13 +3,13 @@ use Rattle.std.proofs.Common.{ap, arith, inl, inr, subst, sym, ◌∙◌}
 use Rattle.std.proofs.lemmas.Bool.{cases_Bool, eq-eqb, eqb-true, false_from_ne_true, false≢true, true≢false}
 use Rattle.std.proofs.lemmas.List.Elements.{Contains-push, Contains-push_cases}
 use Rattle.std.specs.Prelude.{◌+◌, ◌++◌, ◌<◌, Bool, Contains, IsTrue, List, [], false, if◌then◌else◌, refl, true, ℕ, ◌∷◌, ◌≡◌, ◌≤◌, ◌⊎◌, ◌≡◌}
-use Rattle.cast_clock.specs.Times.{bumped, count_in, entering, join, view_of}
+use Rattle.cast_clock.specs.Times.{with_bump, count_in, entering, join, view_of}
 use Rattle.cast_ready.specs.Ready.{Process, is_outside}
 use Rattle.cast_rules.specs.Acts.{Act}
 use Rattle.cast_rules.specs.Acts.Act.{Delivered, Entered, Left, Sent}
 use Rattle.cast_message.specs.declared.message.Message.{Message}
 use Rattle.cast_types.specs.Counts.{CountList, is_within}
-use Rattle.cast_types.specs.Names.{Entry, group_eq, named}
+use Rattle.cast_types.specs.Names.{Entry, group_eq, uid_in}
 use Rattle.cast_types.specs.Sets.{set_at}
 use Rattle.cast_types.specs.declared.names.GroupNo.{GroupNo}
 use Rattle.cast_types.specs.declared.names.Proc.{Proc}
@@ -84,7 +84,7 @@ module _ (me : Proc) (p : Process) (acts : List Act) (fits : Fits me p acts) whe
 
   -- sending
   module _ (g : GroupNo) (m : Message) (member : p.standing g ≡ Member) (own : m.id.proc ≡ me) (group : m.id.group ≡ g)
-      (times : m.times ≡ bumped p.time g me) (view : m.id.view ≡ view_of p.time g) (count : m.id.count ≡ count_in p.time g me + 1) (ordered : IsSorted m.times) where
+      (times : m.times ≡ with_bump p.time g me) (view : m.id.view ≡ view_of p.time g) (count : m.id.count ≡ count_in p.time g me + 1) (ordered : IsSorted m.times) where
     below : Below p.time m.times
     below = subst (λ t. Below p.time t) (sym times) (below_bumped p.time g me)
 
@@ -112,7 +112,7 @@ module _ (me : Proc) (p : Process) (acts : List Act) (fits : Fits me p acts) whe
 
   -- entering
   module _ (g : GroupNo) (n : ℕ) (cut : CountList) (above : view_of p.time g < n) (next : (v : ℕ) → IsIn acts g v → n ≡ v + 1)
-      (cuts : (v : ℕ) (e : Entry) → IsIn acts g v → 1 ≤ e.1 → IsTrue (is_within cut e) → Contains p.delivered (named g v e)) where
+      (cuts : (v : ℕ) (e : Entry) → IsIn acts g v → 1 ≤ e.1 → IsTrue (is_within cut e) → Contains p.delivered (uid_in g v e)) where
     standing_here : (h : GroupNo) → g ≡ h → set_at group_eq p.standing g Member h ≡ Member
     standing_here h e = ap (λ b. if b then Member else p.standing h) (eq-eqb g.0 h.0 (ap (λ (k : GroupNo). k.0) e))
 
@@ -124,7 +124,7 @@ module _ (me : Proc) (p : Process) (acts : List Act) (fits : Fits me p acts) whe
       each = each_more (ActWell me) acts (Entered g n cut) fits.each record {
         above = λ m did. let up = below_view m.times p.time (fits.covered m did) g in omega (arith, up, above);
         next = next;
-        cuts = λ v e awaited at counted within. fits.listed (named g v e) (cuts v e at counted within);
+        cuts = λ v e awaited at counted within. fits.listed (uid_in g v e) (cuts v e at counted within);
       };
       covered = λ m did u c. below_entering p.time g n above u (fits.covered m (done_entered acts g n cut m did) u c);
       listed = λ u at. has_more acts (Entered g n cut) u (fits.listed u at);

@@ -8,8 +8,8 @@ use Rattle.cast_ready.specs.Ready.{Process, is_member, is_outside}
 use Rattle.cast_rules.specs.Acts.{Act}
 use Rattle.cast_rules.specs.Acts.Act.{Delivered, Entered, Left, Sent}
 use Rattle.cast_rules.specs.Effects.{next_message}
-use Rattle.cast_rules.specs.Entering.{all_parted, completing, enters, in_view, is_put_out, parted, passing, putting_out}
-use Rattle.cast_rules.specs.State.{State, emitted, gate_of, local, noting_act, noting_sent, outside, receiving, releasing, set_group, set_home, set_session, set_standing, with_delivery}
+use Rattle.cast_rules.specs.Entering.{all_parted, completing, enters, in_view, is_put_out, put_outside, passing, putting_out}
+use Rattle.cast_rules.specs.State.{State, emit, gate_of, local, noting_act, noting_sent, outside, receiving, releasing, set_group, set_home, set_session, set_standing, with_delivery}
 use Rattle.cast_rules.specs.Step.{opening_next}
 use Rattle.cast_rules.specs.Turns.{is_ready_for, turn_of}
 use Rattle.cast_message.specs.Membership.{Membership}
@@ -74,12 +74,12 @@ pub later_part : (s : State) (k : ℕ) (g : GroupNo) → Later s (outside s k g)
 later_part s k g = go (is_member ((s.process k).standing g))
   where
     out : Process
-    out = parted g (s.process k)
+    out = put_outside g (s.process k)
 
-    go : (b : Bool) → Grows s.process (set_at (λ a c. a == c) s.process k (parted g (s.process k))) s.acts (if b then (noting_act s k (Left g)).acts else s.acts) s.group s.group s.home s.home
-    go true = later_process s k (parted g (s.process k)) (λ h number heard e. inl (joining_in_part ((s.process k).standing h) (group_eq g h) number heard e)) (s.acts k ++ Left g ∷ [])
+    go : (b : Bool) → Grows s.process (set_at (λ a c. a == c) s.process k (put_outside g (s.process k))) s.acts (if b then (noting_act s k (Left g)).acts else s.acts) s.group s.group s.home s.home
+    go true = later_process s k (put_outside g (s.process k)) (λ h number heard e. inl (joining_in_part ((s.process k).standing h) (group_eq g h) number heard e)) (s.acts k ++ Left g ∷ [])
         (λ y c. Contains-append_left (s.acts k) (Left g ∷ []) y c)
-    go false = later_standing s k (parted g (s.process k)) (λ h number heard e. inl (joining_in_part ((s.process k).standing h) (group_eq g h) number heard e))
+    go false = later_standing s k (put_outside g (s.process k)) (λ h number heard e. inl (joining_in_part ((s.process k).standing h) (group_eq g h) number heard e))
 
 number_or : Standing → ℕ
 number_or Outside = 0
@@ -121,7 +121,7 @@ joining_in_view s false number heard e = e
 pub joining_after : (s : State) (g : GroupNo) (goes : ℕ → Bool) (k : ℕ) (h : GroupNo) (number heard : ℕ) → ((all_parted s g goes).process k).standing h ≡ Joining number heard → (s.process k).standing h ≡ Joining number heard
 joining_after s g goes k h number heard e = go (goes k) e
   where
-    go : (b : Bool) → (if b then parted g (s.process k) else s.process k).standing h ≡ Joining number heard → (s.process k).standing h ≡ Joining number heard
+    go : (b : Bool) → (if b then put_outside g (s.process k) else s.process k).standing h ≡ Joining number heard → (s.process k).standing h ≡ Joining number heard
     go true is = joining_in_part ((s.process k).standing h) (group_eq g h) number heard is
     go false is = is
 
@@ -212,7 +212,7 @@ module _ (at : Sites) (home s : SiteNo) (t : State) (x : SiteHolds at home s t) 
   says_sound to (frame.Installed g view) says = tt
   says_sound to (frame.Out g view) says = subst (λ v. IsDecided at home g v) (sym says) (x.groups g).number
 
-  pub emits_site : (to : SiteNo) (f : SiteFrame) → Says t to f → SiteHolds at home s (emitted t to f)
+  pub emits_site : (to : SiteNo) (f : SiteFrame) → Says t to f → SiteHolds at home s (emit t to f)
   emits_site to f says = record {
     here_is = x.here_is;
     home_is = x.home_is;
@@ -267,14 +267,14 @@ module _ (at : Sites) (home s : SiteNo) (t : State) (x : SiteHolds at home s t) 
   pub part_site : (k : ℕ) (g : GroupNo) → SiteHolds at home s (outside t k g)
   part_site k g = go (is_member ((t.process k).standing g)) refl
     where
-      go : (b : Bool) → is_member ((t.process k).standing g) ≡ b → WithOnes (set_at (λ a c. a == c) t.process k (parted g (t.process k))) (if b then (noting_act t k (Left g)).acts else t.acts)
-      go true e = with_ones _ _ (changed k (parted g (t.process k)) (t.acts k ++ Left g ∷ []) (parted_one at home t.here t.used t.config.groups t.group k (t.process k) (t.acts k) (one k) g))
-      go false e = with_ones _ _ (stood k (parted g (t.process k)) (apart_one at home t.here t.used t.config.groups t.group k (t.process k) (t.acts k) (one k) g (not_member_is _ e)))
+      go : (b : Bool) → is_member ((t.process k).standing g) ≡ b → WithOnes (set_at (λ a c. a == c) t.process k (put_outside g (t.process k))) (if b then (noting_act t k (Left g)).acts else t.acts)
+      go true e = with_ones _ _ (changed k (put_outside g (t.process k)) (t.acts k ++ Left g ∷ []) (parted_one at home t.here t.used t.config.groups t.group k (t.process k) (t.acts k) (one k) g))
+      go false e = with_ones _ _ (stood k (put_outside g (t.process k)) (apart_one at home t.here t.used t.config.groups t.group k (t.process k) (t.acts k) (one k) g (not_member_is _ e)))
 
   pub all_part_site : (g : GroupNo) (goes : ℕ → Bool) → SiteHolds at home s (all_parted t g goes)
   all_part_site g goes = with_ones _ _ (λ k. go k (goes k))
     where
-      go : (k : ℕ) (b : Bool) → One k (if b then parted g (t.process k) else t.process k) (if b then t.acts k ++ Left g ∷ [] else t.acts k)
+      go : (k : ℕ) (b : Bool) → One k (if b then put_outside g (t.process k) else t.process k) (if b then t.acts k ++ Left g ∷ [] else t.acts k)
       go k true = parted_one at home t.here t.used t.config.groups t.group k (t.process k) (t.acts k) (one k) g
       go k false = one k
 

@@ -2,14 +2,14 @@
 use Rattle.std.proofs.Common.{ap, arith, inl, inr, subst, sym, ◌∙◌}
 use Rattle.std.proofs.lemmas.Bool.{eq-eqb, eqb-true, false_from_ne_true, true≢false}
 use Rattle.std.specs.Prelude.{◌+◌, ◌++◌, ◌<◌, Bool, Contains, IsTrue, List, [], false, if◌then◌else◌, refl, true, ℕ, ◌∷◌, ◌≡◌, ◌≤◌, ◌≡◌}
-use Rattle.cast_clock.specs.Times.{bumped, count_in, entering, join, view_of}
+use Rattle.cast_clock.specs.Times.{with_bump, count_in, entering, join, view_of}
 use Rattle.cast_ready.specs.Ready.{Process, is_outside}
 use Rattle.cast_rules.specs.Acts.{Act}
 use Rattle.cast_rules.specs.Acts.Act.{Delivered, Entered, Left, Sent}
-use Rattle.cast_rules.specs.Entering.{in_view, parted}
+use Rattle.cast_rules.specs.Entering.{in_view, put_outside}
 use Rattle.cast_message.specs.declared.message.Message.{Message}
 use Rattle.cast_types.specs.Counts.{CountList, is_within}
-use Rattle.cast_types.specs.Names.{Entry, group_eq, named}
+use Rattle.cast_types.specs.Names.{Entry, group_eq, uid_in}
 use Rattle.cast_types.specs.Sets.{set_at}
 use Rattle.cast_types.specs.declared.names.GroupNo.{GroupNo}
 use Rattle.cast_types.specs.declared.names.Proc.{Proc}
@@ -109,7 +109,7 @@ module _ (at : Sites) (home here : SiteNo) (used : ℕ) (groups : List GroupNo) 
     out_joining h true number heard e = absurd (outside_not_joining number heard e)
     out_joining h false number heard e = e
 
-    pub parted_one : OneHolds at home here used groups group k (parted g p) (acts ++ Left g ∷ [])
+    pub parted_one : OneHolds at home here used groups group k (put_outside g p) (acts ++ Left g ∷ [])
     parted_one = record {
       fits = leaving_fits me p acts o.fits g;
       given = λ h e. o.given h (out_given h (group_eq g h) e);
@@ -120,7 +120,7 @@ module _ (at : Sites) (home here : SiteNo) (used : ℕ) (groups : List GroupNo) 
       done = λ m did. o.done m (before_left acts g m did);
     }
 
-    pub apart_one : (p.standing g ≡ Member → ⊥) → OneHolds at home here used groups group k (parted g p) acts
+    pub apart_one : (p.standing g ≡ Member → ⊥) → OneHolds at home here used groups group k (put_outside g p) acts
     apart_one never = record {
       fits = not_member_fits me p acts o.fits g never;
       given = λ h e. o.given h (out_given h (group_eq g h) e);
@@ -164,7 +164,7 @@ module _ (at : Sites) (home here : SiteNo) (used : ℕ) (groups : List GroupNo) 
 
   -- sending
   module _ (g : GroupNo) (m : Message) (member : p.standing g ≡ Member) (own : m.id.proc ≡ me) (of_group : m.id.group ≡ g)
-      (times : m.times ≡ bumped p.time g me) (view : m.id.view ≡ (group g).number) (count : m.id.count ≡ count_in p.time g me + 1) where
+      (times : m.times ≡ with_bump p.time g me) (view : m.id.view ≡ (group g).number) (count : m.id.count ≡ count_in p.time g me + 1) where
     view_same : (h : GroupNo) → view_of m.times h ≡ view_of p.time h
     view_same h = ap (λ t. view_of t h) times ∙ bumped_view p.time g me h
 
@@ -204,7 +204,7 @@ module _ (at : Sites) (home here : SiteNo) (used : ℕ) (groups : List GroupNo) 
 
   -- entering a view
   module _ (g : GroupNo) (n : ℕ) (cut : CountList) (above : view_of p.time g < n) (next_one : (v : ℕ) → IsIn acts g v → n ≡ v + 1)
-      (cuts : (v : ℕ) (e : Entry) → IsIn acts g v → 1 ≤ e.1 → IsTrue (is_within cut e) → Contains p.delivered (named g v e))
+      (cuts : (v : ℕ) (e : Entry) → IsIn acts g v → 1 ≤ e.1 → IsTrue (is_within cut e) → Contains p.delivered (uid_in g v e))
       (in_place : is_outside (p.standing g) ≡ false) (next : GroupNo → MemberSide) (same : (h : GroupNo) → (g ≡ h → ⊥) → next h ≡ group h)
       (number : (next g).number ≡ n) (current : has_view (next g) ≡ true) (decided : IsDecided at home g n) where
     pub enters_one : OneHolds at home here used groups next k (in_view g n p) (acts ++ Entered g n cut ∷ [])

@@ -3,7 +3,7 @@ use Rattle.std.proofs.Common.{arith, inl, inr, subst, sym, ◌∙◌}
 use Rattle.std.specs.Prelude.{◌<◌, Bool, List, false, if◌then◌else◌, refl, true, ℕ, ◌≡◌, ◌≤◌, ◌⊎◌}
 use Rattle.cast_clock.specs.Times.{entering, join, view_of}
 use Rattle.cast_ready.specs.Ready.{Process}
-use Rattle.cast_rules.specs.Entering.{all_parted, completing, enters, in_view, parted}
+use Rattle.cast_rules.specs.Entering.{all_parted, completing, enters, in_view, put_outside}
 use Rattle.cast_rules.specs.State.{State, outside, set_process}
 use Rattle.cast_message.specs.Membership.{Membership}
 use Rattle.cast_message.specs.declared.message.Message.{Message}
@@ -42,7 +42,7 @@ pub stands : (s : Standing) (b : Bool) → (if b then Outside else s) ≡ Member
 stands s true e = absurd (outside_not_member e)
 stands s false e = e
 
-pub onward_parted : (p : Process) (g : GroupNo) → Onward p (parted g p)
+pub onward_parted : (p : Process) (g : GroupNo) → Onward p (put_outside g p)
 onward_parted p g h = (omega arith, λ e. inl (stands (p.standing h) (group_eq g h) e))
 
 pub asks : (s : Standing) (b : Bool) (number heard : ℕ) → (if b then Joining number heard else s) ≡ Member → s ≡ Member
@@ -81,12 +81,12 @@ pub all_set : (s : State) (k : ℕ) (p : Process) → Onward (s.process k) p →
 all_set s k p one = set_all (λ j q. Onward (s.process j) q) s.process k p (λ j. onward_same (s.process j)) one
 
 pub all_part : (s : State) (k : ℕ) (g : GroupNo) → AllOnward s (outside s k g)
-all_part s k g = all_set s k (parted g (s.process k)) (onward_parted (s.process k) g)
+all_part s k g = all_set s k (put_outside g (s.process k)) (onward_parted (s.process k) g)
 
 pub all_parted_onward : (s : State) (g : GroupNo) (goes : ℕ → Bool) → AllOnward s (all_parted s g goes)
 all_parted_onward s g goes k = go (goes k)
   where
-    go : (b : Bool) → Onward (s.process k) (if b then parted g (s.process k) else s.process k)
+    go : (b : Bool) → Onward (s.process k) (if b then put_outside g (s.process k) else s.process k)
     go true = onward_parted (s.process k) g
     go false = onward_same (s.process k)
 

@@ -11,7 +11,7 @@ use Rattle.cast_rules.specs.Acts.{Act}
 use Rattle.cast_rules.specs.Acts.Act.{Delivered, Sent}
 use Rattle.cast_rules.specs.Effects.{next_message}
 use Rattle.cast_rules.specs.Noted.{abcasts_by}
-use Rattle.cast_rules.specs.Order.{holds, last_place, told_by, unlisted}
+use Rattle.cast_rules.specs.Order.{holds, last_place, told_by, unlisted_ids}
 use Rattle.cast_rules.specs.Resting.{places_of}
 use Rattle.cast_rules.specs.Rules.Commands.{body_handing}
 use Rattle.cast_rules.specs.State.{State, local, noting_sent, receiving}
@@ -19,7 +19,7 @@ use Rattle.cast_message.specs.Bodies.{kind_of, new_holder}
 use Rattle.cast_message.specs.declared.message.Body.{Body}
 use Rattle.cast_message.specs.declared.message.Message.{Message}
 use Rattle.cast_order.specs.Order.{ids_to_list}
-use Rattle.cast_types.specs.Names.{Entry, group_eq, is_atomic, named, site_eq}
+use Rattle.cast_types.specs.Names.{Entry, group_eq, is_atomic, uid_in, site_eq}
 use Rattle.cast_types.specs.declared.limits.TheConstants.{MAX_PLACED}
 use Rattle.cast_types.specs.declared.names.GroupNo.{GroupNo}
 use Rattle.cast_types.specs.declared.names.Proc.{Proc}
@@ -77,10 +77,10 @@ module _ (home : SiteNo) (w : Network) (a : SiteNo) where
       v = (t.group g).number
 
       abbrev ids : List Entry
-      ids = ids_to_list (unlisted t g k)
+      ids = ids_to_list (unlisted_ids t g k)
 
       abbrev beyond : List Entry
-      beyond = drop MAX_PLACED (unlisted t g k)
+      beyond = drop MAX_PLACED (unlisted_ids t g k)
 
       -- the order of this view grows by them, and no other
       abbrev pub longer : Orders
@@ -123,7 +123,7 @@ module _ (home : SiteNo) (w : Network) (a : SiteNo) where
       pub all_done : (order g v ++ ids) ++ beyond ≡ done_in g v (t.abcasts k)
       all_done =
           append_assoc (order g v) ids beyond
-          ∙ ap (λ l. order g v ++ l) (take-append-drop MAX_PLACED (unlisted t g k) ∙ still_lists (order g v) t g waits (stand g v) k first leads (own.once k)) ∙ leads.all.1
+          ∙ ap (λ l. order g v ++ l) (take-append-drop MAX_PLACED (unlisted_ids t g k) ∙ still_lists (order g v) t g waits (stand g v) k first leads (own.once k)) ∙ leads.all.1
 
       in_it : is_in g v m.id ≡ true
       in_it = λ i. group_itself g i && eq-eqb v v refl i
@@ -281,7 +281,7 @@ module _ (home : SiteNo) (w : Network) (a : SiteNo) where
           apart = apart_first (order g v ++ ids) beyond (subst Apart (sym all_done) (apart_done g v (t.abcasts k) (own.once k)));
           atomic = λ e c.
               let known = done_named g v (t.abcasts k) e (subst (λ l. Contains l e) all_done (Contains-append_left (order g v ++ ids) beyond e c)) in
-              let had = noted k (named g v e) known in
+              let had = noted k (uid_in g v e) known in
               (had.0, sent_later home choice more (at t) (at u) ext (ahead_at home w a t u later) had.0 had.1, had.2, had.3);
           begun = inr (begun (own.tokens g k held));
           last = λ z last.

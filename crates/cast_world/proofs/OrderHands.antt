@@ -11,14 +11,14 @@ use Rattle.cast_rules.specs.Acts.{Act}
 use Rattle.cast_rules.specs.Acts.Act.{Delivered, Sent}
 use Rattle.cast_rules.specs.Effects.{next_message}
 use Rattle.cast_rules.specs.Noted.{abcasts_by}
-use Rattle.cast_rules.specs.Order.{has_place, holds, last_place, order_by, place_to_pass, settled_to, told_by, unsettled}
+use Rattle.cast_rules.specs.Order.{has_place, holds, last_place, order_by, place_to_pass, settled_to, told_by, unsettled_ids}
 use Rattle.cast_rules.specs.Rules.Commands.{body_handing}
 use Rattle.cast_rules.specs.State.{State, local, noting_sent, receiving}
 use Rattle.cast_message.specs.Bodies.{kind_of, new_holder}
 use Rattle.cast_message.specs.declared.message.Body.{Body}
 use Rattle.cast_message.specs.declared.message.Message.{Message}
 use Rattle.cast_order.specs.Order.{place_after}
-use Rattle.cast_types.specs.Names.{Entry, group_eq, is_atomic, named, site_eq}
+use Rattle.cast_types.specs.Names.{Entry, group_eq, is_atomic, uid_in, site_eq}
 use Rattle.cast_types.specs.declared.names.GroupNo.{GroupNo}
 use Rattle.cast_types.specs.declared.names.Proc.{Proc}
 use Rattle.cast_types.specs.declared.names.SiteNo.{SiteNo}
@@ -89,8 +89,8 @@ module _ (home : SiteNo) (w : Network) (a : SiteNo) where
       pub settled_told : settled_to t g k ≤ length (order g (t.group g).number)
       settled_told = settled_low t g k (length (order g (t.group g).number)) leads.low placed_low
 
-      pub unsettled_rest : length (done_in g (t.group g).number (t.abcasts k)) ≤ settled_to t g k + length (unsettled t g k)
-      unsettled_rest = settled_near t g k (done_in g (t.group g).number (t.abcasts k)) (order_by_is (order g (t.group g).number) t g waits (stand g (t.group g).number) k first leads (own.once k)) (λ e c. (noted k (named g (t.group g).number e) (done_named g (t.group g).number (t.abcasts k) e c)).5)
+      pub unsettled_rest : length (done_in g (t.group g).number (t.abcasts k)) ≤ settled_to t g k + length (unsettled_ids t g k)
+      unsettled_rest = settled_near t g k (done_in g (t.group g).number (t.abcasts k)) (order_by_is (order g (t.group g).number) t g waits (stand g (t.group g).number) k first leads (own.once k)) (λ e c. (noted k (uid_in g (t.group g).number e) (done_named g (t.group g).number (t.abcasts k) e c)).5)
 
     module _ (g : GroupNo) (k : ℕ) (content : Body) (place : ℕ) (to : Proc) (member : is_member ((t.process k).standing g) ≡ true) (held : holds t g k ≡ true) (open_it : (t.group g).frozen ≡ false)
         (settled : place_to_pass t g k ≡ Some place) (is : content ≡ body_handing place to) where
@@ -113,11 +113,11 @@ module _ (home : SiteNo) (w : Network) (a : SiteNo) where
       abbrev lead : Leads (order g v) (first g k held waits_here) g v (local t k) (t.abcasts k) t.got
       lead = leads g k held waits_here
 
-      settled_all : (place ≡ length (order_by t g k) + 1) × (unsettled t g k ≡ [])
-      settled_all = go (is_empty (unsettled t g k) && has_place (order_by t g k)) refl settled
+      settled_all : (place ≡ length (order_by t g k) + 1) × (unsettled_ids t g k ≡ [])
+      settled_all = go (is_empty (unsettled_ids t g k) && has_place (order_by t g k)) refl settled
         where
-          go : (b : Bool) → (is_empty (unsettled t g k) && has_place (order_by t g k)) ≡ b → (if b then Some (place_after (order_by t g k)) else None) ≡ Some place → (place ≡ length (order_by t g k) + 1) × (unsettled t g k ≡ [])
-          go true e some = (sym (ap (λ o. unwrap_or o place) some), empty_is (unsettled t g k) (and_parts (is_empty (unsettled t g k)) (has_place (order_by t g k)) e).0)
+          go : (b : Bool) → (is_empty (unsettled_ids t g k) && has_place (order_by t g k)) ≡ b → (if b then Some (place_after (order_by t g k)) else None) ≡ Some place → (place ≡ length (order_by t g k) + 1) × (unsettled_ids t g k ≡ [])
+          go true e some = (sym (ap (λ o. unwrap_or o place) some), empty_is (unsettled_ids t g k) (and_parts (is_empty (unsettled_ids t g k)) (has_place (order_by t g k)) e).0)
           go false e some = absurd (false≢true (ap is_some some))
 
       -- so it has delivered the order and no more
@@ -286,12 +286,12 @@ module _ (home : SiteNo) (w : Network) (a : SiteNo) where
         ]
 
         -- the message comes after all of the order, since its process had delivered that
-        covers : (e : Entry) → Contains (order g v) e → Covers m.times (named g v e)
+        covers : (e : Entry) → Contains (order g v) e → Covers m.times (uid_in g v e)
         covers e c =
-            let had = noted k (named g v e) (done_named g v (t.abcasts k) e (subst (λ l. Contains l e) (sym done_is) c)) in
+            let had = noted k (uid_in g v e) (done_named g v (t.abcasts k) e (subst (λ l. Contains l e) (sym done_is) c)) in
             let sent = contains_split ((at t had.0.id.proc.site).acts had.0.id.proc.serial) (Sent had.0) had.1 in
             let itself = (each_at (at t) home now.0 had.0.id.proc sent.0 sent.1 (Sent had.0) sent.2).itself in
-            (((own_holds home w a u now_u).ones k).fits.each (t.acts k) [] (Sent m) acts_here).rises had.0 (inr had.4) (named g v e) tt (subst (Covers had.0.times) had.2 itself)
+            (((own_holds home w a u now_u).ones k).fits.each (t.acts k) [] (Sent m) acts_here).rises had.0 (inr had.4) (uid_in g v e) tt (subst (Covers had.0.times) had.2 itself)
 
         handed_order : OrderHolds more (number u) (at u) g v (order g v) (Some m)
         handed_order =

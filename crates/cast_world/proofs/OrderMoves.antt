@@ -14,7 +14,7 @@ use Rattle.cast_rules.specs.State.{State, gate_of, local, with_delivery}
 use Rattle.cast_rules.specs.Turns.{is_ready_for, turn_of}
 use Rattle.cast_message.specs.Bodies.{kind_of, new_holder}
 use Rattle.cast_message.specs.declared.message.Message.{Message}
-use Rattle.cast_types.specs.Names.{Entry, entry_of, is_atomic, named, uid_eq}
+use Rattle.cast_types.specs.Names.{Entry, entry_of, is_atomic, uid_in, uid_eq}
 use Rattle.cast_types.specs.Sets.{is_among}
 use Rattle.cast_types.specs.declared.names.GroupNo.{GroupNo}
 use Rattle.cast_types.specs.declared.names.Proc.{Proc}
@@ -77,17 +77,17 @@ module _ (home : SiteNo) (w : Network) (a : SiteNo) where
         )
 
     -- and an ABCAST that a process has delivered is one that it noted
-    pub noted_abcast : (k : ℕ) (g : GroupNo) (v : ℕ) (e : Entry) → ((m : Message) × WasSent (at t) m × (m.id ≡ named g v e) × (is_atomic (kind_of m.body) ≡ true)) → has_delivered (t.process k) (named g v e) ≡ true →
+    pub noted_abcast : (k : ℕ) (g : GroupNo) (v : ℕ) (e : Entry) → ((m : Message) × WasSent (at t) m × (m.id ≡ uid_in g v e) × (is_atomic (kind_of m.body) ≡ true)) → has_delivered (t.process k) (uid_in g v e) ≡ true →
         Contains (done_in g v (t.abcasts k)) e
     noted_abcast k g v e one had =
-        let two = ((own_holds home w a t now).ones k).fits.listed (named g v e) (found_among (named g v e) (t.process k).delivered had) in
+        let two = ((own_holds home w a t now).ones k).fits.listed (uid_in g v e) (found_among (uid_in g v e) (t.process k).delivered had) in
         let same : two.0 ≡ one.0 = one_message (at t) home now.0 two.0 one.0 (((own_holds home w a t now).ones k).done two.0 two.2) one.1 (two.1 ∙ sym one.2) in
         let atomic : is_atomic (kind_of two.0.body) ≡ true = ap (λ (m : Message). is_atomic (kind_of m.body)) same ∙ one.3 in
-        let noted : Contains (t.abcasts k) (named g v e) = subst (λ us. Contains us (named g v e)) (sym (own_ordered.listed k)) (subst (λ u. Contains (abcasts_by (t.acts k)) u) two.1 (abcast_among (t.acts k) two.0 two.2 atomic)) in
-        done_has g v (t.abcasts k) (named g v e) noted (λ i. group_itself g i && eq-eqb v v refl i)
+        let noted : Contains (t.abcasts k) (uid_in g v e) = subst (λ us. Contains us (uid_in g v e)) (sym (own_ordered.listed k)) (subst (λ u. Contains (abcasts_by (t.acts k)) u) two.1 (abcast_among (t.acts k) two.0 two.2 atomic)) in
+        done_has g v (t.abcasts k) (uid_in g v e) noted (λ i. group_itself g i && eq-eqb v v refl i)
 
     -- as is an id of an order
-    pub noted_had : (k : ℕ) (g : GroupNo) (v : ℕ) (e : Entry) → Contains (order g v) e → has_delivered (t.process k) (named g v e) ≡ true → Contains (done_in g v (t.abcasts k)) e
+    pub noted_had : (k : ℕ) (g : GroupNo) (v : ℕ) (e : Entry) → Contains (order g v) e → has_delivered (t.process k) (uid_in g v e) ≡ true → Contains (done_in g v (t.abcasts k)) e
     noted_had k g v e c had = noted_abcast k g v e ((x.orders g v).atomic e c) had
 
     -- A delivery
@@ -129,14 +129,14 @@ module _ (home : SiteNo) (w : Network) (a : SiteNo) where
             let was = old.follows member other in
             let next = is_next t k m tt ready atomic other in
             let known = knows_begin (order g v) t g waits (stand_in g v) in
-            let listed : (e : Entry) → Contains done e → has_delivered (t.process k) (named g v e) ≡ true = λ e c. (abcast_had k (named g v e) (done_named g v (t.abcasts k) e c)).5 in
+            let listed : (e : Entry) → Contains done e → has_delivered (t.process k) (uid_in g v e) ≡ true = λ e c. (abcast_had k (uid_in g v e) (done_named g v (t.abcasts k) e c)).5 in
             record {
               begins = subst (λ l. IsPrefix l (order g v)) (sym more)
-                  (next_begins (λ e. has_delivered (t.process k) (named g v e)) done (order_of t g) (order g v) (entry_of m.id) (x.orders g v).apart was.begins known listed (λ e c. noted_had k g v e c) next);
+                  (next_begins (λ e. has_delivered (t.process k) (uid_in g v e)) done (order_of t g) (order g v) (entry_of m.id) (x.orders g v).apart was.begins known listed (λ e c. noted_had k g v e c) next);
               known = λ b c e is lt. elim (cases_lt (length b) (length done)) [
                 | inl low ↦ was.known b c e is low
                 | inr high ↦
-                    let beyond = knows_beyond (λ e. has_delivered (t.process k) (named g v e)) done (order_of t g) (order g v) (entry_of m.id) was.begins known listed next in
+                    let beyond = knows_beyond (λ e. has_delivered (t.process k) (uid_in g v e)) done (order_of t g) (order g v) (entry_of m.id) was.begins known listed next in
                     let longer = ap length more in
                     let one = length_push done (entry_of m.id) in
                     told_place (order g v) t g waits (stand_in g v) b c e is (omega (arith, lt, longer, one, high, beyond))
@@ -192,7 +192,7 @@ module _ (home : SiteNo) (w : Network) (a : SiteNo) where
         body_is : m.body ≡ body_handing last.place (local t k)
         body_is = last.is ∙ ap (body_handing last.place) to_is
 
-        under_way : (last.place ≡ length (order g m.id.view) + 1) × ((e : Entry) → Contains (order g m.id.view) e → Covers m.times (named g m.id.view e))
+        under_way : (last.place ≡ length (order g m.id.view) + 1) × ((e : Entry) → Contains (order g m.id.view) e → Covers m.times (uid_in g m.id.view e))
         under_way = elim last.taken [ inl did ↦ absurd (did_here last.to to_is did) | inr way ↦ way ]
 
         pub in_it : is_in g v m.id ≡ true
@@ -229,7 +229,7 @@ module _ (home : SiteNo) (w : Network) (a : SiteNo) where
             ready_allowed t.config.groups (gate_of t) (turn_of t k) (t.process k) m (λ h inside. (one.given h inside).2) (λ h is. (one.member h is).0) ready
 
         -- it has delivered each ABCAST of the order
-        all_had : (e : Entry) → Contains (order g m.id.view) e → has_delivered (t.process k) (named g m.id.view e) ≡ true
+        all_had : (e : Entry) → Contains (order g m.id.view) e → has_delivered (t.process k) (uid_in g m.id.view e) ≡ true
         all_had e c =
             let z = (x.orders g m.id.view).atomic e c in
             let sent = contains_split ((at t z.0.id.proc.site).acts z.0.id.proc.serial) (Sent z.0) z.1 in
@@ -238,13 +238,13 @@ module _ (home : SiteNo) (w : Network) (a : SiteNo) where
             let current = ((own_holds home w a t now).ones k).member g is_member_here in
             let number = current.0 in
             let high = allowed.view g is_member_here in
-            let other : named g m.id.view e ≡ m.id → ⊥ = λ same. true≢false (sym z.3 ∙ ap (λ (y : Message). is_atomic (kind_of y.body)) (one_message (at t) home now.0 z.0 m z.1 known.sent (z.2 ∙ same)) ∙ ap (λ b. is_atomic (kind_of b)) body_is) in
+            let other : uid_in g m.id.view e ≡ m.id → ⊥ = λ same. true≢false (sym z.3 ∙ ap (λ (y : Message). is_atomic (kind_of y.body)) (one_message (at t) home now.0 z.0 m z.1 known.sent (z.2 ∙ same)) ∙ ap (λ b. is_atomic (kind_of b)) body_is) in
             elim (under_way.1 e c) [
               | inl above ↦ absurd (let view = is_of_it in omega (arith, above, high, number, view))
               | inr level ↦
                   let view = is_of_it in
-                  uid_among (t.process k).delivered (named g m.id.view e)
-                  (allowed.past (named g m.id.view e) tt is_member_here level.0 (omega (arith, view, number)) level.1 one other)
+                  uid_among (t.process k).delivered (uid_in g m.id.view e)
+                  (allowed.past (uid_in g m.id.view e) tt is_member_here level.0 (omega (arith, view, number)) level.1 one other)
             ]
 
         taken : is_pending (t.group g) ≡ false →

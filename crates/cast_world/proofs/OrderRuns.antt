@@ -14,7 +14,7 @@ use Rattle.cast_message.specs.declared.message.Message.{Message}
 use Rattle.cast_events.specs.declared.config.DomainConfig.{DomainConfig}
 use Rattle.cast_events.specs.declared.event.Event.{Event}
 use Rattle.cast_types.specs.Counts.{CountList}
-use Rattle.cast_types.specs.Names.{Entry, named, site_eq}
+use Rattle.cast_types.specs.Names.{Entry, uid_in, site_eq}
 use Rattle.cast_types.specs.declared.names.GroupNo.{GroupNo}
 use Rattle.cast_types.specs.declared.names.Proc.{Proc}
 use Rattle.cast_types.specs.declared.names.SiteNo.{SiteNo}
@@ -37,7 +37,7 @@ use Rattle.cast_world.proofs.Tokens.{HandOvers, tells, token_in}
 use Rattle.cast_world.specs.Agreement.{IsPrefix, IsWithin, abcasts_in, abcasts_of_view, delivered_of, is_in}
 use Rattle.cast_world.specs.HappenedBefore.{NeverLeft, acts_of}
 use Rattle.cast_world.specs.Laws.{AllOrdersAgree}
-use Rattle.cast_world.specs.Network.{Becomes, Happens, Leads, Network, Reaches, event_of, moved, start}
+use Rattle.cast_world.specs.Network.{Becomes, Happens, Leads, Network, Reaches, event_of, move_site, start}
 use Rattle.cast_world.specs.declared.step.Step.{Step}
 
 -- networks with all that holds
@@ -73,7 +73,7 @@ module _ (home : SiteNo) (w : Network) (h : AllHold home w) (choice : Choice) (a
 step_ordered : (home : SiteNo) (w v : Network) (step : Step) → Happens w step v → AllInOrder home w → AllInOrder home v
 step_ordered home w v step happens (h, choice, agree, order, handed, x) = go (event_of w step) refl happens
   where
-    after : (t : State) → OrderNow home w step.site t → AllInOrder home (moved w step.site t)
+    after : (t : State) → OrderNow home w step.site t → AllInOrder home (move_site w step.site t)
     after t (now, more, f, next, handing, y) = (last home w h step.site t now, more, flush_last home w step.site t more f, next, handing, record { sites = y.sites; told = y.told; placed = y.placed; hands = y.hands; orders = y.orders })
 
     go : (o : Option Event) → event_of w step ≡ o → Becomes w step.site o v → AllInOrder home v
@@ -150,7 +150,7 @@ module _ (home : SiteNo) (w : Network) (all : AllInOrder home w) where
     begins : tells s.here (s.group g) g (s.acts p.serial) p.serial ≡ false → IsPrefix done (order g view)
     begins e = (one.follows member e).begins
 
-    names : abcasts_in w p g view ≡ map (named g view) (done_in g view (s.abcasts p.serial))
+    names : abcasts_in w p g view ≡ map (uid_in g view) (done_in g view (s.abcasts p.serial))
     names = sym (ap (filter (is_in g view)) ((all.5.sites p.site).listed p.serial)) ∙ names_of g view (s.abcasts p.serial)
 
     chosen : tells s.here (s.group g) g (s.acts p.serial) p.serial ≡ true → token_at all.1 all.4 g view ≡ Some p
@@ -160,8 +160,8 @@ module _ (home : SiteNo) (w : Network) (all : AllInOrder home w) where
 
   as_names : (p q : Proc) (g : GroupNo) (view : ℕ) (one_p : IsWithin w p g view) (one_q : IsWithin w q g view) → IsPrefix (done p g view one_p) (done q g view one_q) → IsPrefix (abcasts_in w p g view) (abcasts_in w q g view)
   as_names p q g view one_p one_q r = (
-    map (named g view) r.0,
-    ap (λ l. l ++ map (named g view) r.0) (names p g view one_p) ∙ sym (map-append (named g view) (done p g view one_p) r.0) ∙ ap (map (named g view)) r.1 ∙ sym (names q g view one_q),
+    map (uid_in g view) r.0,
+    ap (λ l. l ++ map (uid_in g view) r.0) (names p g view one_p) ∙ sym (map-append (uid_in g view) (done p g view one_p) r.0) ∙ ap (map (uid_in g view)) r.1 ∙ sym (names q g view one_q),
   )
 
   agrees_in : (p q : Proc) (g : GroupNo) (view : ℕ) → IsWithin w p g view → IsWithin w q g view → IsPrefix (abcasts_in w p g view) (abcasts_in w q g view) ⊎ IsPrefix (abcasts_in w q g view) (abcasts_in w p g view)

@@ -8,7 +8,7 @@ use Rattle.cast_clock.specs.Times.{join}
 use Rattle.cast_ready.specs.Ready.{Process, is_member}
 use Rattle.cast_rules.specs.Acts.{Act}
 use Rattle.cast_rules.specs.Acts.Act.{Delivered, Left}
-use Rattle.cast_rules.specs.Entering.{all_parted, parted}
+use Rattle.cast_rules.specs.Entering.{all_parted, put_outside}
 use Rattle.cast_rules.specs.Noted.{abcasts_by}
 use Rattle.cast_rules.specs.State.{State, noting_act, outside, with_delivery}
 use Rattle.cast_message.specs.Bodies.{kind_of, new_holder}
@@ -135,7 +135,7 @@ token_parted t g goes k h = go (goes k)
 
 module _ (order : Orders) (handed : HandOvers) (t : State) (x : SiteOrdered order handed t) where
   pub part_ordered : (k : ℕ) (g : GroupNo) → SiteOrdered order handed (outside t k g)
-  part_ordered k g = parts_same order handed t.here t.process t.acts t.abcasts t.group t.got x (set_at (λ a b. a == b) t.process k (parted g (t.process k))) (outside t k g).acts t.got (acts_same (is_member ((t.process k).standing g)))
+  part_ordered k g = parts_same order handed t.here t.process t.acts t.abcasts t.group t.got x (set_at (λ a b. a == b) t.process k (put_outside g (t.process k))) (outside t k g).acts t.got (acts_same (is_member ((t.process k).standing g)))
       (λ j m c. inl (done_as (is_member ((t.process k).standing g)) j m c)) (later_part t k g).did (token_outside t k g) member (λ m at. at)
     where
       acts_same : (b : Bool) (j : ℕ) → abcasts_by (t.acts j) ≡ abcasts_by ((if b then (noting_act t k (Left g)).acts else t.acts) j)
@@ -146,8 +146,8 @@ module _ (order : Orders) (handed : HandOvers) (t : State) (x : SiteOrdered orde
       done_as true j m c = set_all (λ i (l : List Act). HasDone l m → HasDone (t.acts i) m) t.acts k (t.acts k ++ Left g ∷ []) (λ i c. c) (done_left (t.acts k) g m) j c
       done_as false j m c = c
 
-      member : (j : ℕ) (h : GroupNo) → (set_at (λ a b. a == b) t.process k (parted g (t.process k)) j).standing h ≡ Member → (t.process j).standing h ≡ Member
-      member = set_all (λ j (q : Process). (h : GroupNo) → q.standing h ≡ Member → (t.process j).standing h ≡ Member) t.process k (parted g (t.process k)) (λ j h e. e) (λ h e. stands ((t.process k).standing h) (group_eq g h) e)
+      member : (j : ℕ) (h : GroupNo) → (set_at (λ a b. a == b) t.process k (put_outside g (t.process k)) j).standing h ≡ Member → (t.process j).standing h ≡ Member
+      member = set_all (λ j (q : Process). (h : GroupNo) → q.standing h ≡ Member → (t.process j).standing h ≡ Member) t.process k (put_outside g (t.process k)) (λ j h e. e) (λ h e. stands ((t.process k).standing h) (group_eq g h) e)
 
   pub all_part_ordered : (g : GroupNo) (goes : ℕ → Bool) → SiteOrdered order handed (all_parted t g goes)
   all_part_ordered g goes = parts_same order handed t.here t.process t.acts t.abcasts t.group t.got x (all_parted t g goes).process (all_parted t g goes).acts t.got (λ k. acts_same k (goes k))
@@ -161,7 +161,7 @@ module _ (order : Orders) (handed : HandOvers) (t : State) (x : SiteOrdered orde
       done_as k m true c = done_left (t.acts k) g m c
       done_as k m false c = c
 
-      member : (k : ℕ) (h : GroupNo) (b : Bool) → (if b then parted g (t.process k) else t.process k).standing h ≡ Member → (t.process k).standing h ≡ Member
+      member : (k : ℕ) (h : GroupNo) (b : Bool) → (if b then put_outside g (t.process k) else t.process k).standing h ≡ Member → (t.process k).standing h ≡ Member
       member k h true e = stands ((t.process k).standing h) (group_eq g h) e
       member k h false e = e
 

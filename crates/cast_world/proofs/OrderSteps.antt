@@ -11,7 +11,7 @@ use Rattle.cast_rules.specs.Effects.{next_message}
 use Rattle.cast_rules.specs.Entering.{passing, pending_install}
 use Rattle.cast_rules.specs.Noted.{abcasts_by}
 use Rattle.cast_rules.specs.Order.{last_place, told_by}
-use Rattle.cast_rules.specs.State.{State, emitted, local, noting_sent, outside, receiving, releasing, set_group, set_home, set_session, set_standing, with_delivery}
+use Rattle.cast_rules.specs.State.{State, emit, local, noting_sent, outside, receiving, releasing, set_group, set_home, set_session, set_standing, with_delivery}
 use Rattle.cast_rules.specs.Step.{opening_next}
 use Rattle.cast_message.specs.Bodies.{kind_of, new_holder}
 use Rattle.cast_message.specs.Membership.{Membership}
@@ -24,7 +24,7 @@ use Rattle.cast_types.specs.declared.names.GroupNo.{GroupNo}
 use Rattle.cast_types.specs.declared.names.Proc.{Proc}
 use Rattle.cast_types.specs.declared.names.SiteNo.{SiteNo}
 use Rattle.cast_types.specs.declared.names.Standing.TheVariants.{Joining, Member}
-use Rattle.cast_view.specs.Home.{Home, HomeMove, after_ask, after_body, after_installed, after_reply, after_start, after_suspicion, moved}
+use Rattle.cast_view.specs.Home.{Home, HomeMove, after_ask, after_body, after_installed, after_reply, after_start, after_suspicion, apply_move}
 use Rattle.cast_view.specs.Home.HomeMove.{Asked, Brought, Decided, Installed, Reported, Started, Suspected}
 use Rattle.cast_view.specs.MemberSide.{MemberSide, frozen_side, is_pending, with_answer, with_pending, with_request}
 use Rattle.cast_world.proofs.Entries.{delivery_sends_none, part_sends_none, passing_sends_none}
@@ -187,7 +187,7 @@ module _ (home : SiteNo) (w : Network) (a : SiteNo) where
   follows_up : (t : State) (g : GroupNo) (h : Home) → HomeFollows (Arrived home w a) g (t.home g) h → (t.home g).number ≤ h.number
   follows_up t g h f = let same = f.number in omega (arith, same)
 
-  pub moves_up : (t : State) (g : GroupNo) (what : HomeMove) → MayMove (Arrived home w a) t g what → (t.home g).number ≤ (moved what (t.home g)).number
+  pub moves_up : (t : State) (g : GroupNo) (what : HomeMove) → MayMove (Arrived home w a) t g what → (t.home g).number ≤ (apply_move what (t.home g)).number
   moves_up t g (Asked from n what p) may = follows_up t g (after_ask (t.home g) from n what p) (request_follows (Arrived home w a) g (t.home g) from n what p may)
   moves_up t g (Suspected site) may = follows_up t g (after_suspicion (t.home g) site) (suspicion_follows (Arrived home w a) g (t.home g) site)
   moves_up t g Started may = follows_up t g (after_start (t.home g)) (started_follows (Arrived home w a) g (t.home g))
@@ -196,13 +196,13 @@ module _ (home : SiteNo) (w : Network) (a : SiteNo) where
   moves_up t g Decided may = omega arith
   moves_up t g (Installed from view) may = follows_up t g (after_installed (t.home g) from view) (left_follows (Arrived home w a) g (t.home g) from view)
 
-  abbrev home_moves : (t : State) (g : GroupNo) (what : HomeMove) → Ordered t → MayMove (Arrived home w a) t g what → Ordered (set_home t g (moved what (t.home g)))
-  home_moves t g what i may = home_keep t g (moved what (t.home g)) (moves_up t g what may) i ((flush t i).homes t g what (begin t i) may)
+  abbrev home_moves : (t : State) (g : GroupNo) (what : HomeMove) → Ordered t → MayMove (Arrived home w a) t g what → Ordered (set_home t g (apply_move what (t.home g)))
+  home_moves t g what i may = home_keep t g (apply_move what (t.home g)) (moves_up t g what may) i ((flush t i).homes t g what (begin t i) may)
 
   abbrev pub kept_ordered : Kept Ordered (Arrived home w a) (site_eq a home)
   kept_ordered = record {
     telling = record {
-      emits = λ t to fr i says. keep t (emitted t to fr) (later_same t) i ((flush t i).telling.emits t to fr (begin t i) says) (λ k m c. inl c) (own t i);
+      emits = λ t to fr i says. keep t (emit t to fr) (later_same t) i ((flush t i).telling.emits t to fr (begin t i) says) (λ k m c. inl c) (own t i);
       books = λ t quotas moment acks told owed count pushes i.
           keep t (record t { quotas = quotas; moment = moment; acks = acks; told = told; owed = owed; casts = count; pushes = pushes }) (later_same t) i
           ((flush t i).telling.books t quotas moment acks told owed count pushes (begin t i)) (λ k m c. inl c) (own t i);

@@ -7,7 +7,7 @@ use Rattle.std.specs.Prelude.{◌&&◌, ◌+◌, ◌++◌, ◌<◌, ◌==◌, Bo
 use Rattle.cast_ready.specs.Ready.{has_delivered, has_turn, is_causally_ready, is_cut_by, is_member, is_open_to}
 use Rattle.cast_ready.specs.declared.turn.Turn.TheVariants.{Following, Holding}
 use Rattle.cast_rules.specs.History.{history}
-use Rattle.cast_rules.specs.Order.{facts_in, has_place, holds, is_of_view, order_by, order_of, order_told, told_by, unlisted, unsettled}
+use Rattle.cast_rules.specs.Order.{facts_in, has_place, holds, is_of_view, order_by, order_of, order_told, told_by, unlisted_ids, unsettled_ids}
 use Rattle.cast_rules.specs.Rules.Room.{may_order}
 use Rattle.cast_rules.specs.State.{State, gate_of, local}
 use Rattle.cast_rules.specs.Turns.{has_room_for_order, is_ready_for, turn_of}
@@ -16,7 +16,7 @@ use Rattle.cast_message.specs.declared.message.Body.{Body}
 use Rattle.cast_message.specs.declared.message.Message.{Message}
 use Rattle.cast_order.specs.Order.{next_of, still_to_list}
 use Rattle.cast_types.specs.Counts.{CountList}
-use Rattle.cast_types.specs.Names.{Entry, entry_of, is_atomic, is_order, named}
+use Rattle.cast_types.specs.Names.{Entry, entry_of, is_atomic, is_order, uid_in}
 use Rattle.cast_types.specs.declared.limits.TheConstants.{MAX_POSITION, MAX_UNSETTLED}
 use Rattle.cast_types.specs.declared.names.GroupNo.{GroupNo}
 use Rattle.cast_view.specs.MemberSide.{is_pending}
@@ -99,7 +99,7 @@ module _ (order : List Entry) (t : State) (g : GroupNo) (waits : is_pending (t.g
     apart = subst Apart (sym l.all.1) (apart_done g (t.group g).number (t.abcasts k) once)
 
     -- and what it has still to list is what it delivered beyond
-    pub still_lists : unlisted t g k ≡ rest
+    pub still_lists : unlisted_ids t g k ≡ rest
     still_lists = (λ i. still_to_list (sym l.all.1 i) (knows_told i)) ∙ still_is order rest apart
 
     -- so the order and behind it that is all that it delivered
@@ -145,29 +145,29 @@ module _ (t : State) (k : ℕ) (m : Message) (waits : WaitsForTurn m) (ready : i
   -- who tells the order has room for it
   pub has_room : holds t g k ≡ true → (t.group g).frozen ≡ false → has_place (order_by t g k) ≡ true
   has_room held open_it =
-      let turn : turn_of t k g ≡ Holding (has_room_for_order t g k) = λ i. if held i && not (open_it i) then Holding (has_room_for_order t g k) else Following (next_of (λ e. has_delivered (t.process k) (named g (t.group g).number e)) (order_of t g)) in
+      let turn : turn_of t k g ≡ Holding (has_room_for_order t g k) = λ i. if held i && not (open_it i) then Holding (has_room_for_order t g k) else Following (next_of (λ e. has_delivered (t.process k) (uid_in g (t.group g).number e)) (order_of t g)) in
       let room : has_room_for_order t g k ≡ true = sym (ap (λ z. has_turn z (entry_of m.id)) turn) ∙ has_its_turn in
       (and_parts _ (has_place (order_by t g k)) (and_parts (may_order history t) _ room).1).1
 
   -- and few of what it delivered is unsettled
-  pub has_few : holds t g k ≡ true → (t.group g).frozen ≡ false → length (unsettled t g k) + 1 ≤ MAX_UNSETTLED
+  pub has_few : holds t g k ≡ true → (t.group g).frozen ≡ false → length (unsettled_ids t g k) + 1 ≤ MAX_UNSETTLED
   has_few held open_it =
-      let turn : turn_of t k g ≡ Holding (has_room_for_order t g k) = λ i. if held i && not (open_it i) then Holding (has_room_for_order t g k) else Following (next_of (λ e. has_delivered (t.process k) (named g (t.group g).number e)) (order_of t g)) in
+      let turn : turn_of t k g ≡ Holding (has_room_for_order t g k) = λ i. if held i && not (open_it i) then Holding (has_room_for_order t g k) else Following (next_of (λ e. has_delivered (t.process k) (uid_in g (t.group g).number e)) (order_of t g)) in
       let room : has_room_for_order t g k ≡ true = sym (ap (λ z. has_turn z (entry_of m.id)) turn) ∙ has_its_turn in
-      let lt = ltb-true (length (unsettled t g k)) MAX_UNSETTLED (and_parts (nat_lt (length (unsettled t g k)) MAX_UNSETTLED) _ (and_parts (may_order history t) _ room).1).0 in
+      let lt = ltb-true (length (unsettled_ids t g k)) MAX_UNSETTLED (and_parts (nat_lt (length (unsettled_ids t g k)) MAX_UNSETTLED) _ (and_parts (may_order history t) _ room).1).0 in
       omega (arith, lt)
 
   -- who does not delivers what stands next
-  pub is_next : holds t g k ≡ false → next_of (λ e. has_delivered (t.process k) (named g (t.group g).number e)) (order_of t g) ≡ Some (entry_of m.id)
+  pub is_next : holds t g k ≡ false → next_of (λ e. has_delivered (t.process k) (uid_in g (t.group g).number e)) (order_of t g) ≡ Some (entry_of m.id)
   is_next other =
-      let next : Option Entry = next_of (λ e. has_delivered (t.process k) (named g (t.group g).number e)) (order_of t g) in
+      let next : Option Entry = next_of (λ e. has_delivered (t.process k) (uid_in g (t.group g).number e)) (order_of t g) in
       let turn : turn_of t k g ≡ Following next = ap (λ b. if b && not (t.group g).frozen then Holding (has_room_for_order t g k) else Following next) other in
       entry_is next (entry_of m.id) (sym (ap (λ z. has_turn z (entry_of m.id)) turn) ∙ has_its_turn)
 
   -- so does anyone in a frozen group
-  pub is_next_frozen : (t.group g).frozen ≡ true → next_of (λ e. has_delivered (t.process k) (named g (t.group g).number e)) (order_of t g) ≡ Some (entry_of m.id)
+  pub is_next_frozen : (t.group g).frozen ≡ true → next_of (λ e. has_delivered (t.process k) (uid_in g (t.group g).number e)) (order_of t g) ≡ Some (entry_of m.id)
   is_next_frozen frozen =
-      let next : Option Entry = next_of (λ e. has_delivered (t.process k) (named g (t.group g).number e)) (order_of t g) in
+      let next : Option Entry = next_of (λ e. has_delivered (t.process k) (uid_in g (t.group g).number e)) (order_of t g) in
       let turn : turn_of t k g ≡ Following next = ap (λ b. if b then Holding (has_room_for_order t g k) else Following next) (never (holds t g k) frozen) in
       entry_is next (entry_of m.id) (sym (ap (λ z. has_turn z (entry_of m.id)) turn) ∙ has_its_turn)
     where

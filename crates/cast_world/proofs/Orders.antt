@@ -10,7 +10,7 @@ use Rattle.cast_rules.specs.Rules.Commands.{body_handing}
 use Rattle.cast_rules.specs.State.{State}
 use Rattle.cast_message.specs.Bodies.{kind_of, new_holder}
 use Rattle.cast_message.specs.declared.message.Message.{Message}
-use Rattle.cast_types.specs.Names.{Entry, entry_of, is_atomic, named}
+use Rattle.cast_types.specs.Names.{Entry, entry_of, is_atomic, uid_in}
 use Rattle.cast_types.specs.declared.limits.TheConstants.{MAX_POSITION}
 use Rattle.cast_types.specs.declared.names.GroupNo.{GroupNo}
 use Rattle.cast_types.specs.declared.names.Proc.{Proc}
@@ -107,14 +107,14 @@ pub record LastHolds (at : Sites) (g : GroupNo) (view : ℕ) (order : List Entry
   pub is : m.body ≡ body_handing place to
   pub sent : WasSent at m
   pub in_view : is_in g view m.id ≡ true
-  pub taken : Contains ((at to.site).acts to.serial) (Delivered m) ⊎ ((place ≡ length order + 1) × ((e : Entry) → Contains order e → Covers m.times (named g view e)))
+  pub taken : Contains ((at to.site).acts to.serial) (Delivered m) ⊎ ((place ≡ length order + 1) × ((e : Entry) → Contains order e → Covers m.times (uid_in g view e)))
 
 -- an order has no id twice, each id is of an ABCAST that was sent, and there is none, and no hand-over, until the process that was named to tell it first
 -- has sent in the view
 pub record OrderHolds (choice : Choice) (number : GroupNo → ℕ) (at : Sites) (g : GroupNo) (view : ℕ) (order : List Entry) (handed : Option Message) : Type 0 where
   pub apart : Apart order
   pub few : length order ≤ MAX_POSITION
-  pub atomic : (e : Entry) → Contains order e → (m : Message) × WasSent at m × (m.id ≡ named g view e) × (is_atomic (kind_of m.body) ≡ true)
+  pub atomic : (e : Entry) → Contains order e → (m : Message) × WasSent at m × (m.id ≡ uid_in g view e) × (is_atomic (kind_of m.body) ≡ true)
   pub begun : ((order ≡ []) × (handed ≡ None)) ⊎ Begun choice number at g view
   pub last : (m : Message) → handed ≡ Some m → LastHolds at g view order m
 

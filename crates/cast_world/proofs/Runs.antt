@@ -26,7 +26,7 @@ use Rattle.cast_world.proofs.Ones.{outside_not_member}
 use Rattle.cast_world.proofs.Steps.{AllHold, Arrived, Now, kept_now, own_holds, same_site, sites_at}
 use Rattle.cast_world.specs.HappenedBefore.{acts_of}
 use Rattle.cast_world.specs.Laws.{CausalDelivery}
-use Rattle.cast_world.specs.Network.{Becomes, Happens, Leads, Network, Reaches, event_at, event_of, handed, is_local, moved, names, start}
+use Rattle.cast_world.specs.Network.{Becomes, Happens, Leads, Network, Reaches, event_at, event_of, hand_frame, is_local, move_site, names, start}
 use Rattle.cast_world.specs.declared.step.Happening.{Happening}
 use Rattle.cast_world.specs.declared.step.Packet.{Packet}
 use Rattle.cast_world.specs.declared.step.Step.{Step}
@@ -83,7 +83,7 @@ module _ (home : SiteNo) (w : Network) (h : AllHold home w) (a : SiteNo) where
       go s true e = subst (λ z. SiteHolds (sites_at home w a t0) home z t0) (same_site a s e) here
       go s false e = site_later w.at (sites_at home w a t0) home ahead_first s (w.at s) (h.sites s)
 
-  pub last : (t : State) → Now home w a t → AllHold home (moved w a t)
+  pub last : (t : State) → Now home w a t → AllHold home (move_site w a t)
   last t now = record {
     sites = now.0;
     packets = λ p c. elim (Contains-append_cases w.sent (map (λ (f : SiteNo × SiteFrame). record { from = a; to = f.0; frame = f.1 }) t.frames) p c) [
@@ -107,7 +107,7 @@ module _ (home : SiteNo) (w : Network) (h : AllHold home w) (a : SiteNo) where
   local_arrives (event.Take d n most) is = tt
   local_arrives (event.Tick t) is = tt
 
-  handed_arrives : (d : DomainNo) (o : Option Packet) → ((p : Packet) → o ≡ Some p → Contains w.sent p) → (made : Event) → handed d a o ≡ Some made → Arrives made
+  handed_arrives : (d : DomainNo) (o : Option Packet) → ((p : Packet) → o ≡ Some p → Contains w.sent p) → (made : Event) → hand_frame d a o ≡ Some made → Arrives made
   handed_arrives d None has made is = absurd (false≢true (ap is_some is))
   handed_arrives d (Some p) has made is = go (site_eq p.to a) refl is
     where
@@ -124,7 +124,7 @@ module _ (home : SiteNo) (w : Network) (h : AllHold home w) (a : SiteNo) where
       go false both_are made_is = absurd (false≢true (ap is_some made_is))
   event_arrives (happen.Sent k) made is = handed_arrives (w.at a).config.domain (slice_get w.sent k) (λ p e. got_there w.sent k p e) made is
 
-  after_step : (e : Event) (t : State) (answer : Taken) → Arrives e → IsStep (w.at a) e answer t → AllHold home (moved w a t)
+  after_step : (e : Event) (t : State) (answer : Taken) → Arrives e → IsStep (w.at a) e answer t → AllHold home (move_site w a t)
   after_step e t answer comes is = last t (rests_keeps (Now home w a) (Arrived home w a) (site_eq a home) (kept_now home w a) (after_event (w.at a) e) t is.rests
       (after_event_keeps (Now home w a) (Arrived home w a) (site_eq a home) (kept_now home w a) (w.at a) e first comes))
 

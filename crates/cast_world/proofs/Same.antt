@@ -11,7 +11,7 @@ use Rattle.cast_message.specs.declared.message.Message.{Message}
 use Rattle.cast_events.specs.declared.config.DomainConfig.{DomainConfig}
 use Rattle.cast_events.specs.declared.event.Event.{Event}
 use Rattle.cast_types.specs.Counts.{CountList, is_within}
-use Rattle.cast_types.specs.Names.{entry_of, group_eq, named, site_eq}
+use Rattle.cast_types.specs.Names.{entry_of, group_eq, uid_in, site_eq}
 use Rattle.cast_types.specs.declared.names.GroupNo.{GroupNo}
 use Rattle.cast_types.specs.declared.names.Proc.{Proc}
 use Rattle.cast_types.specs.declared.names.SiteNo.{SiteNo}
@@ -103,7 +103,7 @@ module _ (home : SiteNo) (w : Network) (all : AllKept home w) (seen : EachSeen w
       let tests = and_parts (group_eq u.group g) (u.view == view) (passed test ((w.at p.site).process p.serial).delivered u at) in
       let group : u.group ≡ g = ap (λ n. record { 0 = n }) (eqb-true u.group.0 g.0 tests.0) in
       let in_view : u.view ≡ view = eqb-true u.view view tests.1 in
-      let name : u ≡ named g view (entry_of u) = λ i. record { group = group i; view = in_view i; proc = u.proc; count = u.count } in
+      let name : u ≡ uid_in g view (entry_of u) = λ i. record { group = group i; view = in_view i; proc = u.proc; count = u.count } in
       let has = ((all.0.sites p.site).ones p.serial).fits.listed u (among_kept test ((w.at p.site).process p.serial).delivered u at) in
       let m : Message = has.0 in
       let in_b = in_between w f seen p g view before cut a b c is stays m has.2 (ap (λ (x : Uid). x.group) has.1 ∙ group) (ap (λ (x : Uid). x.view) has.1 ∙ in_view) in

@@ -8,7 +8,7 @@ use Rattle.cast_ready.specs.Ready.{Process, is_member}
 use Rattle.cast_rules.specs.Acts.{Act}
 use Rattle.cast_rules.specs.Acts.Act.{Delivered, Entered, Left, Sent}
 use Rattle.cast_rules.specs.Effects.{next_message}
-use Rattle.cast_rules.specs.Entering.{all_parted, completing, enters, in_view, is_put_out, parted, putting_out}
+use Rattle.cast_rules.specs.Entering.{all_parted, completing, enters, in_view, is_put_out, put_outside, putting_out}
 use Rattle.cast_rules.specs.State.{State, gate_of, local, noting_act, outside}
 use Rattle.cast_rules.specs.Turns.{is_ready_for, turn_of}
 use Rattle.cast_message.specs.Membership.{Membership}
@@ -97,7 +97,7 @@ in_entered acts h n c g v apart i = is_in_more acts (Entered h n c) g v (λ e. d
     differ e = omega (arith, e)
 
 module _ (p : Process) (acts : List Act) (o : OneSeen p.time p.standing acts) where
-  seen_left : (g : GroupNo) → OneSeen p.time (parted g p).standing (acts ++ Left g ∷ [])
+  seen_left : (g : GroupNo) → OneSeen p.time (put_outside g p).standing (acts ++ Left g ∷ [])
   seen_left g = record {
     inside = λ h is. elim (cases_group g h) [
       | inl here ↦ absurd (outside_not_member (sym (set_here p.standing g Outside h here) ∙ is))
@@ -107,7 +107,7 @@ module _ (p : Process) (acts : List Act) (o : OneSeen p.time p.standing acts) wh
     seen = each_more SeenWell acts (Left g) o.seen tt;
   }
 
-  seen_apart : (g : GroupNo) → OneSeen p.time (parted g p).standing acts
+  seen_apart : (g : GroupNo) → OneSeen p.time (put_outside g p).standing acts
   seen_apart g = record { inside = λ h is. o.inside h (stands (p.standing h) (group_eq g h) is); reached = o.reached; seen = o.seen }
 
   seen_asks : (g : GroupNo) (number heard : ℕ) → OneSeen p.time (set_at group_eq p.standing g (Joining number heard)) acts
@@ -168,14 +168,14 @@ stood t all k p new = set_all (λ j q. OneSees q (t.acts j)) t.process k p all n
 part_seen : (t : State) (k : ℕ) (g : GroupNo) → AllSeen t → AllSeen (outside t k g)
 part_seen t k g all = go (is_member ((t.process k).standing g))
   where
-    go : (b : Bool) (j : ℕ) → OneSees (set_at (λ a c. a == c) t.process k (parted g (t.process k)) j) ((if b then (noting_act t k (Left g)).acts else t.acts) j)
-    go true = changed t all k (parted g (t.process k)) (t.acts k ++ Left g ∷ []) (seen_left (t.process k) (t.acts k) (all k) g)
-    go false = stood t all k (parted g (t.process k)) (seen_apart (t.process k) (t.acts k) (all k) g)
+    go : (b : Bool) (j : ℕ) → OneSees (set_at (λ a c. a == c) t.process k (put_outside g (t.process k)) j) ((if b then (noting_act t k (Left g)).acts else t.acts) j)
+    go true = changed t all k (put_outside g (t.process k)) (t.acts k ++ Left g ∷ []) (seen_left (t.process k) (t.acts k) (all k) g)
+    go false = stood t all k (put_outside g (t.process k)) (seen_apart (t.process k) (t.acts k) (all k) g)
 
 all_parted_seen : (t : State) → AllSeen t → (g : GroupNo) (goes : ℕ → Bool) → AllSeen (all_parted t g goes)
 all_parted_seen t all g goes k = go (goes k)
   where
-    go : (b : Bool) → OneSees (if b then parted g (t.process k) else t.process k) (if b then t.acts k ++ Left g ∷ [] else t.acts k)
+    go : (b : Bool) → OneSees (if b then put_outside g (t.process k) else t.process k) (if b then t.acts k ++ Left g ∷ [] else t.acts k)
     go true = seen_left (t.process k) (t.acts k) (all k) g
     go false = all k
 

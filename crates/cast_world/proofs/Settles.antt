@@ -8,12 +8,12 @@ use Rattle.std.specs.Prelude.{◌&&◌, ◌+◌, ◌<◌, Bool, Contains, List, 
 use Rattle.cast_ready.specs.Ready.{has_delivered}
 use Rattle.cast_rules.specs.Acts.{Act}
 use Rattle.cast_rules.specs.Acts.Act.{Delivered, Entered, Left, Sent}
-use Rattle.cast_rules.specs.Order.{is_of_view, last_place, listed_by, lists_of, order_by, settled_to, token_of, unsettled}
+use Rattle.cast_rules.specs.Order.{is_of_view, last_place, listed_by, lists_of, order_by, settled_to, token_of, unsettled_ids}
 use Rattle.cast_rules.specs.State.{State, is_stable, local}
 use Rattle.cast_message.specs.Bodies.{kind_of}
 use Rattle.cast_message.specs.declared.message.Message.{Message}
 use Rattle.cast_order.specs.Order.{Listing, last_listed}
-use Rattle.cast_types.specs.Names.{Entry, is_order, named}
+use Rattle.cast_types.specs.Names.{Entry, is_order, uid_in}
 use Rattle.cast_types.specs.declared.names.GroupNo.{GroupNo}
 use Rattle.cast_types.specs.declared.names.Uid.{Uid}
 use Rattle.cast_world.proofs.Acts.{contains_cons}
@@ -79,7 +79,7 @@ module _ (t : State) (g : GroupNo) (k : ℕ) where
   first = unwrap_or (token_of t g k) 1
 
   abbrev stable : ℕ × ℕ → Bool
-  stable x = is_stable t (named g v (local t k, x.0))
+  stable x = is_stable t (uid_in g v (local t k, x.0))
 
   pub settled_low : (n : ℕ) → first ≤ n + 1 → ((m : Message) → Contains (t.acts k) (Sent m) → is_in g v m.id ≡ true → last_place m.body ≤ n) → settled_to t g k ≤ n
   settled_low n low all =
@@ -90,11 +90,11 @@ module _ (t : State) (g : GroupNo) (k : ℕ) where
       omega (arith, le, same)) in
       omega (arith, low, last)
 
-  stable_as : (n c : ℕ) → n ≡ c → is_stable t (named g v (local t k, n)) ≡ true → is_stable t (named g v (local t k, c)) ≡ true
-  stable_as n c same e = subst (λ i. is_stable t (named g v (local t k, i)) ≡ true) same e
+  stable_as : (n c : ℕ) → n ≡ c → is_stable t (uid_in g v (local t k, n)) ≡ true → is_stable t (uid_in g v (local t k, c)) ≡ true
+  stable_as n c same e = subst (λ i. is_stable t (uid_in g v (local t k, i)) ≡ true) same e
 
   -- a place is settled before the first one, or by a stable message
-  pub settled_by : (n : ℕ) → n < settled_to t g k → (n + 1 < first) ⊎ ((m : Message) × IsListed (is_in g v) (t.acts k) m × (is_stable t (named g v (local t k, m.id.count)) ≡ true) × (n < last_place m.body))
+  pub settled_by : (n : ℕ) → n < settled_to t g k → (n + 1 < first) ⊎ ((m : Message) × IsListed (is_in g v) (t.acts k) m × (is_stable t (uid_in g v (local t k, m.id.count)) ≡ true) × (n < last_place m.body))
   settled_by n lt = elim (cases_lt (n + 1) first) [
     | inl before ↦ inl before
     | inr low ↦ inr (
@@ -106,11 +106,11 @@ module _ (t : State) (g : GroupNo) (k : ℕ) where
   ]
 
   -- what it delivered beyond is unsettled
-  pub settled_near : (done : List Entry) → order_by t g k ≡ done → ((e : Entry) → Contains done e → has_delivered (t.process k) (named g v e) ≡ true) → length done ≤ settled_to t g k + length (unsettled t g k)
+  pub settled_near : (done : List Entry) → order_by t g k ≡ done → ((e : Entry) → Contains done e → has_delivered (t.process k) (uid_in g v e) ≡ true) → length done ≤ settled_to t g k + length (unsettled_ids t g k)
   settled_near done is had =
-      let all : unsettled t g k ≡ drop (settled_to t g k) done =
-      ap (λ l. filter (λ e. has_delivered (t.process k) (named g v e)) (drop (settled_to t g k) l)) is
-      ∙ keeps_every (λ e. has_delivered (t.process k) (named g v e)) (drop (settled_to t g k) done) (λ e at. had e (drop_of (settled_to t g k) done e at)) in
+      let all : unsettled_ids t g k ≡ drop (settled_to t g k) done =
+      ap (λ l. filter (λ e. has_delivered (t.process k) (uid_in g v e)) (drop (settled_to t g k) l)) is
+      ∙ keeps_every (λ e. has_delivered (t.process k) (uid_in g v e)) (drop (settled_to t g k) done) (λ e at. had e (drop_of (settled_to t g k) done e at)) in
       let same = ap length all in
       let long = drop_long (settled_to t g k) done in
       omega (arith, same, long)

@@ -7,10 +7,10 @@ use Rattle.std.proofs.lemmas.List.Folds.{list_any_at}
 use Rattle.std.specs.FinMap.Entries.{is_sorted}
 use Rattle.std.specs.List.{AllByRecursion, list_any}
 use Rattle.std.specs.Prelude.{◌&&◌, ◌+◌, ◌++◌, ◌<◌, ◌==◌, Bool, Contains, List, [], cond, false, filter, if◌then◌else◌, length, not, refl, true, ℕ, ◌∷◌, ◌≡◌, ◌≤◌, ◌⊎◌}
-use Rattle.cast_clock.specs.Times.{bumped, count_in, entering, join, view_of}
+use Rattle.cast_clock.specs.Times.{with_bump, count_in, entering, join, view_of}
 use Rattle.cast_ready.specs.Ready.{Process, is_member, is_outside}
 use Rattle.cast_rules.specs.Effects.{next_message}
-use Rattle.cast_rules.specs.Entering.{enters, in_view, is_put_out, parted, passing, putting_out}
+use Rattle.cast_rules.specs.Entering.{enters, in_view, is_put_out, put_outside, passing, putting_out}
 use Rattle.cast_rules.specs.Lawful.{IsTyped, IsTypedFrame}
 use Rattle.cast_rules.specs.Owing.{paying, paying_view}
 use Rattle.cast_rules.specs.Rules.Keys.{message_key}
@@ -28,7 +28,7 @@ use Rattle.cast_events.specs.declared.event.Event.{Event}
 use Rattle.cast_events.specs.declared.event.Event.TheVariants as event
 use Rattle.cast_events.specs.declared.event.Taken.{Taken}
 use Rattle.cast_timer.proofs.Owing.{key_itself}
-use Rattle.cast_timer.specs.Owed.{is_of_view, key_eq, owed_cmp, paid, renewed, with_owed}
+use Rattle.cast_timer.specs.Owed.{is_of_view, key_eq, owed_cmp, paid, renew, with_owed}
 use Rattle.cast_timer.specs.declared.key.Owed.{Owed}
 use Rattle.cast_timer.specs.declared.key.OwedKey.{OwedKey}
 use Rattle.cast_timer.specs.declared.key.OwedKind.TheVariants as kinds
@@ -287,7 +287,7 @@ module _ (home_here : Bool) where
       homes = x.homes;
     }
 
-    renewed_single : (s : State) (key : OwedKey) (due : ℕ) → At past spared s → IsOwed s key → At past spared (record s { owed = renewed s.owed key due })
+    renewed_single : (s : State) (key : OwedKey) (due : ℕ) → At past spared s → IsOwed s key → At past spared (record s { owed = renew s.owed key due })
     renewed_single s key due x (y, at, is) =
         owed_single s key due (paid (key_eq key) s.owed) (λ z there. among_kept (λ (v : Owed). not (key_eq key v.key)) s.owed z there) x (λ w same. x.lacked w y at (is ∙ same))
 
@@ -437,8 +437,8 @@ module _ (home_here : Bool) where
           let low : y.id.count ≤ count_in p.time y.id.group (local s k) = (x.ones k).counted y at (ap (λ (u : Uid). u.proc) same) (ap p.standing group ∙ is) (ap (λ h. (s.group h).frozen) group ∙ thawed)
           (ap (λ (u : Uid). u.view) same ∙ ap (λ h. (s.group h).number) (sym group)) in
           let there : count_in p.time y.id.group (local s k) ≡ count_in p.time g (local s k) = ap (λ h. count_in p.time h (local s k)) group in
-          let count : y.id.count ≡ count_in (bumped p.time g (local s k)) g (local s k) = ap (λ (u : Uid). u.count) same in
-          let up : count_in (bumped p.time g (local s k)) g (local s k) ≡ count_in p.time g (local s k) + 1 = bumped_count p.time g (local s k) in
+          let count : y.id.count ≡ count_in (with_bump p.time g (local s k)) g (local s k) = ap (λ (u : Uid). u.count) same in
+          let up : count_in (with_bump p.time g (local s k)) g (local s k) ≡ count_in p.time g (local s k) + 1 = bumped_count p.time g (local s k) in
           omega (arith, low, there, count, up)
 
       sent_single : Now sent
@@ -501,21 +501,21 @@ module _ (home_here : Bool) where
     left_time : (k : ℕ) → (left.process k).time ≡ (s.process k).time
     left_time k = go (is_put_out s g skipped members k)
       where
-        go : (b : Bool) → (if b then parted g (s.process k) else s.process k).time ≡ (s.process k).time
+        go : (b : Bool) → (if b then put_outside g (s.process k) else s.process k).time ≡ (s.process k).time
         go true = refl
         go false = refl
 
     left_other : (k : ℕ) (h : GroupNo) → (g ≡ h → ⊥) → (left.process k).standing h ≡ (s.process k).standing h
     left_other k h apart = go (is_put_out s g skipped members k)
       where
-        go : (b : Bool) → (if b then parted g (s.process k) else s.process k).standing h ≡ (s.process k).standing h
+        go : (b : Bool) → (if b then put_outside g (s.process k) else s.process k).standing h ≡ (s.process k).standing h
         go true = set_other (s.process k).standing g Outside h apart
         go false = refl
 
     left_inside : (k : ℕ) (h : GroupNo) → is_outside ((left.process k).standing h) ≡ false → is_outside ((s.process k).standing h) ≡ false
     left_inside k h = go (is_put_out s g skipped members k)
       where
-        go : (b : Bool) → is_outside ((if b then parted g (s.process k) else s.process k).standing h) ≡ false → is_outside ((s.process k).standing h) ≡ false
+        go : (b : Bool) → is_outside ((if b then put_outside g (s.process k) else s.process k).standing h) ≡ false → is_outside ((s.process k).standing h) ≡ false
         go true e = set_group_all (λ i (z : Standing). is_outside z ≡ false → is_outside ((s.process k).standing i) ≡ false) (s.process k).standing g Outside (λ i inside. inside) (λ inside. absurd (true≢false inside)) h e
         go false e = e
 

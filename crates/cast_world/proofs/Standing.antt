@@ -6,7 +6,7 @@ use Rattle.std.proofs.lemmas.List.Elements.{Contains-push_cases, filter-append}
 use Rattle.std.proofs.lemmas.Option.{get_or_from_slice_get}
 use Rattle.std.specs.List.{position_from}
 use Rattle.std.specs.Prelude.{◌&&◌, ◌+◌, ◌++◌, ◌==◌, Bool, Contains, List, None, Ok, Some, [], cond, false, filter, if◌then◌else◌, is_some, refl, slice_get, slice_set, suc, true, zero, ◌||◌, ℕ, ◌∷◌, ◌≡◌, ◌≤◌}
-use Rattle.cast_domain.specs.Fits.{Represents, tagged}
+use Rattle.cast_domain.specs.Fits.{Represents, with_domain}
 use Rattle.cast_domain.specs.Records.{number_of}
 use Rattle.cast_domain.specs.Shared.{part_of}
 use Rattle.cast_rules.specs.State.{State, local, opening}
@@ -17,7 +17,7 @@ use Rattle.cast_events.specs.declared.config.DomainConfig.{DomainConfig}
 use Rattle.cast_events.specs.declared.event.Event.{Event}
 use Rattle.cast_events.specs.declared.event.Outs.{Outs}
 use Rattle.cast_events.specs.declared.event.Taken.{Taken}
-use Rattle.cast_table.specs.Tables.{InTable, IsApplied, domains_of, lent, shared_of}
+use Rattle.cast_table.specs.Tables.{InTable, IsApplied, domains_of, lent_of, shared_of}
 use Rattle.cast_types.specs.Names.{group_cmp, proc_eq, site_eq}
 use Rattle.cast_types.specs.Rising.{is_rising}
 use Rattle.cast_types.specs.Sets.{is_among}
@@ -30,7 +30,7 @@ use Rattle.cast_world.proofs.Alone.{StepsAlone, begins_alone, number_alone, step
 use Rattle.cast_world.proofs.Deliveries.{ids_by, step_delivers}
 use Rattle.cast_world.proofs.Keeps.{found_is}
 use Rattle.cast_world.proofs.Runs.{nothing, some_is}
-use Rattle.cast_world.specs.Network.{Becomes, Happens, Leads, Network, event_at, handed, is_local, moved, names, start}
+use Rattle.cast_world.specs.Network.{Becomes, Happens, Leads, Network, event_at, hand_frame, is_local, move_site, names, start}
 use Rattle.cast_world.specs.Worlds.{Acts, Hands, IsNew, NamesAt, Runs, Serves, ServesAt, StandsAt, StandsFor, Takes, daemon_at, daemons_of, delivered_at, has_failed, packets_of, place_named, sent_from}
 use Rattle.cast_world.specs.declared.step.Happening.TheVariants.{Local, Sent}
 use Rattle.cast_world.specs.declared.step.Packet.{Packet}
@@ -141,12 +141,12 @@ ids_append : (p : Proc) (xs ys : List (DomainNo × Proc × Uid)) → ids_of p (x
 ids_append p xs ys = ap (map (λ (x : DomainNo × Proc × Uid). x.2)) (filter-append (λ (x : DomainNo × Proc × Uid). proc_eq x.1 p) xs ys)
     ∙ map-append (λ (x : DomainNo × Proc × Uid). x.2) (filter (λ (x : DomainNo × Proc × Uid). proc_eq x.1 p) xs) (filter (λ (x : DomainNo × Proc × Uid). proc_eq x.1 p) ys)
 
-ids_tagged : (p : Proc) (d : DomainNo) (xs : List (Proc × Uid)) → ids_of p (tagged d xs) ≡ ids_by p xs
+ids_tagged : (p : Proc) (d : DomainNo) (xs : List (Proc × Uid)) → ids_of p (with_domain d xs) ≡ ids_by p xs
 ids_tagged p d [] = refl
 ids_tagged p d (x ∷ xs) = go (proc_eq x.0 p) (ids_tagged p d xs)
   where
-    go : (b : Bool) → ids_of p (tagged d xs) ≡ ids_by p xs →
-        map (λ (y : DomainNo × Proc × Uid). y.2) (cond b ((d, x.0, x.1) ∷ filter (λ y. proc_eq y.1 p) (tagged d xs)) (filter (λ y. proc_eq y.1 p) (tagged d xs)))
+    go : (b : Bool) → ids_of p (with_domain d xs) ≡ ids_by p xs →
+        map (λ (y : DomainNo × Proc × Uid). y.2) (cond b ((d, x.0, x.1) ∷ filter (λ y. proc_eq y.1 p) (with_domain d xs)) (filter (λ y. proc_eq y.1 p) (with_domain d xs)))
         ≡ map (λ (y : Proc × Uid). y.1) (cond b (x ∷ filter (λ y. proc_eq y.0 p) xs) (filter (λ y. proc_eq y.0 p) xs))
     go true more = ap (λ us. x.1 ∷ us) more
     go false more = more
@@ -155,18 +155,18 @@ ids_tagged p d (x ∷ xs) = go (proc_eq x.0 p) (ids_tagged p d xs)
 abbrev pub packets_from : SiteNo → List (DomainNo × SiteNo × SiteFrame) → List Packet
 packets_from s frames = map (λ f. record { from = s; to = f.1; frame = f.2 }) frames
 
-packets_tagged : (s : SiteNo) (d : DomainNo) (frames : List (SiteNo × SiteFrame)) → packets_from s (tagged d frames) ≡ sent_from s frames
+packets_tagged : (s : SiteNo) (d : DomainNo) (frames : List (SiteNo × SiteFrame)) → packets_from s (with_domain d frames) ≡ sent_from s frames
 packets_tagged s d [] = refl
 packets_tagged s d (f ∷ frames) = ap (λ ps. record { from = s; to = f.0; frame = f.1 } ∷ ps) (packets_tagged s d frames)
 
 -- a daemon's table took an event of its domain, and its deliveries and frames were added
 module _ (e : Event) (taken : Taken) (old new : Daemon) (outs : Outs) (named : names old.number e ≡ true) (applied : InTable (IsApplied (Ok taken) e) old.table no_outs new.table outs) where
   -- it did what its domain did
-  did_step : (s : State) (stands : StandsAt old s) → StepsAlone e taken stands.domain (domains_of new.table) (lent old.table no_outs) (lent new.table outs)
+  did_step : (s : State) (stands : StandsAt old s) → StepsAlone e taken stands.domain (domains_of new.table) (lent_of old.table no_outs) (lent_of new.table outs)
   did_step s stands =
       let number = number_alone stands.domain [] old.number (subst (λ ds. map number_of ds ≡ old.number ∷ []) stands.served old.alone) in
-      steps_alone e taken stands.domain stands.running (lent old.table no_outs) (lent new.table outs) (domains_of new.table) (ap (λ n. names n e) number ∙ named)
-      (subst (λ ds. IsApplied (Ok taken) e ds (domains_of new.table) (lent old.table no_outs) (lent new.table outs)) stands.served applied)
+      steps_alone e taken stands.domain stands.running (lent_of old.table no_outs) (lent_of new.table outs) (domains_of new.table) (ap (λ n. names n e) number ∙ named)
+      (subst (λ ds. IsApplied (Ok taken) e ds (domains_of new.table) (lent_of old.table no_outs) (lent_of new.table outs)) stands.served applied)
 
   module _ (site : new.site ≡ old.site) (number : new.number ≡ old.number) (delivered : new.delivered ≡ old.delivered ++ outs.delivered)
       (sent more : List Packet) (added : more ≡ sent ++ packets_from old.site outs.frames) where
@@ -215,7 +215,7 @@ module _ (s : SiteNo) (place : ℕ) (old new : World) (named : place_named s (da
         let t : State = did.1 in
         let placed : after.site ≡ s = did.4 ∙ first.placed in
         let put : IsPut s (daemons_of old) place after = first.puts after placed in (
-          moved w s t,
+          move_site w s t,
           (did.0, t, did.2, refl),
           record {
             running = still ∙ stands.running;
@@ -268,19 +268,19 @@ module _ (s : SiteNo) (place : ℕ) (old : World) (named : place_named s (daemon
   hands number p new d is there_it to_it served w stands =
       let did = served w stands in
       let one : slice_get w.sent number ≡ Some p = ap (λ ps. slice_get ps number) stands.sent ∙ there_it in
-      let named_it : handed (w.at s).config.domain s (slice_get w.sent number) ≡ Some (event.Frame d p.from p.frame) =
-      ap (handed (w.at s).config.domain s) one ∙ ap (λ b. if b then Some (event.Frame (w.at s).config.domain p.from p.frame) else None) to_it ∙ ap (λ x. Some (event.Frame x p.from p.frame)) (domain_is w stands ∙ sym is) in
+      let named_it : hand_frame (w.at s).config.domain s (slice_get w.sent number) ≡ Some (event.Frame d p.from p.frame) =
+      ap (hand_frame (w.at s).config.domain s) one ∙ ap (λ b. if b then Some (event.Frame (w.at s).config.domain p.from p.frame) else None) to_it ∙ ap (λ x. Some (event.Frame x p.from p.frame)) (domain_is w stands ∙ sym is) in
       (did.0, subst (λ o. Becomes w s o did.0) (sym named_it) did.1, did.2)
 
   pub hands_none : (number : ℕ) → slice_get (packets_of old) number ≡ None → Hands s number old old
   hands_none number none w stands =
-      (w, subst (λ o. Becomes w s o w) (sym (ap (handed (w.at s).config.domain s) (ap (λ ps. slice_get ps number) stands.sent ∙ none))) refl, stands)
+      (w, subst (λ o. Becomes w s o w) (sym (ap (hand_frame (w.at s).config.domain s) (ap (λ ps. slice_get ps number) stands.sent ∙ none))) refl, stands)
 
   pub hands_elsewhere : (number : ℕ) (p : Packet) → slice_get (packets_of old) number ≡ Some p → site_eq p.to s ≡ false → Hands s number old old
   hands_elsewhere number p there_it other w stands =
       let one : slice_get w.sent number ≡ Some p = ap (λ ps. slice_get ps number) stands.sent ∙ there_it in
-      let named_it : handed (w.at s).config.domain s (slice_get w.sent number) ≡ None =
-      ap (handed (w.at s).config.domain s) one ∙ ap (λ b. if b then Some (event.Frame (w.at s).config.domain p.from p.frame) else None) other in
+      let named_it : hand_frame (w.at s).config.domain s (slice_get w.sent number) ≡ None =
+      ap (hand_frame (w.at s).config.domain s) one ∙ ap (λ b. if b then Some (event.Frame (w.at s).config.domain p.from p.frame) else None) other in
       (w, subst (λ o. Becomes w s o w) (sym named_it) refl, stands)
 
 -- Steps

@@ -7,7 +7,7 @@ use Rattle.cast_rules.specs.Effects.{next_message}
 use Rattle.cast_rules.specs.Entering.{freezing, passing, pending_install}
 use Rattle.cast_rules.specs.History.{history}
 use Rattle.cast_rules.specs.Rules.Asking.{is_home}
-use Rattle.cast_rules.specs.State.{State, emitted, local, noting_sent, outside, receiving, releasing, set_group, set_home, set_session, set_standing, with_delivery}
+use Rattle.cast_rules.specs.State.{State, emit, local, noting_sent, outside, receiving, releasing, set_group, set_home, set_session, set_standing, with_delivery}
 use Rattle.cast_rules.specs.Step.{opening_next}
 use Rattle.cast_message.specs.Membership.{Membership}
 use Rattle.cast_message.specs.declared.message.Message.{Message}
@@ -18,7 +18,7 @@ use Rattle.cast_types.specs.Sets.{is_among, set_at}
 use Rattle.cast_types.specs.declared.names.GroupNo.{GroupNo}
 use Rattle.cast_types.specs.declared.names.SiteNo.{SiteNo}
 use Rattle.cast_types.specs.declared.names.Standing.TheVariants.{Joining}
-use Rattle.cast_view.specs.Home.{Home, HomeMove, after_ask, after_body, after_installed, after_reply, after_start, after_suspicion, answer_of, decided, may_decide, moved}
+use Rattle.cast_view.specs.Home.{Home, HomeMove, after_ask, after_body, after_installed, after_reply, after_start, after_suspicion, answer_of, decide_view, may_decide, apply_move}
 use Rattle.cast_view.specs.Home.HomeMove.{Asked, Brought, Decided, Installed, Reported, Started, Suspected}
 use Rattle.cast_view.specs.MemberSide.{frozen_side, with_answer, with_pending, with_request}
 use Rattle.cast_world.proofs.Homes.{HomeFollows, brought_follows, left_follows, replied_follows, request_follows, started_follows, suspicion_follows}
@@ -136,7 +136,7 @@ module _ (home : SiteNo) (w : Network) (a : SiteNo) where
 
   telling_kept : KeptByTelling Now
   telling_kept = record {
-    emits = λ t to f now says. move t (emitted t to f) (later_same t) (λ x own sound. emits_site (sites_at (emitted t to f)) home a t x to f says) now;
+    emits = λ t to f now says. move t (emit t to f) (later_same t) (λ x own sound. emits_site (sites_at (emit t to f)) home a t x to f says) now;
     books = λ t quotas moment acks told owed casts pushes now.
         move t (record t { quotas = quotas; moment = moment; acks = acks; told = told; owed = owed; casts = casts; pushes = pushes }) (later_same t) (λ x own sound. x) now;
     releases = λ t passes now. move t (releasing t passes) (later_same t) (λ x own sound. releases_site (sites_at (releasing t passes)) home a t x passes) now;
@@ -151,14 +151,14 @@ module _ (home : SiteNo) (w : Network) (a : SiteNo) where
   follows_kept : (t : State) (g : GroupNo) (h : Home) → Now t → HomeFollows Arrived g (t.home g) h → Now (set_home t g h)
   follows_kept t g h now f = move t (set_home t g h) (later_home t g h (let same = f.number in omega (arith, same))) (λ x own sound. follow_site (sites_at (set_home t g h)) home a t x g Arrived sound h f) now
 
-  decides_kept : (t : State) (g : GroupNo) → Now t → is_home history t ≡ true → may_decide g (t.home g) ≡ true → Now (set_home t g (decided (t.home g)))
-  decides_kept t g now here may = move t (set_home t g (decided (t.home g))) later
-      (λ x own sound. decide_site (sites_at (set_home t g (decided (t.home g)))) home a t x g
-      (subst (λ z. sites_at (set_home t g (decided (t.home g))) z ≡ set_home t g (decided (t.home g))) (same_site a home (sym (at_home t now) ∙ here)) own)
-      (λ to. (ahead_at t (set_home t g (decided (t.home g))) later to).takes g (answer_of (t.home g) to).number ((t.home g).number + 1) (taken to)) may) now
+  decides_kept : (t : State) (g : GroupNo) → Now t → is_home history t ≡ true → may_decide g (t.home g) ≡ true → Now (set_home t g (decide_view (t.home g)))
+  decides_kept t g now here may = move t (set_home t g (decide_view (t.home g))) later
+      (λ x own sound. decide_site (sites_at (set_home t g (decide_view (t.home g)))) home a t x g
+      (subst (λ z. sites_at (set_home t g (decide_view (t.home g))) z ≡ set_home t g (decide_view (t.home g))) (same_site a home (sym (at_home t now) ∙ here)) own)
+      (λ to. (ahead_at t (set_home t g (decide_view (t.home g))) later to).takes g (answer_of (t.home g) to).number ((t.home g).number + 1) (taken to)) may) now
     where
-      later : Later t (set_home t g (decided (t.home g)))
-      later = later_home t g (decided (t.home g)) (omega arith)
+      later : Later t (set_home t g (decide_view (t.home g)))
+      later = later_home t g (decide_view (t.home g)) (omega arith)
 
       taken : (to : SiteNo) → TakesIn (sites_at t to).process (sites_at t to).group g (answer_of (t.home g) to).number ((t.home g).number + 1)
       taken to = record {
@@ -170,7 +170,7 @@ module _ (home : SiteNo) (w : Network) (a : SiteNo) where
             omega (arith, known, same);
       }
 
-  homes_kept : (t : State) (g : GroupNo) (what : HomeMove) → Now t → MayMove Arrived t g what → Now (set_home t g (moved what (t.home g)))
+  homes_kept : (t : State) (g : GroupNo) (what : HomeMove) → Now t → MayMove Arrived t g what → Now (set_home t g (apply_move what (t.home g)))
   homes_kept t g (Asked from number what p) now may = follows_kept t g (after_ask (t.home g) from number what p) now (request_follows Arrived g (t.home g) from number what p may)
   homes_kept t g (Suspected site) now may = follows_kept t g (after_suspicion (t.home g) site) now (suspicion_follows Arrived g (t.home g) site)
   homes_kept t g Started now may = follows_kept t g (after_start (t.home g)) now (started_follows Arrived g (t.home g))

@@ -12,14 +12,14 @@ use Rattle.cast_rules.specs.Rules.Asking.{ask_home, request}
 use Rattle.cast_rules.specs.Rules.Keys.{ask_key, id_in}
 use Rattle.cast_rules.specs.Rules.Leaving.{Attempt, close_session, end_session, leave_all, leave_at, leave_each, leave_group, tell, tell_open}
 use Rattle.cast_rules.specs.Rules.Owing.{ask_frame, frame_for, frame_of_kind, install_frame, owe, resend, send_for, tick}
-use Rattle.cast_rules.specs.State.{State, closing, emitted, going, is_filled, is_group, local, message_of, outside, pushing, set_group, set_session, with_push}
+use Rattle.cast_rules.specs.State.{State, closing, emit, going, is_filled, is_group, local, message_of, outside, pushing, set_group, set_session, with_push}
 use Rattle.cast_message.specs.declared.client.Push.{Push}
 use Rattle.cast_message.specs.declared.message.Message.{Message}
 use Rattle.cast_message.specs.declared.site.Change.{Change}
 use Rattle.cast_message.specs.declared.site.SiteFrame.{SiteFrame}
-use Rattle.cast_events.specs.Session.{Session, closed, is_gone, is_open, no_session, pushed_to}
+use Rattle.cast_events.specs.Session.{Session, tell_end, is_gone, is_open, no_session, pushed_to}
 use Rattle.cast_timer.proofs.Owing.{same_key, tied_frame}
-use Rattle.cast_timer.specs.Owed.{due_at, due_frames, is_owed, key_eq, owed_cmp, paid, renewed}
+use Rattle.cast_timer.specs.Owed.{due_at, due_frames, is_owed, key_eq, owed_cmp, paid, renew}
 use Rattle.cast_timer.specs.declared.key.Owed.{Owed}
 use Rattle.cast_timer.specs.declared.key.OwedKey.{OwedKey}
 use Rattle.cast_timer.specs.declared.key.OwedKind.{OwedKind}
@@ -113,7 +113,7 @@ owes_sent s sent other owes = go (frame_for history s sent)
   where
     go : (o : Option SiteFrame) → Owes (option_map_or (history.send s sent.site) o s) other
     go None = owes
-    go (Some f) = owes_same s (emitted s sent.site f) other other.kind refl refl owes
+    go (Some f) = owes_same s (emit s sent.site f) other other.kind refl refl owes
 
 wants_sent : (s : State) (sent other : OwedKey) → Wants s other → Wants (send_for history s sent) other
 wants_sent s sent other wants = go (frame_for history s sent)
@@ -138,7 +138,7 @@ owed_sent s sent other owed = go (frame_for history s sent)
     go (Some f) = owed
 
 -- and after one was sent again
-owed_renewed : (s : State) (key other : OwedKey) (due : ℕ) → IsOwed s other → IsOwed (record s { owed = renewed s.owed key due }) other
+owed_renewed : (s : State) (key other : OwedKey) (due : ℕ) → IsOwed s other → IsOwed (record s { owed = renew s.owed key due }) other
 owed_renewed s key other due (o, at, is) = elim (cases_Bool (key_eq key o.key)) [
   | inl same ↦ (record { due = due; key = key }, item_here owed_cmp tied_frame (record { due = due; key = key }) (paid (key_eq key) s.owed), same_key key o.key same ∙ is)
   | inr apart ↦ (o, item_more owed_cmp (record { due = due; key = key }) (paid (key_eq key) s.owed) o (contains_kept (λ (x : Owed). not (key_eq key x.key)) s.owed o at (ap not apart)), is)
@@ -246,8 +246,8 @@ module _ (I : State → Type 0) (k : FullyKeptByTelling I) where
       keeps_if I (is_open (s.session n)) (with_push s n (pushed_to (s.session n) p) p) s (λ is. with_push_keeps s n (pushed_to (s.session n) p) p i agrees is) (λ _. i)
 
   pub close_keeps : (s : State) (n : ℕ) (refusal : Refusal) → I s → I (closing s n refusal)
-  close_keeps s n refusal i = keeps_if I (is_open (s.session n)) (with_push s n (closed refusal (s.session n)) (push.Closed refusal)) s
-      (λ is. with_push_keeps s n (closed refusal (s.session n)) (push.Closed refusal) i tt is) (λ _. i)
+  close_keeps s n refusal i = keeps_if I (is_open (s.session n)) (with_push s n (tell_end refusal (s.session n)) (push.Closed refusal)) s
+      (λ is. with_push_keeps s n (tell_end refusal (s.session n)) (push.Closed refusal) i tt is) (λ _. i)
 
   pub close_session_keeps : (s : State) (n : ℕ) (refusal : Refusal) → I s → I (close_session history s n refusal)
   close_session_keeps s n refusal i =

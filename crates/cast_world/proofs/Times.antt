@@ -9,7 +9,7 @@ use Rattle.std.specs.FinMap.Entries.{below_all, find, find-put, is_sorted, is_so
 use Rattle.std.specs.List.{list_all}
 use Rattle.std.specs.Ordering.{eq_by_cmp, is_eq, is_lt, nat_cmp}
 use Rattle.std.specs.Prelude.{◌&&◌, ◌+◌, ◌<◌, ◌==◌, Bool, Contains, List, Option, Some, T, [], cond, false, max, nat_le, nat_lt, refl, suc, true, unwrap_or, zero, ◌||◌, ℕ, ◌∷◌, ◌≡◌, ◌≤◌, ◌⊎◌}
-use Rattle.cast_clock.specs.Times.{at_most, bumped, clock_at_most, clock_of, count_in, counts_at_most, entering, first_clock, join, join_clocks, join_counts, view_of}
+use Rattle.cast_clock.specs.Times.{at_most, with_bump, clock_at_most, clock_of, count_in, counts_at_most, entering, first_clock, join, join_clocks, join_counts, view_of}
 use Rattle.cast_types.specs.Counts.{CountList, count_of}
 use Rattle.cast_types.specs.Names.{Entry, group_cmp, proc_cmp}
 use Rattle.cast_types.specs.Sets.{at_order}
@@ -73,7 +73,7 @@ count_rises c k n le p = subst (λ m. count_of c p ≤ m) (sym (count_of-put c k
     go true e = subst (λ q. count_of c q ≤ n) (sym (tells_apart proc_exact p k e)) le
     go false e = omega arith
 
-pub below_bumped : (t : ClockList) (g : GroupNo) (p : Proc) → Below t (bumped t g p)
+pub below_bumped : (t : ClockList) (g : GroupNo) (p : Proc) → Below t (with_bump t g p)
 below_bumped t g p = put_rises t g _ (λ v q n. elim [
   | inl low ↦ inl low
   | inr (same, le) ↦ inr (same, let up = count_rises (clock_of t g).counts p (count_in t g p + 1) (omega arith) q in omega (arith, le, up))
@@ -184,13 +184,13 @@ view_join s (e ∷ t) once g n one two = go (eq_by_cmp group_cmp g e.0) refl (vi
 pub below_view : (s t : ClockList) → Below s t → (g : GroupNo) → view_of s g ≤ view_of t g
 below_view s t up g = elim (up record { group = g; view = view_of s g; proc = record { site = record { 0 = 0 }; serial = 0 }; count = 0 } (inr (refl, omega arith))) [ inl lt ↦ omega (arith, lt) | inr (same, le) ↦ omega (arith, same) ]
 
-pub bumped_covers : (t : ClockList) (g : GroupNo) (p : Proc) (u : Uid) → u.group ≡ g → u.proc ≡ p → u.view ≡ view_of t g → u.count ≡ count_in t g p + 1 → Covers (bumped t g p) u
+pub bumped_covers : (t : ClockList) (g : GroupNo) (p : Proc) (u : Uid) → u.group ≡ g → u.proc ≡ p → u.view ≡ view_of t g → u.count ≡ count_in t g p + 1 → Covers (with_bump t g p) u
 bumped_covers t g p u group proc view count = put_covers t g _ u group (inr (view, subst (λ n. u.count ≤ n) (sym here) (omega (arith, count))))
   where
     here : count_of (put proc_cmp p (count_in t g p + 1) (clock_of t g).counts) u.proc ≡ count_in t g p + 1
     here = count_of-put (clock_of t g).counts p (count_in t g p + 1) u.proc ∙ ap (λ b. cond b (count_in t g p + 1) (count_of (clock_of t g).counts u.proc)) (tied_to proc_cmp procs_total u.proc p proc)
 
-pub bumped_view : (t : ClockList) (g : GroupNo) (p : Proc) (h : GroupNo) → view_of (bumped t g p) h ≡ view_of t h
+pub bumped_view : (t : ClockList) (g : GroupNo) (p : Proc) (h : GroupNo) → view_of (with_bump t g p) h ≡ view_of t h
 bumped_view t g p h = ap (λ (c : Clock). c.view) (clock_of-put t g _ h) ∙ go (eq_by_cmp group_cmp h g) refl
   where
     go : (b : Bool) → eq_by_cmp group_cmp h g ≡ b → (cond b (record { view = view_of t g; counts = put proc_cmp p (count_in t g p + 1) (clock_of t g).counts }) (clock_of t h)).view ≡ view_of t h
@@ -211,7 +211,7 @@ other_clock t g n h other = clock_of-put t g (first_clock n) h ∙ go (eq_by_cmp
 pub other_view : (t : ClockList) (g : GroupNo) (n : ℕ) (h : GroupNo) → (g ≡ h → ⊥) → view_of (entering t g n) h ≡ view_of t h
 other_view t g n h other = ap (λ (c : Clock). c.view) (other_clock t g n h other)
 
-pub bumped_count : (t : ClockList) (g : GroupNo) (p : Proc) → count_in (bumped t g p) g p ≡ count_in t g p + 1
+pub bumped_count : (t : ClockList) (g : GroupNo) (p : Proc) → count_in (with_bump t g p) g p ≡ count_in t g p + 1
 bumped_count t g p =
     ap (λ (c : Clock). count_of c.counts p) (clock_of-put t g next g ∙ ap (λ b. cond b next (clock_of t g)) (tied_to group_cmp groups_total g g refl))
     ∙ count_of-put (clock_of t g).counts p (count_in t g p + 1) p ∙ ap (λ b. cond b (count_in t g p + 1) (count_of (clock_of t g).counts p)) (tied_to proc_cmp procs_total p p refl)
@@ -288,7 +288,7 @@ times_join s (x ∷ t) one once two = times_join (put group_cmp x.0 (join_clocks
         go true e = subst (λ (c : Clock). is_sorted proc_cmp c.counts ≡ true) (sym (ap (clock_of t) (tells_apart group_exact g x.0 e) ∙ once.0)) refl
         go false e = subst (λ (c : Clock). is_sorted proc_cmp c.counts ≡ true) (unwrapped (eq_by_cmp group_cmp g x.0) x.1 (first_clock 0) (find group_cmp g t) ∙ ap (λ b. cond b x.1 (clock_of t g)) e) (two g)
 
-pub bumped_sorted : (t : ClockList) (g : GroupNo) (p : Proc) → IsSorted t → IsSorted (bumped t g p)
+pub bumped_sorted : (t : ClockList) (g : GroupNo) (p : Proc) → IsSorted t → IsSorted (with_bump t g p)
 bumped_sorted t g p s = (put_sorted g _ t s.0, clocks_put g _ t s.1 (counts_put p (count_in t g p + 1) (clock_of t g).counts (s.1 g)))
 
 pub entered_sorted : (t : ClockList) (g : GroupNo) (n : ℕ) → IsSorted t → IsSorted (entering t g n)

@@ -16,7 +16,7 @@ use Rattle.cast_rules.specs.Rules.Commands.{body_handing}
 use Rattle.cast_rules.specs.Rules.Keys.{message_key}
 use Rattle.cast_rules.specs.Rules.Owing.{frame_for, owe, send_for}
 use Rattle.cast_rules.specs.Rules.Sending.{send_data}
-use Rattle.cast_rules.specs.State.{State, emitted, noting_sent, others_of, receiving}
+use Rattle.cast_rules.specs.State.{State, emit, noting_sent, others_of, receiving}
 use Rattle.cast_rules.proofs.Setting.{may_set_order, set_order_is}
 use Rattle.cast_rules.specs.Effects.{next_message}
 use Rattle.cast_message.specs.Bodies.{kind_of, new_holder}
@@ -169,7 +169,7 @@ abbrev SameActs : State → State → Type 0
 SameActs s t = (t.here ≡ s.here) × (t.group ≡ s.group) × (t.acts ≡ s.acts)
 
 sent_for_acts : (s r : State) (key : OwedKey) → SameActs s r → SameActs s (send_for history r key)
-sent_for_acts s r key i = keeps_option (SameActs s) (λ f. emitted r key.site f) (frame_for history r key) r (λ f e. i) i
+sent_for_acts s r key i = keeps_option (SameActs s) (λ f. emit r key.site f) (frame_for history r key) r (λ f e. i) i
 
 sent_acts : (s : State) (u : Uid) (to : List SiteNo) → SameActs s (fold (send_data history u) s to)
 sent_acts s u to = keeps_fold (SameActs s) (send_data history u) (λ r site i. keeps_if (SameActs s) (has_acked r.acks u site) (send_for history r (message_key kinds.Data u site)) (owe history r (message_key kinds.Data u site))

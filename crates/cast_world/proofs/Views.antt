@@ -5,10 +5,10 @@ use Rattle.std.proofs.lemmas.List.Elements.{Contains-push_cases}
 use Rattle.std.specs.List.{list_any}
 use Rattle.std.specs.Prelude.{◌&&◌, ◌+◌, ◌++◌, ◌<◌, Bool, Contains, IsTrue, List, None, Option, Some, [], drop, false, if◌then◌else◌, is_some, not, refl, true, unwrap_or, ◌||◌, ℕ, ◌∷◌, ◌≡◌, ◌≤◌}
 use Rattle.cast_clock.specs.Times.{view_of}
-use Rattle.cast_ready.specs.Ready.{Process, covered, has_delivered, is_member, is_outside}
+use Rattle.cast_ready.specs.Ready.{Process, covered_entries, has_delivered, is_member, is_outside}
 use Rattle.cast_rules.specs.Acts.{Act}
 use Rattle.cast_rules.specs.Acts.Act.{Entered}
-use Rattle.cast_rules.specs.Entering.{all_parted, completing, enters, freezing, in_view, is_put_out, parted, passing, pending_install, putting_out}
+use Rattle.cast_rules.specs.Entering.{all_parted, completing, enters, freezing, in_view, is_put_out, put_outside, passing, pending_install, putting_out}
 use Rattle.cast_rules.specs.Reports.{has_delivered_cut, is_delivered_here}
 use Rattle.cast_rules.specs.State.{State, local, local_members, serials, set_group, set_home}
 use Rattle.cast_message.specs.Membership.{Membership}
@@ -17,14 +17,14 @@ use Rattle.cast_message.specs.declared.message.Message.{Message}
 use Rattle.cast_message.specs.declared.site.Change.{Change}
 use Rattle.cast_message.specs.declared.site.SiteFrame.{SiteFrame}
 use Rattle.cast_types.specs.Counts.{CountList, is_within}
-use Rattle.cast_types.specs.Names.{Entry, group_eq, named, proc_eq, site_cmp}
+use Rattle.cast_types.specs.Names.{Entry, group_eq, uid_in, proc_eq, site_cmp}
 use Rattle.cast_types.specs.Sets.{is_among, set_at, with_items}
 use Rattle.cast_types.specs.declared.names.GroupNo.{GroupNo}
 use Rattle.cast_types.specs.declared.names.Proc.{Proc}
 use Rattle.cast_types.specs.declared.names.SiteNo.{SiteNo}
 use Rattle.cast_types.specs.declared.names.Standing.{Standing}
 use Rattle.cast_types.specs.declared.names.Standing.TheVariants.{Joining, Member, Outside}
-use Rattle.cast_view.specs.Home.{Home, answer_in, answer_of, bodies_of, decided, decided_list, decided_phase, decision_of, installing, may_decide, may_decide_in}
+use Rattle.cast_view.specs.Home.{Home, answer_in, answer_of, bodies_of, decide_view, decided_list, decided_phase, decision_of, installing, may_decide, may_decide_in}
 use Rattle.cast_view.specs.MemberSide.{MemberSide, frozen_side, has_view, is_taken_in, with_answer, with_end, with_pending, with_request, with_view}
 use Rattle.cast_view.specs.Sites.{is_at, sites_of}
 use Rattle.cast_view.specs.declared.member.PendingRequest.{PendingRequest}
@@ -64,7 +64,7 @@ pub record IsNext (at : Sites) (home : SiteNo) (t : State) (g : GroupNo) (skippe
   pub decided : IsDecided at home g n
   pub above : (k number heard : ℕ) → (t.process k).standing g ≡ Joining number heard → number ≤ request → is_among proc_eq (local t k) members.list ≡ true → heard < n
   pub cuts : (k : ℕ) → (t.process k).standing g ≡ Member → skipped ≡ false →
-      (n ≡ (t.group g).number + 1) × ((e : Entry) → 1 ≤ e.1 → IsTrue (is_within cut e) → Contains (t.process k).delivered (named g (t.group g).number e))
+      (n ≡ (t.group g).number + 1) × ((e : Entry) → 1 ≤ e.1 → IsTrue (is_within cut e) → Contains (t.process k).delivered (uid_in g (t.group g).number e))
 
 -- all members that the next view names enter it
 module _ (at : Sites) (home s : SiteNo) (t : State) (x : SiteHolds at home s t) (g : GroupNo) (n : ℕ) (members : Membership) (request : ℕ) (cut : CountList)
@@ -109,7 +109,7 @@ module _ (at : Sites) (home s : SiteNo) (t : State) (x : SiteHolds at home s t) 
       omega (arith, up, is, here))
       (λ v en is_in_it counted within.
       let was = (one k).fits.member g v is_in_it in
-      subst (λ z. Contains (t.process k).delivered (named g z en)) (((one k).member g was.0).0 ∙ was.1) ((is_next.cuts k was.0 refl).1 en counted within))
+      subst (λ z. Contains (t.process k).delivered (uid_in g z en)) (((one k).member g was.0).0 ∙ was.1) ((is_next.cuts k was.0 refl).1 en counted within))
       (taken_outside request ((t.process k).standing g) both_are.0)
       next other
       (ap (λ (y : MemberSide). y.number) (set_here t.group g side g refl))
@@ -143,14 +143,14 @@ module _ (at : Sites) (home s : SiteNo) (t : State) (x : SiteHolds at home s t) 
 member_after : (t : State) (g : GroupNo) (goes : ℕ → Bool) (k : ℕ) → ((all_parted t g goes).process k).standing g ≡ Member → ((t.process k).standing g ≡ Member) × (goes k ≡ false)
 member_after t g goes k e = go (goes k) refl e
   where
-    go : (b : Bool) → goes k ≡ b → (if b then parted g (t.process k) else t.process k).standing g ≡ Member → ((t.process k).standing g ≡ Member) × (goes k ≡ false)
+    go : (b : Bool) → goes k ≡ b → (if b then put_outside g (t.process k) else t.process k).standing g ≡ Member → ((t.process k).standing g ≡ Member) × (goes k ≡ false)
     go true is member = absurd (outside_not_member (sym (set_here (t.process k).standing g Outside g refl) ∙ member))
     go false is member = (member, is)
 
 delivered_after : (t : State) (g : GroupNo) (goes : ℕ → Bool) (k : ℕ) → ((all_parted t g goes).process k).delivered ≡ (t.process k).delivered
 delivered_after t g goes k = go (goes k)
   where
-    go : (b : Bool) → (if b then parted g (t.process k) else t.process k).delivered ≡ (t.process k).delivered
+    go : (b : Bool) → (if b then put_outside g (t.process k) else t.process k).delivered ≡ (t.process k).delivered
     go true = refl
     go false = refl
 
@@ -183,7 +183,7 @@ module _ (at : Sites) (home s : SiteNo) (t : State) (g : GroupNo) (skipped : Boo
     cuts = λ k e none.
         let was = still_member t g skipped members k e in
         let has = is_next.cuts k was.0 was.1 in
-        (has.0, λ en counted within. subst (λ us. Contains us (named g (t.group g).number en)) (sym (delivered_after t g goes k)) (has.1 en counted within));
+        (has.0, λ en counted within. subst (λ us. Contains us (uid_in g (t.group g).number en)) (sym (delivered_after t g goes k)) (has.1 en counted within));
   }
 
   pub passing_site : SiteHolds at home s t → SiteHolds at home s (passing t g skipped n members request cut)
@@ -198,13 +198,13 @@ module _ (at : Sites) (home s : SiteNo) (t : State) (g : GroupNo) (skipped : Boo
 module _ (at : Sites) (home s : SiteNo) (t : State) (x : SiteHolds at home s t) (g : GroupNo) where
   -- the cut of the Install that waits was delivered
   pub cut_delivered : (cut : CountList) → has_delivered_cut t g cut ≡ true → (k : ℕ) → (t.process k).standing g ≡ Member → (e : Entry) → 1 ≤ e.1 → IsTrue (is_within cut e) →
-      Contains (t.process k).delivered (named g (t.group g).number e)
+      Contains (t.process k).delivered (uid_in g (t.group g).number e)
   cut_delivered cut all k member e counted within =
       let given = (x.ones k).given g (ap is_outside member) in
       let here : Contains (local_members t g) k = contains_kept (λ j. is_member ((t.process j).standing g)) (serials t) k (contains_range 1 t.used k given.0 (let low = given.1 in omega (arith, low))) (ap is_member member) in
-      found_among (named g (t.group g).number e) (t.process k).delivered
-      (passes (λ j. has_delivered (t.process j) (named g (t.group g).number e)) (local_members t g)
-      (passes (is_delivered_here t g) (covered cut) all e (contains_covered cut e.0 e.1 counted (leb-true _ _ within))) k here)
+      found_among (uid_in g (t.group g).number e) (t.process k).delivered
+      (passes (λ j. has_delivered (t.process j) (uid_in g (t.group g).number e)) (local_members t g)
+      (passes (is_delivered_here t g) (covered_entries cut) all e (contains_covered cut e.0 e.1 counted (leb-true _ _ within))) k here)
 
   -- Requests, flushes
 
@@ -261,9 +261,9 @@ module _ (at : Sites) (home s : SiteNo) (t : State) (x : SiteHolds at home s t) 
     bodies = λ m c. elim (f.bodies m c) [ inl old ↦ (x.homes g).bodies m old | inr (from, came) ↦ sound from (frame.Forward m) came ];
   }
 
-  module _ (own : at home ≡ set_home t g (decided (t.home g))) (fresh : (to : SiteNo) → TakesIn (at to).process (at to).group g (answer_of (t.home g) to).number ((t.home g).number + 1)) where
+  module _ (own : at home ≡ set_home t g (decide_view (t.home g))) (fresh : (to : SiteNo) → TakesIn (at to).process (at to).group g (answer_of (t.home g) to).number ((t.home g).number + 1)) where
     number_is : ((at home).home g).number ≡ (t.home g).number + 1
-    number_is = ap (λ (y : State). (y.home g).number) own ∙ ap (λ (y : Home). y.number) (set_here t.home g (decided (t.home g)) g refl)
+    number_is = ap (λ (y : State). (y.home g).number) own ∙ ap (λ (y : Home). y.number) (set_here t.home g (decide_view (t.home g)) g refl)
 
     abbrev TakesAll : Decision → Type 0
     TakesAll d = (to : SiteNo) → TakesIn (at to).process (at to).group g (answer_in d.answers to).number ((t.home g).number + 1)
@@ -287,8 +287,8 @@ module _ (at : Sites) (home s : SiteNo) (t : State) (x : SiteHolds at home s t) 
     same_bodies (Gathering awaited reports bodies) m c = installing_bodies (with_items site_cmp (sites_of (decided_list (t.home g))) awaited) (decision_of (t.home g) reports) bodies m c
     same_bodies (Installing waiting d bodies) m c = c
 
-    pub decide_site : may_decide g (t.home g) ≡ true → SiteHolds at home s (set_home t g (decided (t.home g)))
-    decide_site may = home_site at home s t x g (decided (t.home g)) record {
+    pub decide_site : may_decide g (t.home g) ≡ true → SiteHolds at home s (set_home t g (decide_view (t.home g)))
+    decide_site may = home_site at home s t x g (decide_view (t.home g)) record {
       number = (let is = number_is in omega (arith, is));
       applied = (x.homes g).applied;
       installs = λ waiting d bodies e to. decides_in (t.home g).phase waiting d bodies e may to;

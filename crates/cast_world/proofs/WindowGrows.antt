@@ -10,7 +10,7 @@ use Rattle.cast_ready.specs.Ready.{is_member}
 use Rattle.cast_rules.specs.Acts.{Act}
 use Rattle.cast_rules.specs.Acts.Act.{Sent}
 use Rattle.cast_rules.specs.Effects.{next_message}
-use Rattle.cast_rules.specs.Order.{holds, last_place, place_to_pass, told_by, unlisted}
+use Rattle.cast_rules.specs.Order.{holds, last_place, place_to_pass, told_by, unlisted_ids}
 use Rattle.cast_rules.specs.Resting.{places_of}
 use Rattle.cast_rules.specs.Rules.Commands.{body_handing}
 use Rattle.cast_rules.specs.State.{State, local, noting_sent, receiving}
@@ -126,7 +126,7 @@ module _ (home : SiteNo) (w : Network) (a : SiteNo) where
     -- it places ABCASTs
     module _ (held : holds t g k ≡ true) (open_it : (t.group g).frozen ≡ false) (is : content ≡ body.Order (places_of t g k)) (safe : Safe) (y : AllWindow i.1 (number t) (at t) i.3 safe) where
       abbrev ids : List Entry
-      ids = ids_to_list (unlisted t g k)
+      ids = ids_to_list (unlisted_ids t g k)
 
       abbrev more : Orders
       more = longer home w a t i.0 i.1 i.2 i.3 i.4 i.5 g k content member held open_it is
@@ -154,7 +154,7 @@ module _ (home : SiteNo) (w : Network) (a : SiteNo) where
       near_here : length (more g v) ≤ safe g v + MAX_UNSETTLED
       near_here =
           let whole = ap length (all_done home w a t i.0 i.1 i.2 i.3 i.4 i.5 g k content member held open_it is) in
-          let parts = length-append (order g v ++ ids) (drop MAX_PLACED (unlisted t g k)) in
+          let parts = length-append (order g v ++ ids) (drop MAX_PLACED (unlisted_ids t g k)) in
           let same = ap length is_here in
           let low = own_leading home w a t i.1 i.3 safe y g k held (waits home w a t i.0 i.1 i.2 i.3 i.4 i.5 g k content member held open_it is) in
           omega (arith, whole, parts, same, low)

@@ -14,7 +14,7 @@ use Rattle.cast_rules.specs.Entering.{passing, pending_install}
 use Rattle.cast_rules.specs.Owing.{paying_view}
 use Rattle.cast_quota.specs.declared.quotas.Quotas.{Quotas}
 use Rattle.cast_rules.specs.Rules.Keys.{id_in, message_key}
-use Rattle.cast_rules.specs.State.{State, emitted, is_ended, is_received, noting_ack, noting_sent, noting_stable, outside, receiving, releasing, releasing_ended, set_group, set_home, set_session, set_standing, with_delivery}
+use Rattle.cast_rules.specs.State.{State, emit, is_ended, is_received, noting_ack, noting_sent, noting_stable, outside, receiving, releasing, releasing_ended, set_group, set_home, set_session, set_standing, with_delivery}
 use Rattle.cast_rules.specs.Step.{opening_next}
 use Rattle.cast_rules.specs.Turns.{is_ready_for}
 use Rattle.cast_message.specs.Bodies.{kind_of}
@@ -22,7 +22,7 @@ use Rattle.cast_message.specs.Membership.{Membership}
 use Rattle.cast_message.specs.declared.message.Body.{Body}
 use Rattle.cast_message.specs.declared.message.Message.{Message}
 use Rattle.cast_message.specs.declared.site.SiteFrame.{SiteFrame}
-use Rattle.cast_timer.specs.Owed.{is_of_messages, is_of_view, key_eq, owed_cmp, paid, renewed, with_owed}
+use Rattle.cast_timer.specs.Owed.{is_of_messages, is_of_view, key_eq, owed_cmp, paid, renew, with_owed}
 use Rattle.cast_timer.specs.declared.key.Owed.{Owed}
 use Rattle.cast_timer.specs.declared.key.OwedKey.{OwedKey}
 use Rattle.cast_timer.specs.declared.key.OwedKind.{OwedKind}
@@ -34,7 +34,7 @@ use Rattle.cast_types.specs.declared.names.GroupNo.{GroupNo}
 use Rattle.cast_types.specs.declared.names.SiteNo.{SiteNo}
 use Rattle.cast_types.specs.declared.names.Standing.TheVariants.{Joining, Member}
 use Rattle.cast_types.specs.declared.names.Uid.{Uid}
-use Rattle.cast_view.specs.Home.{moved}
+use Rattle.cast_view.specs.Home.{apply_move}
 use Rattle.cast_view.specs.MemberSide.{MemberSide, frozen_side, is_pending, with_answer, with_pending, with_request, with_view}
 use Rattle.cast_world.proofs.Allowed.{passed}
 use Rattle.cast_world.proofs.Homes.{among_kept, item_was}
@@ -159,7 +159,7 @@ module _ (home : SiteNo) (w : Network) (a : SiteNo) where
     abbrev pub window_telling : FullyKeptByTelling (WindowNow skip)
     window_telling = record {
       emits = λ t to f i says adds.
-          let u : State = emitted t to f in
+          let u : State = emit t to f in
           keepw skip skip t u (later_same t) i ((flush home w a t i.0).telling.emits t to f (begin home w a t i.0) says) (λ k m c. inl c) (own home w a t i.0) (λ m c. c) (λ q z c. inl c)
           (λ to_it f_it c. elim (Contains-push_cases t.frames (to, f) (to_it, f_it) c) [ inl old ↦ inl old | inr same ↦ inr (subst (λ (p : SiteNo × SiteFrame). AckTrue t.got p.1) same (adds_true t f adds)) ])
           (leading skip t i) (same_owed t u refl refl refl i.4);
@@ -177,8 +177,8 @@ module _ (home : SiteNo) (w : Network) (a : SiteNo) where
             | inr old ↦ same_owed t (record t { owed = t.owed }) refl refl refl i.4 o old
           ]);
       renews = λ t key due i owes owed.
-          let u : State = record t { owed = renewed t.owed key due } in
-          quiet skip skip t u (later_same t) i ((flush home w a t i.0).telling.books t t.quotas t.moment t.acks t.told (renewed t.owed key due) t.casts t.pushes (begin home w a t i.0)) (λ k m c. inl c) (own home w a t i.0) refl refl refl
+          let u : State = record t { owed = renew t.owed key due } in
+          quiet skip skip t u (later_same t) i ((flush home w a t i.0).telling.books t t.quotas t.moment t.acks t.told (renew t.owed key due) t.casts t.pushes (begin home w a t i.0)) (λ k m c. inl c) (own home w a t i.0) refl refl refl
           (leading skip t i)
           (λ o c. elim (item_was owed_cmp (record { due = due; key = key }) (paid (key_eq key) t.owed) o c) [
             | inl new ↦ inr (subst (λ (z : Owed). Owes u z.key) new (owes_moved t u key key.kind refl (λ z e. e) owes))
@@ -344,7 +344,7 @@ module _ (home : SiteNo) (w : Network) (a : SiteNo) where
         quiet (is_of_view g) no_key less u (later_same less) x ((flush home w a less x.0).telling.books less less.quotas less.moment less.acks less.told (paid (is_of_view g) less.owed) less.casts less.pushes (begin home w a less x.0)) (λ k m c. inl c) (own home w a less x.0) refl refl refl
         (leading (is_of_view g) less x) (all_owed less g x.4);
     homes = λ t g what i may.
-        let u : State = set_home t g (moved what (t.home g)) in
-        quiet no_key no_key t u (later_home t g (moved what (t.home g)) (moves_up home w a t g what may)) i ((flush home w a t i.0).homes t g what (begin home w a t i.0) may) (λ k m c. inl c) (own home w a t i.0) refl refl refl
+        let u : State = set_home t g (apply_move what (t.home g)) in
+        quiet no_key no_key t u (later_home t g (apply_move what (t.home g)) (moves_up home w a t g what may)) i ((flush home w a t i.0).homes t g what (begin home w a t i.0) may) (λ k m c. inl c) (own home w a t i.0) refl refl refl
         (leading no_key t i) (same_owed no_key t u refl refl refl i.4);
   }

@@ -4,12 +4,12 @@ use Rattle.std.proofs.Common.{ap, arith, inl, inr, subst, sym, ◌∙◌}
 use Rattle.std.proofs.lemmas.Bool.{cases_lt, le-leb, leb-true}
 use Rattle.std.specs.Prelude.{◌+◌, ◌<◌, Bool, Contains, List, [], false, if◌then◌else◌, length, nat_le, not, refl, true, unwrap_or, ℕ, ◌∷◌, ◌≡◌, ◌≤◌}
 use Rattle.cast_rules.specs.Acts.Act.{Sent}
-use Rattle.cast_rules.specs.Order.{last_place, settled_to, told_by, unsettled}
+use Rattle.cast_rules.specs.Order.{last_place, settled_to, told_by, unsettled_ids}
 use Rattle.cast_rules.specs.State.{State, is_stable, local, others_of}
 use Rattle.cast_message.specs.Bodies.{new_holder}
 use Rattle.cast_message.specs.declared.message.Message.{Message}
 use Rattle.cast_stable.specs.Stable.{Acked, is_known_stable, stable_upto, was_told}
-use Rattle.cast_types.specs.Names.{Entry, named, site_eq}
+use Rattle.cast_types.specs.Names.{Entry, uid_in, site_eq}
 use Rattle.cast_types.specs.declared.names.GroupNo.{GroupNo}
 use Rattle.cast_types.specs.declared.names.Proc.{Proc}
 use Rattle.cast_types.specs.declared.names.SiteNo.{SiteNo}
@@ -40,16 +40,16 @@ module _ (here : SiteNo) (acks : List Acked) (told : List Uid) (g : GroupNo) (v 
   abbrev me : Proc
   me = record { site = here; serial = k }
 
-  by_acks : (others : List SiteNo) (c : ℕ) → (if site_eq here here then nat_le c (stable_upto acks others g v me) else was_told told (named g v (me, c))) ≡ nat_le c (stable_upto acks others g v me)
-  by_acks others c = ap (λ b. if b then nat_le c (stable_upto acks others g v me) else was_told told (named g v (me, c))) (site_itself here)
+  by_acks : (others : List SiteNo) (c : ℕ) → (if site_eq here here then nat_le c (stable_upto acks others g v me) else was_told told (uid_in g v (me, c))) ≡ nat_le c (stable_upto acks others g v me)
+  by_acks others c = ap (λ b. if b then nat_le c (stable_upto acks others g v me) else was_told told (uid_in g v (me, c))) (site_itself here)
 
-  pub stable_less : (others : List SiteNo) (c d : ℕ) → c ≤ d → is_known_stable here others acks told (named g v (me, d)) ≡ true → is_known_stable here others acks told (named g v (me, c)) ≡ true
+  pub stable_less : (others : List SiteNo) (c d : ℕ) → c ≤ d → is_known_stable here others acks told (uid_in g v (me, d)) ≡ true → is_known_stable here others acks told (uid_in g v (me, c)) ≡ true
   stable_less [] c d le e = refl
   stable_less (s ∷ others) c d le e =
       let up : d ≤ stable_upto acks (s ∷ others) g v me = leb-true d (stable_upto acks (s ∷ others) g v me) (sym (by_acks (s ∷ others) d) ∙ e) in
       by_acks (s ∷ others) c ∙ le-leb c (stable_upto acks (s ∷ others) g v me) (omega (arith, le, up))
 
-  pub stable_reads : (others : List SiteNo) (s : SiteNo) (d : ℕ) → Contains others s → is_known_stable here others acks told (named g v (me, d)) ≡ true → d ≤ stable_upto acks others g v me
+  pub stable_reads : (others : List SiteNo) (s : SiteNo) (d : ℕ) → Contains others s → is_known_stable here others acks told (uid_in g v (me, d)) ≡ true → d ≤ stable_upto acks others g v me
   stable_reads [] s d at e = absurd (omega (arith, at.1))
   stable_reads (z ∷ others) s d at e = leb-true d (stable_upto acks (z ∷ others) g v me) (sym (by_acks (z ∷ others) d) ∙ e)
 
@@ -85,7 +85,7 @@ module _ (home : SiteNo) (w : Network) (a : SiteNo) where
     Own m = Contains t.got m × (is_in g v m.id ≡ true) × (m.id.proc ≡ local t k)
 
     abbrev is_settled : Message → Bool
-    is_settled m = is_stable t (named g v (local t k, m.id.count))
+    is_settled m = is_stable t (uid_in g v (local t k, m.id.count))
 
     here_is : at t t.here ≡ t
     here_is = ap (at t) (own_holds home w a t now).here_is ∙ own_is home w a t
@@ -101,7 +101,7 @@ module _ (home : SiteNo) (w : Network) (a : SiteNo) where
     settles_told = settled_told home w a t now choice f order handed x g k held waits
 
     -- and what was delivered beyond them is unsettled
-    pub settles_near : length done ≤ settles + length (unsettled t g k)
+    pub settles_near : length done ≤ settles + length (unsettled_ids t g k)
     settles_near = unsettled_rest home w a t now choice f order handed x g k held waits
 
     -- the places before the first one are known at each of them
@@ -129,9 +129,9 @@ module _ (home : SiteNo) (w : Network) (a : SiteNo) where
             let other : Contains (others_of t g) q.site = contains_kept (λ s. not (site_eq t.here s)) (sites_of (members_of (t.group g))) q.site (site_in (members_of (t.group g)) q member) (ap not e) in
             let counted : 1 ≤ m.id.count = (let s = contains_split ((at t t.here).acts k) (Sent m) (own_sent m o) in (each_at (at t) home now.0 (local t k) s.0 s.1 (Sent m) s.2).counted) in
             let up = stable_reads t.here t.acks t.told g v k (others_of t g) q.site m.id.count other stable in
-            let ack = ack_of t.acks (named g v (local t k, m.id.count)) q.site (stable_acked t.acks (others_of t g) g v (local t k) m.id.count counted up q.site other) in
-            let has = y.acked t.here q.site (named g v (local t k, m.id.count)) (subst (λ (z : State). Contains z.acks (q.site, named g v (local t k, m.id.count))) (sym here_is) ack) in
-            let name : named g v (local t k, m.id.count) ≡ m.id = ap (λ p. named g v (p, m.id.count)) (sym o.2) ∙ name_is g v m.id o.1 in
+            let ack = ack_of t.acks (uid_in g v (local t k, m.id.count)) q.site (stable_acked t.acks (others_of t g) g v (local t k) m.id.count counted up q.site other) in
+            let has = y.acked t.here q.site (uid_in g v (local t k, m.id.count)) (subst (λ (z : State). Contains z.acks (q.site, uid_in g v (local t k, m.id.count))) (sym here_is) ack) in
+            let name : uid_in g v (local t k, m.id.count) ≡ m.id = ap (λ p. uid_in g v (p, m.id.count)) (sym o.2) ∙ name_is g v m.id o.1 in
             let same : has.0 ≡ m = one_message (at t) home now.0 has.0 m ((now.0 q.site).received has.0 has.1).sent ((own_holds home w a t now).received m o.0).sent (has.2 ∙ name) in
             subst (Contains (at t q.site).got) same has.1
 

@@ -11,7 +11,7 @@ use Rattle.cast_message.specs.Bodies.{new_holder}
 use Rattle.cast_message.specs.declared.message.Message.{Message}
 use Rattle.cast_message.specs.declared.site.SiteFrame.{SiteFrame}
 use Rattle.cast_stable.specs.Stable.{Acked, acked_from, greatest_acked, has_acked, stable_upto}
-use Rattle.cast_types.specs.Names.{Entry, named, site_eq, uid_eq}
+use Rattle.cast_types.specs.Names.{Entry, uid_in, site_eq, uid_eq}
 use Rattle.cast_types.specs.declared.limits.TheConstants.{MAX_UNSETTLED}
 use Rattle.cast_types.specs.declared.names.GroupNo.{GroupNo}
 use Rattle.cast_types.specs.declared.names.Proc.{Proc}
@@ -68,20 +68,20 @@ cases_next n k lt = elim (cases_lt (n + 1) k) [ inl past ↦ inr past | inr low 
 -- Acknowledgements
 
 -- each count up to the stable one was acknowledged by each of the sites
-stable_from : (most : ℕ) (acks : List Acked) (sites : List SiteNo) (g : GroupNo) (v : ℕ) (p : Proc) (n : ℕ) (k : ℕ) → n < k → k ≤ acked_from most acks sites (named g v (p, n)) → (s : SiteNo) → Contains sites s →
-    has_acked acks (named g v (p, k)) s ≡ true
+stable_from : (most : ℕ) (acks : List Acked) (sites : List SiteNo) (g : GroupNo) (v : ℕ) (p : Proc) (n : ℕ) (k : ℕ) → n < k → k ≤ acked_from most acks sites (uid_in g v (p, n)) → (s : SiteNo) → Contains sites s →
+    has_acked acks (uid_in g v (p, k)) s ≡ true
 stable_from zero acks sites g v p n k low high s at = absurd (omega (arith, low, high))
-stable_from (suc most) acks sites g v p n k low high s at = go (list_all (has_acked acks (named g v (p, n + 1))) sites) refl high (stable_from most acks sites g v p (n + 1) k)
+stable_from (suc most) acks sites g v p n k low high s at = go (list_all (has_acked acks (uid_in g v (p, n + 1))) sites) refl high (stable_from most acks sites g v p (n + 1) k)
   where
-    go : (b : Bool) → list_all (has_acked acks (named g v (p, n + 1))) sites ≡ b → k ≤ (if b then acked_from most acks sites (named g v (p, n + 1)) else n) →
-        (n + 1 < k → k ≤ acked_from most acks sites (named g v (p, n + 1)) → (z : SiteNo) → Contains sites z → has_acked acks (named g v (p, k)) z ≡ true) → has_acked acks (named g v (p, k)) s ≡ true
+    go : (b : Bool) → list_all (has_acked acks (uid_in g v (p, n + 1))) sites ≡ b → k ≤ (if b then acked_from most acks sites (uid_in g v (p, n + 1)) else n) →
+        (n + 1 < k → k ≤ acked_from most acks sites (uid_in g v (p, n + 1)) → (z : SiteNo) → Contains sites z → has_acked acks (uid_in g v (p, k)) z ≡ true) → has_acked acks (uid_in g v (p, k)) s ≡ true
     go true e up more = elim (cases_next n k low) [
-      | inl same ↦ subst (λ i. has_acked acks (named g v (p, i)) s ≡ true) same (passes (has_acked acks (named g v (p, n + 1))) sites e s at)
+      | inl same ↦ subst (λ i. has_acked acks (uid_in g v (p, i)) s ≡ true) same (passes (has_acked acks (uid_in g v (p, n + 1))) sites e s at)
       | inr past ↦ more past up s at
     ]
     go false e up more = absurd (omega (arith, low, up))
 
-pub stable_acked : (acks : List Acked) (sites : List SiteNo) (g : GroupNo) (v : ℕ) (p : Proc) (k : ℕ) → 1 ≤ k → k ≤ stable_upto acks sites g v p → (s : SiteNo) → Contains sites s → has_acked acks (named g v (p, k)) s ≡ true
+pub stable_acked : (acks : List Acked) (sites : List SiteNo) (g : GroupNo) (v : ℕ) (p : Proc) (k : ℕ) → 1 ≤ k → k ≤ stable_upto acks sites g v p → (s : SiteNo) → Contains sites s → has_acked acks (uid_in g v (p, k)) s ≡ true
 stable_acked acks sites g v p k low high s at = stable_from (greatest_acked acks) acks sites g v p 0 k (omega (arith, low)) high s at
 
 pub ack_of : (acks : List Acked) (u : Uid) (s : SiteNo) → has_acked acks u s ≡ true → Contains acks (s, u)

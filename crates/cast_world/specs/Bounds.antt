@@ -5,9 +5,9 @@ use Rattle.cast_types.specs.declared.names.SiteNo.{SiteNo}
 use Rattle.cast_types.specs.declared.names.GroupNo.{GroupNo}
 use Rattle.cast_types.specs.declared.names.Uid.{Uid}
 use Rattle.cast_types.specs.declared.limits.TheConstants.{MAX_POSITION}
-use Rattle.cast_types.specs.Names.{entry_eq, entry_of, named, uid_eq}
+use Rattle.cast_types.specs.Names.{entry_eq, entry_of, uid_in, uid_eq}
 use Rattle.cast_types.specs.Sets.{is_among}
-use Rattle.cast_ready.specs.Ready.{covered}
+use Rattle.cast_ready.specs.Ready.{covered_entries}
 use Rattle.cast_message.specs.declared.client.Push.{Push}
 use Rattle.cast_message.specs.declared.message.Message.{Message}
 use Rattle.cast_message.specs.declared.site.SiteFrame.{SiteFrame}
@@ -25,16 +25,16 @@ use Rattle.cast_rules.specs.Run.{IsRun}
 
 -- an Install waits in the group, and the message is one of the view that it ends that its cut names
 abbrev pub covers : MemberSide → Uid → Bool
-covers group u = elim group.pending [ Some p ↦ (u.view == group.number) && is_among entry_eq (entry_of u) (covered p.cut) | None ↦ false ]
+covers group u = elim group.pending [ Some p ↦ (u.view == group.number) && is_among entry_eq (entry_of u) (covered_entries p.cut) | None ↦ false ]
 
 -- the kept messages that no waiting Install covers
-abbrev pub uncovered : State → List Message
-uncovered s = filter (λ m. not (covers (s.group m.id.group) m.id)) s.kept
+abbrev pub uncovered_messages : State → List Message
+uncovered_messages s = filter (λ m. not (covers (s.group m.id.group) m.id)) s.kept
 
 -- what a domain keeps of messages, where no quota of kept messages was above most: those that no waiting Install covers are at most
 -- twice as many. All are of the views that their groups have, and an order has no more places than there are numbers for
 pub record IsBounded (most : ℕ) (s : State) : Type 0 where
-  pub few : length (uncovered s) ≤ 2 * most
+  pub few : length (uncovered_messages s) ≤ 2 * most
   pub current : (m : Message) → Contains s.kept m → m.id.view ≡ (s.group m.id.group).number
   pub placed : (g : GroupNo) → length (order_told s g) ≤ MAX_POSITION
 
@@ -64,7 +64,7 @@ WhatIsKeptIsBounded =
 
 -- the messages that a waiting Install names in its cut
 abbrev pub named_by : GroupNo → MemberSide → List Uid
-named_by g group = elim group.pending [ Some p ↦ map (named g group.number) (covered p.cut) | None ↦ [] ]
+named_by g group = elim group.pending [ Some p ↦ map (uid_in g group.number) (covered_entries p.cut) | None ↦ [] ]
 
 -- those of all groups
 abbrev pub named_in : State → List Uid

@@ -11,7 +11,7 @@ use Rattle.cast_message.specs.declared.client.Push.{Push}
 use Rattle.cast_message.specs.declared.message.Message.{Message}
 use Rattle.cast_events.specs.declared.config.DomainConfig.{DomainConfig}
 use Rattle.cast_types.specs.Counts.{CountList, is_within}
-use Rattle.cast_types.specs.Names.{Entry, named}
+use Rattle.cast_types.specs.Names.{Entry, uid_in}
 use Rattle.cast_types.specs.Stamps.{ClockList}
 use Rattle.cast_types.specs.declared.names.GroupNo.{GroupNo}
 use Rattle.cast_types.specs.declared.names.Proc.{Proc}
@@ -76,7 +76,7 @@ abbrev pub PassesWithCut : Network → Type 0
 PassesWithCut w =
     (p : Proc) (g : GroupNo) (view : ℕ) (before cut : CountList) (a b c : List Act) (e : Entry) →
     acts_of w p ≡ a ++ Entered g view before ∷ b ++ Entered g (view + 1) cut ∷ c → NeverLeft g b →
-    ((m : Message) × (m.id ≡ named g view e) × Contains b (Delivered m)) ↔ ((1 ≤ e.1) × IsTrue (is_within cut e))
+    ((m : Message) × (m.id ≡ uid_in g view e) × Contains b (Delivered m)) ↔ ((1 ≤ e.1) × IsTrue (is_within cut e))
 
 -- The laws of views speak of lists: of each process what it delivered, in order
 

@@ -45,21 +45,21 @@ abbrev pub names : DomainNo → Event → Bool
 names d e = option_map_or (λ of. of.0 == d.0) (domain_of e) true
 
 -- a frame is handed to the site that it is addressed to
-abbrev pub handed : DomainNo → SiteNo → Option Packet → Option Event
-handed d s None = None
-handed d s (Some p) = if site_eq p.to s then Some (event.Frame d p.from p.frame) else None
+abbrev pub hand_frame : DomainNo → SiteNo → Option Packet → Option Event
+hand_frame d s None = None
+hand_frame d s (Some p) = if site_eq p.to s then Some (event.Frame d p.from p.frame) else None
 
 abbrev pub event_at : Network → SiteNo → Happening → Option Event
 event_at w s (Local e) = if is_local e && names (w.at s).config.domain e then Some e else None
-event_at w s (Sent k) = handed (w.at s).config.domain s (slice_get w.sent k)
+event_at w s (Sent k) = hand_frame (w.at s).config.domain s (slice_get w.sent k)
 
 -- the event of a step, where its site is one of the network's
 abbrev pub event_of : Network → Step → Option Event
 event_of w step = if is_among site_eq step.site w.sites then event_at w step.site step.what else None
 
 -- a site has moved to this state, and what it sent is on the network
-abbrev pub moved : Network → SiteNo → State → Network
-moved w s t =
+abbrev pub move_site : Network → SiteNo → State → Network
+move_site w s t =
     record w {
       at = set_at site_eq w.at s t;
       sent = w.sent ++ map (λ f. record { from = s; to = f.0; frame = f.1 }) t.frames;
@@ -68,7 +68,7 @@ moved w s t =
 -- an event, where there is one, takes w to v: a step of the history at that site
 abbrev pub Becomes : Network → SiteNo → Option Event → Network → Type 0
 Becomes w s None v = v ≡ w
-Becomes w s (Some e) v = (answer : Taken) × (t : State) × IsStep (w.at s) e answer t × (v ≡ moved w s t)
+Becomes w s (Some e) v = (answer : Taken) × (t : State) × IsStep (w.at s) e answer t × (v ≡ move_site w s t)
 
 -- a step takes w to v
 abbrev pub Happens : Network → Step → Network → Type 0
@@ -92,7 +92,7 @@ pub record Reaches (sites : List SiteNo) (config : SiteNo → DomainConfig) (ste
 
 abbrev pub after : ℕ → Network → SiteNo → Option Event → Network
 after n w s None = w
-after n w s (Some e) = moved w s (step_in n (w.at s) e)
+after n w s (Some e) = move_site w s (step_in n (w.at s) e)
 
 abbrev pub happens_in : ℕ → Network → Step → Network
 happens_in n w step = after n w step.site (event_of w step)

@@ -11,7 +11,7 @@ use Rattle.cast_types.specs.declared.names.Proc.{Proc}
 use Rattle.cast_types.specs.Names.{proc_eq}
 use Rattle.cast_types.specs.Sets.{is_among}
 use Rattle.cast_types.specs.declared.names.Uid.{Uid}
-use Rattle.cast_clock.specs.Times.{view_of, count_in, bumped}
+use Rattle.cast_clock.specs.Times.{view_of, count_in, with_bump}
 use Rattle.cast_clock.proofs.Raised.{bump_raises}
 use Rattle.cast_message.specs.declared.message.Body.{Body}
 use Rattle.cast_message.specs.declared.site.Change.TheVariants as change
@@ -91,7 +91,7 @@ module _ {R S H K : Type 0} (a : Site R H) (b : Site S K) (fits : R → S → Ty
         group = g;
         view = (group j).number;
         proc = record { site = here j; serial = k };
-        count = count_in (bumped (time j) g (record { site = here j; serial = k })) g (record { site = here j; serial = k });
+        count = count_in (with_bump (time j) g (record { site = here j; serial = k })) g (record { site = here j; serial = k });
       }) in
       let others : a.others t g ≡ b.others u g = all.follows.others t u now g in
       let raised = bump_raises (b.time s k) g (named_here b s k) in

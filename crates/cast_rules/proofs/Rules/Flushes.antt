@@ -5,7 +5,7 @@ use Rattle.std.specs.List.{fold, list_all}
 use Rattle.std.proofs.lemmas.Bool.{and_parts, not-true}
 use Rattle.cast_types.specs.declared.names.SiteNo.{SiteNo}
 use Rattle.cast_types.specs.declared.names.GroupNo.{GroupNo}
-use Rattle.cast_types.specs.Names.{Entry, group_eq, proc_eq, named}
+use Rattle.cast_types.specs.Names.{Entry, group_eq, proc_eq, uid_in}
 use Rattle.cast_types.specs.Sets.{is_among}
 use Rattle.cast_message.specs.declared.message.Message.{Message}
 use Rattle.cast_message.specs.declared.site.SiteFrame.TheVariants as frame
@@ -101,7 +101,7 @@ module _ {R S H K : Type 0} (a : Site R H) (b : Site S K) (fits : R → S → Ty
       let group = all.follows.group r s f h k at in
       let config = all.follows.config r s f in
       let key : OwedKey = own_want_key b s k e in
-      let same : own_want_key a r h e ≡ key = (λ j. message_key Want (named (name j) (group j).number e) (config j).home) in
+      let same : own_want_key a r h e ≡ key = (λ j. message_key Want (uid_in (name j) (group j).number e) (config j).home) in
       subst (λ x. fits (owe a r x) (owe b s key)) (sym same) (owe_follows a b fits stands all.follows r s f key)
 
   -- the Install that waits is completed at both sites

@@ -8,7 +8,7 @@ use Rattle.cast_types.specs.declared.names.Proc.{Proc}
 use Rattle.cast_types.specs.Names.{proc_eq}
 use Rattle.cast_types.specs.Sets.{is_among}
 use Rattle.cast_types.specs.Stamps.{ClockList}
-use Rattle.cast_clock.specs.Times.{view_of, count_in, bumped}
+use Rattle.cast_clock.specs.Times.{view_of, count_in, with_bump}
 use Rattle.cast_message.specs.declared.message.Body.{Body}
 use Rattle.cast_message.specs.declared.message.Body.TheVariants as body
 use Rattle.cast_message.specs.declared.message.Message.{Message}
@@ -54,7 +54,7 @@ module _ {S H : Type 0} (d : Site S H) where
   -- the process's next message: its time, with its own count raised, stamps it
   abbrev pub message_sent : S → ℕ → GroupNo → H → Body → Message
   message_sent s k g h content =
-      let times : ClockList = bumped (d.time s k) g (named_here d s k) in
+      let times : ClockList = with_bump (d.time s k) g (named_here d s k) in
       record {
         id = record { group = g; view = (d.group s h).number; proc = named_here d s k; count = count_in times g (named_here d s k) };
         times = times;

@@ -5,7 +5,7 @@ use Rattle.std.specs.Prelude.{ℕ, ◌+◌, Bool, false, ◌&&◌, ◌==◌, if�
 use Rattle.std.specs.List.{fold}
 use Rattle.cast_types.specs.declared.names.SiteNo.{SiteNo}
 use Rattle.cast_types.specs.declared.names.GroupNo.{GroupNo}
-use Rattle.cast_types.specs.Names.{Entry, named}
+use Rattle.cast_types.specs.Names.{Entry, uid_in}
 use Rattle.cast_message.specs.declared.message.Message.{Message}
 use Rattle.cast_message.specs.declared.site.SiteFrame.{SiteFrame}
 use Rattle.cast_message.specs.declared.site.SiteFrame.TheVariants as frame
@@ -36,7 +36,7 @@ module _ {S H : Type 0} (d : Site S H) where
 
   -- a message of the view is wanted from the home
   abbrev pub own_want_key : S → H → Entry → OwedKey
-  own_want_key s h e = message_key Want (named (d.name s h) (d.group s h).number e) (d.config s).home
+  own_want_key s h e = message_key Want (uid_in (d.name s h) (d.group s h).number e) (d.config s).home
 
   -- an Install waits, and a message is wanted, of the view that ends and well formed in it
   abbrev pub is_wanted_here : S → H → Message → Bool

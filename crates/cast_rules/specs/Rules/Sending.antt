@@ -7,7 +7,7 @@ use Rattle.cast_types.specs.declared.names.Proc.{Proc}
 use Rattle.cast_types.specs.declared.names.Uid.{Uid}
 use Rattle.cast_types.specs.declared.limits.TheConstants.{MAX_NUMBER}
 use Rattle.cast_types.specs.Stamps.{ClockList, is_stamp}
-use Rattle.cast_clock.specs.Times.{count_in, bumped, has_room}
+use Rattle.cast_clock.specs.Times.{count_in, with_bump, has_room}
 use Rattle.cast_message.specs.declared.message.Message.{Message}
 use Rattle.cast_timer.specs.declared.key.OwedKind.TheVariants as kinds
 use Rattle.cast_rules.specs.Rules.Keys.{message_key}
@@ -17,7 +17,7 @@ use Rattle.cast_rules.specs.Rules.Owing.{send_for, owe}
 -- a process's count in a group may be raised: it is not the last one, and the raised time has room and a spelling,
 -- as a member's always has (`laws::counts_can_be_raised`)
 abbrev pub may_raise : ClockList → GroupNo → Proc → Bool
-may_raise t g p = nat_lt (count_in t g p) MAX_NUMBER && (has_room (bumped t g p) && is_stamp (bumped t g p))
+may_raise t g p = nat_lt (count_in t g p) MAX_NUMBER && (has_room (with_bump t g p) && is_stamp (with_bump t g p))
 
 module _ {S H : Type 0} (d : Site S H) where
   -- a message is sent to a site, and owed to it until it has acknowledged it, as it may have done before

@@ -4,7 +4,7 @@ use Rattle.std.proofs.lemmas.Bool.Decides.{nat_tests}
 use Rattle.std.proofs.Math.Nat.{min_comm}
 use Rattle.cast_events.specs.declared.limits.TheConstants.{MAX_CASTS}
 use Rattle.cast_types.specs.declared.limits.TheConstants.{MAX_PAYLOAD}
-use Rattle.cast_clock.specs.Times.{bumped, count_in}
+use Rattle.cast_clock.specs.Times.{with_bump, count_in}
 use Rattle.cast_message.specs.declared.message.Message.{Message}
 use Rattle.cast_rules.specs.Rules.Commands.{body_of}
 use Rattle.cast_ready.specs.Ready.{is_member}
@@ -49,7 +49,7 @@ returns-in_default-clause-made c =
     ap is_member (sym (c.standing.ensures.value ∙ ap (λ x. standing_of r.delay x g) p) ∙ c.in-Member.is) in
     let own : awaits_own_in r (local_in r k) ≡ false = sym (c.awaits_own.ensures ∙ ap (awaits_own_in r) p) ∙ c.if-awaits_own.false in
     let room : may_receive records r ≡ true = sym c.has_room.ensures ∙ c.if-not-has_room.false in
-    let may : may_raise (time_of r.delay q) g q ≡ false = raised_none (may_raise (time_of r.delay q) g q) (bumped (time_of r.delay q) g q) (sym c.in_default.is ∙ c.in_ok-time.ensures) in
+    let may : may_raise (time_of r.delay q) g q ≡ false = raised_none (may_raise (time_of r.delay q) g q) (with_bump (time_of r.delay q) g q) (sym c.in_default.is ∙ c.in_ok-time.ensures) in
     sym (cast_unraised r k g c.args.kind c.args.payload.now c.args.at short member going own room (ap (λ x. may_raise (time_of r.delay x) g x) (sym p) ∙ may))
 
 pub returns-clause-made : goal.returns-clause-made
@@ -60,12 +60,12 @@ returns-clause-made c =
     let g = c.args.group in
     let p : c.process-process.result ≡ local_in r k = c.process-process.ensures in
     let q = c.process-process.result in
-    let raised = raised_some (may_raise (time_of r.delay q) g q) (bumped (time_of r.delay q) g q) c.in-Some.time c.in-Some.stamp
+    let raised = raised_some (may_raise (time_of r.delay q) g q) (with_bump (time_of r.delay q) g q) c.in-Some.time c.in-Some.stamp
     (sym c.in-Some.is ∙ c.in_ok-time.ensures) in
-    let time : c.in-Some.time ≡ bumped (time_of r.delay (local_in r k)) g (local_in r k) = raised.1 ∙ ap (λ x. bumped (time_of r.delay x) g x) p in
-    let stamp : c.in-Some.stamp ≡ bumped (time_of r.delay (local_in r k)) g (local_in r k) = raised.2 ∙ ap (λ x. bumped (time_of r.delay x) g x) p in
+    let time : c.in-Some.time ≡ with_bump (time_of r.delay (local_in r k)) g (local_in r k) = raised.1 ∙ ap (λ x. with_bump (time_of r.delay x) g x) p in
+    let stamp : c.in-Some.stamp ≡ with_bump (time_of r.delay (local_in r k)) g (local_in r k) = raised.2 ∙ ap (λ x. with_bump (time_of r.delay x) g x) p in
     let view : c.number.result ≡ (record_at r.groups i).here.number = c.number.ensures ∙ ap (λ x. x.here.number) c.record-2.ensures in
-    let count : c.count.result ≡ count_in (bumped (time_of r.delay (local_in r k)) g (local_in r k)) g (local_in r k) = c.count.ensures ∙ λ j. count_in (time j) g (p j) in
+    let count : c.count.result ≡ count_in (with_bump (time_of r.delay (local_in r k)) g (local_in r k)) g (local_in r k) = c.count.ensures ∙ λ j. count_in (time j) g (p j) in
     let going : (record_at r.groups c.args.at).here.frozen ≡ false = sym (c.is_frozen.ensures ∙ ap (λ x. x.here.frozen) c.record.ensures) ∙ c.if-is_frozen.false in
     let short : nat_lt MAX_PAYLOAD (length c.args.payload.now) ≡ false = grind (arith, nat_tests) in
     let member : is_member (standing_of r.delay (local_in r k) g) ≡ true =

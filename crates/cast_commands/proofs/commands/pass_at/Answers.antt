@@ -4,7 +4,7 @@ use Rattle.std.specs.Option.{option_map_or}
 use Rattle.cast_types.specs.Names.{proc_eq}
 use Rattle.cast_types.specs.Sets.{is_among}
 use Rattle.cast_types.specs.declared.refusal.Refusal.TheVariants.{HeldFull}
-use Rattle.cast_clock.specs.Times.{bumped, count_in}
+use Rattle.cast_clock.specs.Times.{with_bump, count_in}
 use Rattle.cast_message.specs.declared.message.Body.TheVariants as body
 use Rattle.cast_message.specs.declared.message.Message.{Message}
 use Rattle.cast_ready.specs.Ready.{is_member}
@@ -39,7 +39,7 @@ returns-in_default-place_to_pass-clause-made c =
     let first : c.first.result ≡ (hand_here (log_of r.orders x.name) q).first = c.first.ensures ∙ ap (λ y. (hand_here (log_of r.orders y.name) q).first) kept in
     let holding : is_some (hand_here (log_of r.orders x.name) q).first ≡ true = ap is_some (sym first) ∙ c.is_none.ensures ∙ ap not c.if-is_none.false in
     let room : may_order records r ≡ true = sym c.has_order_room.ensures ∙ c.if-not-has_order_room.false in
-    let raised = raised_some (may_raise (time_of r.delay q) g q) (bumped (time_of r.delay q) g q) c.in-Some.time c.in-Some.stamp
+    let raised = raised_some (may_raise (time_of r.delay q) g q) (with_bump (time_of r.delay q) g q) c.in-Some.time c.in-Some.stamp
     (sym c.in-Some.is ∙ c.in_ok-time.ensures) in
     let past = pass_past r k g c.args.to i q here member named going own holding room raised.0 in
     let none : place_to_pass_of r q x ≡ None = sym (c.place_to_pass.ensures ∙ ap (place_to_pass_of r q) kept) ∙ c.in_default-place_to_pass.is in
@@ -64,7 +64,7 @@ returns-then-eq-clause-made c =
     let first : c.first.result ≡ (hand_here (log_of r.orders x.name) q).first = c.first.ensures ∙ ap (λ y. (hand_here (log_of r.orders y.name) q).first) kept in
     let holding : is_some (hand_here (log_of r.orders x.name) q).first ≡ true = ap is_some (sym first) ∙ c.is_none.ensures ∙ ap not c.if-is_none.false in
     let room : may_order records r ≡ true = sym c.has_order_room.ensures ∙ c.if-not-has_order_room.false in
-    let raised = raised_some (may_raise (time_of r.delay q) g q) (bumped (time_of r.delay q) g q) c.in-Some.time c.in-Some.stamp
+    let raised = raised_some (may_raise (time_of r.delay q) g q) (with_bump (time_of r.delay q) g q) c.in-Some.time c.in-Some.stamp
     (sym c.in-Some.is ∙ c.in_ok-time.ensures) in
     let past = pass_past r k g c.args.to i q here member named going own holding room raised.0 in
     let place : place_to_pass_of r q x ≡ Some c.in-Some-place_to_pass.place = sym (c.place_to_pass.ensures ∙ ap (place_to_pass_of r q) kept) ∙ c.in-Some-place_to_pass.is in
@@ -79,7 +79,7 @@ note_sent-requires c =
     let r = records_in c.args.domain.now c.args.lent.now in
     let q = c.process-process.result in
     let g = c.args.group in
-    let raised = raised_some (may_raise (time_of r.delay q) g q) (bumped (time_of r.delay q) g q) c.in-Some.time c.in-Some.stamp
+    let raised = raised_some (may_raise (time_of r.delay q) g q) (with_bump (time_of r.delay q) g q) c.in-Some.time c.in-Some.stamp
     (sym c.in-Some.is ∙ c.in_ok-time.ensures) in
     raised.2 ∙ sym raised.1
 
@@ -101,7 +101,7 @@ returns-clause-made c =
     let first : c.first.result ≡ (hand_here (log_of r.orders x.name) q).first = c.first.ensures ∙ ap (λ y. (hand_here (log_of r.orders y.name) q).first) kept in
     let holding : is_some (hand_here (log_of r.orders x.name) q).first ≡ true = ap is_some (sym first) ∙ c.is_none.ensures ∙ ap not c.if-is_none.false in
     let room : may_order records r ≡ true = sym c.has_order_room.ensures ∙ c.if-not-has_order_room.false in
-    let raised = raised_some (may_raise (time_of r.delay q) g q) (bumped (time_of r.delay q) g q) c.in-Some.time c.in-Some.stamp
+    let raised = raised_some (may_raise (time_of r.delay q) g q) (with_bump (time_of r.delay q) g q) c.in-Some.time c.in-Some.stamp
     (sym c.in-Some.is ∙ c.in_ok-time.ensures) in
     let past = pass_past r k g c.args.to i q here member named going own holding room raised.0 in
     let to = c.args.to in
@@ -109,10 +109,10 @@ returns-clause-made c =
     let place : place_to_pass_of r q x ≡ Some at = sym (c.place_to_pass.ensures ∙ ap (place_to_pass_of r q) kept) ∙ c.in-Some-place_to_pass.is in
     let other : proc_eq to (local_in r k) ≡ false = ap (proc_eq to) (sym here) ∙ sym c.eq.ensures ∙ c.if-eq.false in
     let sends : Attempt Records = (send_own records r k (message_sent records r k g i (body_handing at to)), None) in
-    let stamp : c.in-Some.stamp ≡ bumped (time_of r.delay (local_in r k)) g (local_in r k) = raised.2 ∙ ap (λ y. bumped (time_of r.delay y) g y) here in
-    let time : c.in-Some.time ≡ bumped (time_of r.delay (local_in r k)) g (local_in r k) = raised.1 ∙ ap (λ y. bumped (time_of r.delay y) g y) here in
+    let stamp : c.in-Some.stamp ≡ with_bump (time_of r.delay (local_in r k)) g (local_in r k) = raised.2 ∙ ap (λ y. with_bump (time_of r.delay y) g y) here in
+    let time : c.in-Some.time ≡ with_bump (time_of r.delay (local_in r k)) g (local_in r k) = raised.1 ∙ ap (λ y. with_bump (time_of r.delay y) g y) here in
     let view : c.number.result ≡ x.here.number = c.number.ensures ∙ ap (λ y. y.here.number) kept in
-    let count : c.count.result ≡ count_in (bumped (time_of r.delay (local_in r k)) g (local_in r k)) g (local_in r k) = c.count.ensures ∙ λ j. count_in (time j) g (here j) in
+    let count : c.count.result ≡ count_in (with_bump (time_of r.delay (local_in r k)) g (local_in r k)) g (local_in r k) = c.count.ensures ∙ λ j. count_in (time j) g (here j) in
     let placed : c.from_parts.result ≡ record { first = at; ids = []; holder = Some to } = c.from_parts.ensures ∙ λ j. record { first = at; ids = c.new.ensures.items j; holder = Some to } in
     let made : Message = record {
       id = record { group = g; view = c.number.result; proc = q; count = c.count.result };

@@ -2,7 +2,7 @@ use Rattle.std.proofs.Common.{◌≡◌, ◌≢◌, ◌++◌, ◌∷◌, [], Err
 use Rattle.std.proofs.lemmas.Bool.{false≢true}
 use Rattle.std.proofs.lemmas.List.{take_more, take_all}
 use Rattle.cast_events.specs.declared.log.Fault.TheVariants.{NoMemory}
-use Rattle.cast_table.specs.Tables.{AreApplied, domains_of, lent}
+use Rattle.cast_table.specs.Tables.{AreApplied, domains_of, lent_of}
 use Rattle.cast_isolation.specs.Replays.{lacks_memory}
 use Rattle.cast_isolation.proofs.Each.{applied_more}
 use Rattle.cast_isolation.proofs.replays.apply_each.Goals as goal
@@ -10,7 +10,7 @@ use Rattle.cast_isolation.proofs.replays.apply_each.Goals as goal
 pub loop-event-init : goal.loop-event-init
 loop-event-init g c =
     let table = c.args.table.now in
-    let l = lent table c.args.outs.now in
+    let l = lent_of table c.args.outs.now in
     subst (λ given. AreApplied given [] (domains_of table) (domains_of table) l l) (sym c.new-answers.ensures) (refl, refl)
 
 pub loop-event-preserved : goal.loop-event-preserved
@@ -20,9 +20,9 @@ loop-event-preserved g c =
     let e = c.event-item.result in
     let old = domains_of c.args.table.now in
     let new = domains_of c.apply-answer.new.self in
-    let first = lent c.args.table.now c.args.outs.now in
-    let last = lent c.loop-event.table c.loop-event.outs in
-    let next = lent c.apply-answer.new.self c.apply-answer.new.outs in
+    let first = lent_of c.args.table.now c.args.outs.now in
+    let last = lent_of c.loop-event.table c.loop-event.outs in
+    let next = lent_of c.apply-answer.new.self c.apply-answer.new.outs in
     let begun : c.apply-answer.result ≢ Err NoMemory = λ is. false≢true (sym c.if-lacks_memory.false ∙ c.lacks_memory.ensures ∙ ap lacks_memory is) in
     let one : take i events ++ e ∷ [] ≡ take (i + 1) events =
     ap (λ x. take i events ++ x ∷ []) c.event-item.is ∙ sym (take_more events i e c.loop-event-test.true) in

@@ -2,7 +2,7 @@ use Rattle.std.proofs.Common.{◌≡◌, ◌∙◌, ◌++◌, ◌+◌, ◌∷◌
 use Rattle.std.specs.Option.{option_to_list}
 use Rattle.std.proofs.lemmas.List.{append-nil, drop_all}
 use Rattle.cast_events.specs.declared.log.Given.{Given}
-use Rattle.cast_table.specs.Tables.{domains_of, picked}
+use Rattle.cast_table.specs.Tables.{domains_of, pick_domains}
 use Rattle.cast_isolation.specs.Replays.{given_of}
 use Rattle.cast_isolation.proofs.Back.{picked_more}
 use Rattle.cast_isolation.proofs.replays.given_by_all.Goals as goal
@@ -11,8 +11,8 @@ use Rattle.cast_isolation.proofs.replays.given_by_all.Goals.{in-Some+in_ok-given
 pub loop-config-init : goal.loop-config-init
 loop-config-init c =
     let items = c.as_slice-config-items.result.now in
-    ap (λ front. front ++ map (given_of c.args.outs.now) (picked items c.into_domains-domains.result.items)) c.new-given.ensures
-    ∙ ap (λ ds. map (given_of c.args.outs.now) (picked items ds)) c.into_domains-domains.ensures
+    ap (λ front. front ++ map (given_of c.args.outs.now) (pick_domains items c.into_domains-domains.result.items)) c.new-given.ensures
+    ∙ ap (λ ds. map (given_of c.args.outs.now) (pick_domains items ds)) c.into_domains-domains.ensures
 
 pub loop-config-preserved : goal.loop-config-preserved
 loop-config-preserved c =
@@ -32,8 +32,8 @@ loop-config-preserved c =
           ∙ sym (append-nil c.loop-config.given)
           ∙ sym (ap (λ o. c.loop-config.given ++ map (given_of outs) (option_to_list o)) w.in_default.is)
     ] in
-    ap (λ front. front ++ map (given_of outs) (picked (drop (i + 1) items) c.take_of.new.domains.items)) same
-    ∙ ap (λ rest. (c.loop-config.given ++ map (given_of outs) (option_to_list c.take_of.result)) ++ map (given_of outs) (picked (drop (i + 1) items) rest)) c.take_of.ensures.others
+    ap (λ front. front ++ map (given_of outs) (pick_domains (drop (i + 1) items) c.take_of.new.domains.items)) same
+    ∙ ap (λ rest. (c.loop-config.given ++ map (given_of outs) (option_to_list c.take_of.result)) ++ map (given_of outs) (pick_domains (drop (i + 1) items) rest)) c.take_of.ensures.others
     ∙ sym more
     ∙ c.loop-config.invariant
 
@@ -42,6 +42,6 @@ returns c =
     let none : drop c.loop-config.config-index c.as_slice-config-items.result.now ≡ [] =
     drop_all c.loop-config.config-index c.as_slice-config-items.result.now c.loop-config-test.false in
     sym (append-nil c.loop-config.given)
-    ∙ sym (ap (λ rest. c.loop-config.given ++ map (given_of c.args.outs.now) (picked rest c.loop-config.domains.items)) none)
+    ∙ sym (ap (λ rest. c.loop-config.given ++ map (given_of c.args.outs.now) (pick_domains rest c.loop-config.domains.items)) none)
     ∙ c.loop-config.invariant
-    ∙ ap (λ cs. map (given_of c.args.outs.now) (picked cs (domains_of c.args.table))) c.as_slice-config-items.ensures
+    ∙ ap (λ cs. map (given_of c.args.outs.now) (pick_domains cs (domains_of c.args.table))) c.as_slice-config-items.ensures

@@ -1,9 +1,9 @@
 use Rattle.std.proofs.Common.{◌≡◌, ◌++◌, take, drop}
-use Rattle.cast_order.specs.Hand.{hand_in, held}
+use Rattle.cast_order.specs.Hand.{hand_in, hold_from}
 use Rattle.cast_order.proofs.hand.hold_in.Given as goal
 
 -- the hands that were passed are changed, and the others will be
 abbrev pub invariant-loop-hand : goal.invariant-loop-hand
 invariant-loop-hand l =
-    take l.hand-index l.hand-items ++ hand_in l.process (held l.first) (drop l.hand-index l.hand-items)
-    ≡ hand_in l.process (held l.first) l.fn.hands.items
+    take l.hand-index l.hand-items ++ hand_in l.process (hold_from l.first) (drop l.hand-index l.hand-items)
+    ≡ hand_in l.process (hold_from l.first) l.fn.hands.items

@@ -1,10 +1,10 @@
 use Rattle.std.proofs.Common.{◌≡◌, ◌++◌, take, drop}
-use Rattle.cast_order.specs.Hand.{handed}
+use Rattle.cast_order.specs.Hand.{hand_over}
 use Rattle.cast_order.specs.Log.{change_in, with_hand}
 use Rattle.cast_order.proofs.orders.hand_token_in.Given as goal
 
 -- the logs that were passed are changed, and the others will be
 abbrev pub invariant-loop-log : goal.invariant-loop-log
 invariant-loop-log l =
-    take l.log-index l.log-items ++ change_in l.group (with_hand l.process handed) (drop l.log-index l.log-items)
-    ≡ change_in l.group (with_hand l.process handed) l.fn.logs.items
+    take l.log-index l.log-items ++ change_in l.group (with_hand l.process hand_over) (drop l.log-index l.log-items)
+    ≡ change_in l.group (with_hand l.process hand_over) l.fn.logs.items

@@ -1,10 +1,10 @@
 use Rattle.std.proofs.Common.{◌≡◌, ◌++◌, take, drop}
-use Rattle.cast_order.specs.Hand.{held}
+use Rattle.cast_order.specs.Hand.{hold_from}
 use Rattle.cast_order.specs.Log.{change_in, with_hand}
 use Rattle.cast_order.proofs.orders.hold_token_in.Given as goal
 
 -- the logs that were passed are changed, and the others will be
 abbrev pub invariant-loop-log : goal.invariant-loop-log
 invariant-loop-log l =
-    take l.log-index l.log-items ++ change_in l.group (with_hand l.process (held l.first)) (drop l.log-index l.log-items)
-    ≡ change_in l.group (with_hand l.process (held l.first)) l.fn.logs.items
+    take l.log-index l.log-items ++ change_in l.group (with_hand l.process (hold_from l.first)) (drop l.log-index l.log-items)
+    ≡ change_in l.group (with_hand l.process (hold_from l.first)) l.fn.logs.items

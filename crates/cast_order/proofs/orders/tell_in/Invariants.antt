@@ -1,10 +1,10 @@
 use Rattle.std.proofs.Common.{◌≡◌, ◌++◌, take, drop}
-use Rattle.cast_order.specs.Hand.{told}
+use Rattle.cast_order.specs.Hand.{note_unlisted}
 use Rattle.cast_order.specs.Log.{change_in, with_hand}
 use Rattle.cast_order.proofs.orders.tell_in.Given as goal
 
 -- the logs that were passed are changed, and the others will be
 abbrev pub invariant-loop-log : goal.invariant-loop-log
 invariant-loop-log l =
-    take l.log-index l.log-items ++ change_in l.group (with_hand l.process (told l.id)) (drop l.log-index l.log-items)
-    ≡ change_in l.group (with_hand l.process (told l.id)) l.fn.logs.items
+    take l.log-index l.log-items ++ change_in l.group (with_hand l.process (note_unlisted l.id)) (drop l.log-index l.log-items)
+    ≡ change_in l.group (with_hand l.process (note_unlisted l.id)) l.fn.logs.items

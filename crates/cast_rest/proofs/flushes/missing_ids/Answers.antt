@@ -1,5 +1,5 @@
 use Rattle.std.proofs.Common.{◌++◌, ◌∙◌, not, ◌&&◌, filter, length, take, ap, arith}
-use Rattle.cast_ready.specs.Ready.{covered}
+use Rattle.cast_ready.specs.Ready.{covered_entries}
 use Rattle.cast_events.specs.Outs.{no_outs}
 use Rattle.cast_domain.specs.Records.{records_of}
 use Rattle.cast_domain.specs.Shared.{no_part}
@@ -13,7 +13,7 @@ loop-proc-init c =
     let x = record_at c.args.domain.now.groups.items c.args.place in
     record {
       few = omega (arith, ap length c.new-missing.ensures.items);
-      all = λ j. take 64 (c.new-missing.ensures.items j ++ filter (λ e. is_awaited_of r x e && not (is_received_of r x e)) (covered (c.entries-proc-items.ensures.value j)));
+      all = λ j. take 64 (c.new-missing.ensures.items j ++ filter (λ e. is_awaited_of r x e && not (is_received_of r x e)) (covered_entries (c.entries-proc-items.ensures.value j)));
     }
 
 pub add_missing-requires : goal.add_missing-requires

@@ -1,5 +1,5 @@
 use Rattle.std.proofs.Common.{◌≡◌, ◌∙◌, ap}
-use Rattle.cast_clock.specs.Times.{bumped, count_in}
+use Rattle.cast_clock.specs.Times.{with_bump, count_in}
 use Rattle.cast_message.specs.declared.message.Body.TheVariants as body
 use Rattle.cast_message.specs.declared.message.Message.{Message}
 use Rattle.cast_rules.specs.Rules.Sending.{send_message}
@@ -19,8 +19,8 @@ returns-clause-made c =
     let i = c.args.place in
     let name : c.record.result.now.name ≡ (record_at r.groups i).name = ap (λ x. x.name) c.record.ensures in
     let view : c.number-view.result ≡ (record_at r.groups i).here.number = c.number-view.ensures ∙ ap (λ x. x.here.number) c.record-2.ensures in
-    let time : c.args.time ≡ bumped (time_of r.delay p) (record_at r.groups i).name p = c.requires.raised in
-    let count : c.count-count.result ≡ count_in (bumped (time_of r.delay p) (record_at r.groups i).name p) (record_at r.groups i).name p = c.count-count.ensures ∙ λ j. count_in (time j) (name j) (own j) in
+    let time : c.args.time ≡ with_bump (time_of r.delay p) (record_at r.groups i).name p = c.requires.raised in
+    let count : c.count-count.result ≡ count_in (with_bump (time_of r.delay p) (record_at r.groups i).name p) (record_at r.groups i).name p = c.count-count.ensures ∙ λ j. count_in (time j) (name j) (own j) in
     let made : Message = record {
       id = record { group = c.record.result.now.name; view = c.number-view.result; proc = c.process-holder.result; count = c.count-count.result };
       times = c.args.stamp;

@@ -1,6 +1,6 @@
 use Rattle.std.proofs.Common.{◌≡◌, ◌∙◌, sym, ap, true, not, Some, length, arith}
 use Rattle.std.specs.Prelude.{◌&&◌}
-use Rattle.cast_clock.specs.Times.{bumped}
+use Rattle.cast_clock.specs.Times.{with_bump}
 use Rattle.cast_ready.specs.Ready.{is_member}
 use Rattle.cast_order.specs.Log.{log_of, next_places}
 use Rattle.cast_rules.specs.Rules.Room.{may_order}
@@ -40,7 +40,7 @@ returns-in_default-2-clause-made c =
     (λ j. is_member (standing_of r.delay (sym p j) (record_at r.groups c.args.place).name) && (not (record_at r.groups c.args.place).here.frozen && may_order records r)) ∙ sym c.may_list.ensures ∙ c.if-not-may_list.false in
     let next : next_places (log_of r.orders (record_at r.groups i).name) (local_in r c.args.serial) ≡ Some c.in-Some.places =
     (λ j. next_places (log_of r.orders (sym name j)) (sym p j)) ∙ sym c.in_ok-places.ensures ∙ c.in-Some.is in
-    let raised = raised_none (may_raise (time_of r.delay holder) h holder) (bumped (time_of r.delay holder) h holder) (sym c.in_default-2.is ∙ c.in_ok-time.ensures) in
+    let raised = raised_none (may_raise (time_of r.delay holder) h holder) (with_bump (time_of r.delay holder) h holder) (sym c.in_default-2.is ∙ c.in_ok-time.ensures) in
     sym (places_unraised r i c.args.serial c.in-Some.places may next ((λ j. may_raise (time_of r.delay (sym p j)) (sym name j) (sym p j)) ∙ raised))
 
 pub returns-clause-made : goal.returns-clause-made
@@ -55,7 +55,7 @@ returns-clause-made c =
     (λ j. is_member (standing_of r.delay (sym p j) (record_at r.groups c.args.place).name) && (not (record_at r.groups c.args.place).here.frozen && may_order records r)) ∙ sym c.may_list.ensures ∙ c.if-not-may_list.false in
     let next : next_places (log_of r.orders (record_at r.groups i).name) (local_in r c.args.serial) ≡ Some c.in-Some.places =
     (λ j. next_places (log_of r.orders (sym name j)) (sym p j)) ∙ sym c.in_ok-places.ensures ∙ c.in-Some.is in
-    let raised = raised_some (may_raise (time_of r.delay holder) h holder) (bumped (time_of r.delay holder) h holder) c.in-Some-2.time c.in-Some-2.stamp (sym c.in-Some-2.is ∙ c.in_ok-time.ensures) in
+    let raised = raised_some (may_raise (time_of r.delay holder) h holder) (with_bump (time_of r.delay holder) h holder) c.in-Some-2.time c.in-Some-2.stamp (sym c.in-Some-2.is ∙ c.in_ok-time.ensures) in
     c.let_go.ensures.made
     ∙ ap (release.let_go records resting_records) c.in_ok-send_places.ensures.made
     ∙ sym (places_made r i c.args.serial c.in-Some.places may next ((λ j. may_raise (time_of r.delay (sym p j)) (sym name j) (sym p j)) ∙ raised.0))
@@ -67,8 +67,8 @@ send_places-requires-clause-raised c =
     let holder = c.process-holder.result in
     let h = c.record.result.now.name in
     let name : h ≡ (record_at r.groups c.args.place).name = ap (λ x. x.name) c.record.ensures in
-    let raised = raised_some (may_raise (time_of r.delay holder) h holder) (bumped (time_of r.delay holder) h holder) c.in-Some-2.time c.in-Some-2.stamp (sym c.in-Some-2.is ∙ c.in_ok-time.ensures) in
-    raised.1 ∙ λ j. bumped (time_of r.delay (p j)) (name j) (p j)
+    let raised = raised_some (may_raise (time_of r.delay holder) h holder) (with_bump (time_of r.delay holder) h holder) c.in-Some-2.time c.in-Some-2.stamp (sym c.in-Some-2.is ∙ c.in_ok-time.ensures) in
+    raised.1 ∙ λ j. with_bump (time_of r.delay (p j)) (name j) (p j)
 
 pub returns-clause-len : goal.returns-clause-len
 returns-clause-len c =

@@ -2,7 +2,7 @@ use Rattle.std.proofs.Common.{◌≡◌, ◌∙◌, ◌-◌, ◌<◌, ℕ, sym, 
 use Rattle.std.proofs.lemmas.Bool.{lt-ltb}
 use Rattle.std.proofs.lemmas.List.{length-drop}
 use Rattle.cast_flush.proofs.Each.{length_filter}
-use Rattle.cast_types.specs.Names.{named}
+use Rattle.cast_types.specs.Names.{uid_in}
 use Rattle.cast_types.specs.declared.limits.TheConstants.{MAX_UNSETTLED}
 use Rattle.cast_delay.specs.Queue.{delivered_in}
 use Rattle.cast_events.specs.Outs.{no_outs}
@@ -20,7 +20,7 @@ returns-then-saturating_add-lt-MAX_UNSETTLED c =
     let r = records_of d no_part no_outs in
     let l : Log = log_of d.orders x.name in
     let m : ℕ = settled_at r p x in
-    let few = length_filter (λ e. delivered_in r.delay p (named x.name x.here.number e)) (known_past m l) in
+    let few = length_filter (λ e. delivered_in r.delay p (uid_in x.name x.here.number e)) (known_past m l) in
     let past = length-drop (m - l.base) l.window in
     let waiting : c.waiting_past.result ≡ waiting_past l p m = c.waiting_past.ensures ∙ ap (waiting_past l p) c.settled_to-settled.ensures in
     let known = c.saturating_sub-known.ensures in

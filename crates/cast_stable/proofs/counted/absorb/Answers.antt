@@ -1,6 +1,6 @@
 use Rattle.std.proofs.Common.{◌≡◌, ◌≢◌, ◌+◌, sym, ap, ◌∙◌, arith}
 use Rattle.std.proofs.lemmas.Grind.{common_steps}
-use Rattle.cast_stable.specs.Runs.{Run, absorbed}
+use Rattle.cast_stable.specs.Runs.{Run, absorb}
 use Rattle.cast_stable.proofs.Runs.{absorbed_apart}
 use Rattle.cast_stable.proofs.counted.absorb.Goals as goal
 
@@ -8,7 +8,7 @@ use Rattle.cast_stable.proofs.counted.absorb.Goals as goal
 stopped : (c : goal.Then-ne) → c.in-Some.next.now ≢ c.loop-next.last + 1
 stopped c = grind (arith, common_steps)
 
-ends : (c : goal.Then-ne) → absorbed c.args.count c.args.above.now.keys ≡ record { upto = c.loop-next.last; above = c.loop-next.above.keys }
+ends : (c : goal.Then-ne) → absorb c.args.count c.args.above.now.keys ≡ record { upto = c.loop-next.last; above = c.loop-next.above.keys }
 ends c =
     sym c.loop-next.invariant
     ∙ absorbed_apart c.loop-next.last c.in-Some.next.now c.loop-next.above.keys c.in-Some.ensures.first (stopped c)

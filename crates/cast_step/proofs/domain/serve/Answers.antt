@@ -2,7 +2,7 @@ use Rattle.cast_rules.specs.Rest.{let_go}
 use Rattle.std.proofs.Common.{rules, ◌≡◌, ◌++◌, ◌∙◌, sym, ap, subst}
 use Rattle.cast_events.specs.declared.config.DomainConfig.{DomainConfig}
 use Rattle.cast_rules.specs.Run.{before_event}
-use Rattle.cast_rules.specs.Step.{acted}
+use Rattle.cast_rules.specs.Step.{act_of_event}
 use Rattle.cast_domain.specs.Shared.{part_of}
 use Rattle.cast_events.specs.Outs.{no_outs, outs_then}
 use Rattle.cast_domain.specs.Records.{Records, records_in, records_of}
@@ -49,22 +49,22 @@ returns-clause-steps c s means =
     let lawful = lawful_before s means.lawful in
     let acted_records = records_in c.act.new.domain c.act.new.lent in
     let made : acted_records ≡ acted_in r e = c.in_ok-taken.ensures.made ∙ ap (λ o. acted_in (records_of here part o) e) c.new-step.ensures in
-    let acts : Fits acted_records (acted b e) = subst (λ x. Fits x (acted b e)) (sym made) (fits_acted r b e means.fits lawful typed) in
-    let acts_lawful : IsLawful (acted b e) = lawful_acted b e lawful (unborn r b means.fits) typed in
+    let acts : Fits acted_records (act_of_event b e) = subst (λ x. Fits x (act_of_event b e)) (sym made) (fits_acted r b e means.fits lawful typed) in
+    let acts_lawful : IsLawful (act_of_event b e) = lawful_acted b e lawful (unborn r b means.fits) typed in
     let acts_dismissed : AreDismissed acted_records = subst AreDismissed (sym made) (dismissed_acted r b e means.fits typed means.dismissed) in
     let acts_freed : AreFreedBy e acted_records = subst (AreFreedBy e) (sym made) (freed_acted r e means.freed) in
     let left : Records = records_in c.let_go_after.new.domain c.let_go_after.new.lent in
     let lets_go = c.let_go_after.ensures.made acts_freed in
-    let after : Fits left (let_go (acted b e)) = subst (λ x. Fits x (let_go (acted b e))) (sym lets_go) (fits_let_go acted_records (acted b e) acts acts_lawful) in
+    let after : Fits left (let_go (act_of_event b e)) = subst (λ x. Fits x (let_go (act_of_event b e))) (sym lets_go) (fits_let_go acted_records (act_of_event b e) acts acts_lawful) in
     let after_dismissed : AreDismissed left = subst AreDismissed (sym lets_go) (dismissed_let_go acted_records acts_dismissed) in
     let after_freed : AreNotFree left = c.let_go_after.ensures.none acts_freed in
-    let after_lawful = lawful_let_go (acted b e) acts_lawful in
-    let rested = c.in_ok-rest.ensures.rests after_freed (let_go (acted b e)) after after_lawful in
+    let after_lawful = lawful_let_go (act_of_event b e) acts_lawful in
+    let rested = c.in_ok-rest.ensures.rests after_freed (let_go (act_of_event b e)) after after_lawful in
     let t = rested.0 in
     let fits = rested.2 in
     let lent = c.rest.new.lent in
     let same : c.rest.new.domain.config.domain ≡ here.config.domain = ap (λ (k : DomainConfig). k.domain) (c.in_ok-rest.ensures.stays.same.config ∙ c.let_go_after.ensures.stays.same.config ∙ c.in_ok-taken.ensures.same.1) in
-    let last_lawful = lawful_rests (let_go (acted b e)) t after_lawful rested.1 in
+    let last_lawful = lawful_rests (let_go (act_of_event b e)) t after_lawful rested.1 in
     let rested_records = records_of c.rest.new.domain (part_of c.rest.new.domain.config.domain lent.shared.now) lent.outs.now in
     let trimmed : Fits (records_of c.trim_orders.new.domain (part_of c.rest.new.domain.config.domain lent.shared.now) lent.outs.now) t =
     subst (λ x. Fits x t) (sym (c.trim_orders.ensures.made lent.outs.now (part_of c.rest.new.domain.config.domain lent.shared.now)))

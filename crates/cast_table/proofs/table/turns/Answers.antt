@@ -1,6 +1,6 @@
 use Rattle.std.proofs.Common.{◌≡◌, ◌++◌, ◌∙◌, length, get_or, take, sym, ap, subst, arith}
 use Rattle.std.proofs.lemmas.List.{length-append}
-use Rattle.cast_table.specs.Tables.{AreTurns, lending, stopped}
+use Rattle.cast_table.specs.Tables.{AreTurns, lending, halted_in_turn}
 use Rattle.cast_table.proofs.Turns.{Turned, turned_none, turned_more, turned_all, written}
 use Rattle.cast_table.proofs.table.turns.Goals as goal
 
@@ -15,7 +15,7 @@ pub turn-requires : goal.turn-requires
 turn-requires c =
     let turned = c.loop-domain.invariant.0 in
     let room = c.loop-domain.invariant.1 in
-    let sizes = ap length turned.noted ∙ length-append c.args.halted.now.items (stopped (take c.loop-domain.domain-index c.args.domains.now.items) (take c.loop-domain.domain-index c.loop-domain.domain-items)) in
+    let sizes = ap length turned.noted ∙ length-append c.args.halted.now.items (halted_in_turn (take c.loop-domain.domain-index c.args.domains.now.items) (take c.loop-domain.domain-index c.loop-domain.domain-items)) in
     let few = turned.few in
     let all = ap length c.deref_mut-domain-items.ensures.value in
     omega (arith, sizes, few, room, all, c.requires.room, c.loop-domain-test.true, c.args.domains.now.ok.0)
@@ -46,5 +46,5 @@ returns-clause-noted c =
     let all = ap length c.deref_mut-domain-items.ensures.value in
     let long : length c.loop-domain.domain-items ≡ length c.args.domains.now.items = c.loop-domain.auto.domain-items ∙ all in
     (turned_all c.args.event.now c.args.domains.now.items c.loop-domain.domain-items c.loop-domain.domain-index _ _ long (omega (arith, c.loop-domain-test.false, c.loop-domain.auto.domain-items)) c.loop-domain.invariant.0).1
-    ∙ ap (λ news. c.args.halted.now.items ++ stopped c.args.domains.now.items news)
+    ∙ ap (λ news. c.args.halted.now.items ++ halted_in_turn c.args.domains.now.items news)
     (sym (written c.loop-domain.domain-items c.args.domains.now.items c.args.domains.now.len long c.args.domains.now.ok.0))

@@ -1,18 +1,18 @@
 use Rattle.std.proofs.Common.{◌≡◌, sym, ◌∙◌}
-use Rattle.cast_clock.specs.Times.{clock_of, has_room, bumped}
+use Rattle.cast_clock.specs.Times.{clock_of, has_room, with_bump}
 use Rattle.cast_clock.proofs.Valid.{is_time-put, bumped_fits, bumped_valid}
 use Rattle.cast_clock.proofs.times.Times.bump.Goals as goal
 
 pub returns-then-not-has_place-clause-too_many : goal.returns-then-not-has_place-clause-too_many
 returns-then-not-has_place-clause-too_many c = λ _.
     let is : c.in_ok-clock.clock ≡ clock_of c.self.inside.clocks.items c.args.group = cc (c.in_ok-clock.ensures, c.deref.ensures.value) in
-    let fits : has_room (bumped c.self.inside.clocks.items c.args.group c.args.process) ≡ c.has_place.result = bumped_fits c.self.inside.clocks.items c.args.group c.args.process c.in_ok-clock.clock c.get-count.result c.has_place.result c.self.invariant is c.get-count.ensures c.has_place.ensures in
+    let fits : has_room (with_bump c.self.inside.clocks.items c.args.group c.args.process) ≡ c.has_place.result = bumped_fits c.self.inside.clocks.items c.args.group c.args.process c.in_ok-clock.clock c.get-count.result c.has_place.result c.self.invariant is c.get-count.ensures c.has_place.ensures in
     cc (fits, c.self.view_is, c.if-not-has_place.true)
 
 pub returns-clause-fits : goal.returns-clause-fits
 returns-clause-fits c =
     let is : c.in_ok-clock.clock ≡ clock_of c.self.inside.clocks.items c.args.group = cc (c.in_ok-clock.ensures, c.deref.ensures.value) in
-    let fits : has_room (bumped c.self.inside.clocks.items c.args.group c.args.process) ≡ c.has_place.result = bumped_fits c.self.inside.clocks.items c.args.group c.args.process c.in_ok-clock.clock c.get-count.result c.has_place.result c.self.invariant is c.get-count.ensures c.has_place.ensures in
+    let fits : has_room (with_bump c.self.inside.clocks.items c.args.group c.args.process) ≡ c.has_place.result = bumped_fits c.self.inside.clocks.items c.args.group c.args.process c.in_ok-clock.clock c.get-count.result c.has_place.result c.self.invariant is c.get-count.ensures c.has_place.ensures in
     cc (fits, c.self.view_is, c.if-not-has_place.false)
 
 pub invariant_of-self-2 : goal.invariant_of-self-2

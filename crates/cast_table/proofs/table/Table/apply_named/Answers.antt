@@ -1,6 +1,6 @@
 use Rattle.std.proofs.Common.{◌≡◌, ◌++◌, ◌∙◌, Some, slice_set, sym, ap, subst, arith}
 use Rattle.cast_table.specs.declared.table.Table.{Table}
-use Rattle.cast_table.specs.Tables.{IsAppliedAt, Lent, halted_by, lent, place_named}
+use Rattle.cast_table.specs.Tables.{IsAppliedAt, Lent, halted_by, lent_of, place_named}
 use Rattle.cast_table.proofs.Applies.{not_begun, turn_applied, turn_noted}
 use Rattle.cast_table.proofs.Numbers.{named_same, numbers_set, turn_number}
 use Rattle.cast_table.proofs.Places.{named_within}
@@ -31,7 +31,7 @@ returns-clause-applied c =
     let found : Some c.in-Some.place ≡ place_named c.args.number ds = c.in-Some.ensures ∙ c.self.invariant c.args.number in
     let rest = c.in-Ok.ensures.rest in
     let after : Lent = record { shared = c.turn-taken.new.shared; outs = record { frames = c.turn-taken.new.outs.frames; halted = c.from_vec.result; delivered = c.turn-taken.new.outs.delivered; pushed = c.turn-taken.new.outs.pushed } } in
-    subst (λ (t : Table). IsAppliedAt (place_named c.args.number t.domains) c.turn-taken.result c.args.event.now t.domains (slice_set ds c.in-Some.place c.turn-taken.new.domain) (lent t c.args.outs.now) after) c.self.view_is
+    subst (λ (t : Table). IsAppliedAt (place_named c.args.number t.domains) c.turn-taken.result c.args.event.now t.domains (slice_set ds c.in-Some.place c.turn-taken.new.domain) (lent_of t c.args.outs.now) after) c.self.view_is
     (turn_applied c.args.number c.in-Some.place c.args.event.now ds found (named_within c.args.number ds c.in-Some.place found) c.index_mut-domain.result.now c.turn-taken.new.domain c.index_mut-domain.ensures.value c.turn-taken.result _ _ c.turn-taken.ensures.turn _ _
     (λ i. record { shared = c.self.inside.shared; outs = record { frames = rest.0 i; halted = c.in-Ok.ensures.taken i; delivered = rest.1 i; pushed = rest.2 i } })
     (λ i. record { shared = c.turn-taken.new.shared; outs = record { frames = c.turn-taken.new.outs.frames; halted = sym c.from_vec.ensures i; delivered = c.turn-taken.new.outs.delivered; pushed = c.turn-taken.new.outs.pushed } }))

@@ -1,7 +1,7 @@
 use Rattle.std.proofs.Common.{◌≡◌, List, sym, ap, ◌∙◌}
 use Rattle.cast_types.specs.declared.names.Proc.{Proc}
 use Rattle.cast_view.specs.declared.phase.Phase.{Phase}
-use Rattle.cast_view.specs.Home.{Home, decided, decided_list, decided_phase}
+use Rattle.cast_view.specs.Home.{Home, decide_view, decided_list, decided_phase}
 use Rattle.cast_view.specs.contracts.home.HomeSide.{the_view}
 use Rattle.cast_view.proofs.Flushes.{decision_taken}
 use Rattle.cast_view.proofs.home.HomeSide.decide.Goals as goal
@@ -17,6 +17,6 @@ returns-clause-new c =
     ∙ ap (λ (l : List Proc). decided_phase old l c.self.inside.flush) (c.in_ok-list.ensures.value ∙ ap decided_list (sym c.self.view_is)) in
     c.set_phase.ensures
     ∙ ap (λ (h : Home). record h { phase = c.in_ok-phase.phase }) c.pass_to.ensures
-    ∙ ap (λ (p : Phase). record (decided old) { phase = p }) phases
-    ∙ ap decided c.self.view_is
+    ∙ ap (λ (p : Phase). record (decide_view old) { phase = p }) phases
+    ∙ ap decide_view c.self.view_is
     ∙ decision_taken c.args.group c.args.self.now (sym c.in_ok-may_decide.ensures ∙ c.if-not-branch.false)

@@ -3,7 +3,7 @@ use Rattle.cast_types.specs.declared.names.SiteNo.{SiteNo}
 use Rattle.cast_types.specs.declared.names.Proc.{Proc}
 use Rattle.cast_types.specs.Names.{site_eq}
 use Rattle.cast_types.specs.Sets.{is_among}
-use Rattle.cast_view.specs.Home.{Home, is_sound, decided, decided_list, decided_holder}
+use Rattle.cast_view.specs.Home.{Home, is_sound, decide_view, decided_list, decided_holder}
 use Rattle.cast_view.specs.contracts.home.HomeSide.{the_view}
 use Rattle.cast_view.proofs.Flushes.{passed_parts}
 use Rattle.cast_view.proofs.Rooms.{sound_passed}
@@ -22,7 +22,7 @@ returns c =
     (c.keep_at.ensures ∙ ap (λ (s : List SiteNo). filter (λ p. is_among site_eq p.site s) c.self.inside.joins) sites)
     c.new-2.ensures
     (ap (λ (v : Vec SiteNo Global). v.items) c.replace-suspected.ensures.after ∙ c.new.ensures.items)
-    ∙ ap (λ (h : Home). record (decided h) { phase = h.phase }) c.self.view_is
+    ∙ ap (λ (h : Home). record (decide_view h) { phase = h.phase }) c.self.view_is
 
 -- and it has room
 pub invariant_of-self : goal.invariant_of-self
