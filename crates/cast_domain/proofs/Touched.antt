@@ -27,14 +27,18 @@ use Rattle.cast_stable.specs.Acks.{Acks, acked_run, told_count, is_received_in, 
 use Rattle.cast_stable.proofs.Witnesses.{witness_total, witness_exact, put_elsewhere}
 use Rattle.cast_events.specs.declared.event.Event.{Event}
 use Rattle.cast_events.specs.declared.event.Event.TheVariants as event
+use Rattle.cast_events.specs.Session.{is_gone_status}
+use Rattle.cast_quota.specs.Quotas.{is_in_range}
 use Rattle.cast_rules.specs.Rules.Keys.{message_key}
+use Rattle.cast_rules.specs.Rules.Events.{is_taken}
 use Rattle.cast_rules.specs.Rules.Owing.{frame_for, send_for, owe}
 use Rattle.cast_rules.specs.Rules.Room.{may_take}
 use Rattle.cast_rules.specs.Rules.Data.{is_used, is_outdated, acknowledge, want_no_more, use_data, on_data}
 use Rattle.cast_rules.specs.Rules.Stability.{is_used_ack, with_ack, tell_stable, tell_more, on_ack, on_stable}
 use Rattle.cast_rules.specs.Rules.Frames.{framed, group_of, on_frame}
+use Rattle.cast_domain.specs.GivenSessions.{status_in}
 use Rattle.cast_domain.specs.Records.{Records}
-use Rattle.cast_domain.specs.Calls.{place_in, record_at, is_open_in, send_in, note_owed_in, pay_upto_in, note_ack_in, note_stable_in, receive_in, acted_in, records}
+use Rattle.cast_domain.specs.Calls.{place_in, record_at, is_open_in, send_in, note_owed_in, pay_upto_in, note_ack_in, note_stable_in, receive_in, set_quota_in, take_entries_in, acted_in, records}
 use Rattle.cast_domain.specs.Trims.{trim_in, trim_all_in}
 use Rattle.cast_domain.specs.Freed.{AreNotFree, AreNotFreeBut, AreFreedBy}
 
@@ -187,6 +191,15 @@ freed_acted r (event.Frame d from (frame.Ack u)) none =
 freed_acted r (event.Frame d from (frame.Stable u)) none =
     let only : Only u r = λ y there apart. none y there in
     framed_only (Only u) r only from (frame.Stable u) (λ i. only_on_stable u r only i from)
+freed_acted r (event.Quota d name value) none = elim (is_in_range name value) as (λ b. AreNotFree (if b then set_quota_in r name value else r)) [
+  | true ↦ none
+  | false ↦ none
+]
+freed_acted r (event.Take d k most) none =
+    elim (not (is_gone_status (status_in r.sessions k)) && is_taken most) as (λ b. AreNotFree (if b then take_entries_in r k most else r)) [
+      | true ↦ none
+      | false ↦ none
+    ]
 freed_acted r e none = tt
 
 -- What a domain forgets of its orders sets nothing free

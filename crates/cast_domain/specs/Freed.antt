@@ -1,5 +1,5 @@
 -- Which kept messages are free.
-use Rattle.std.specs.Prelude.{◌≡◌, ◌≢◌, true, false, Contains, Option, Some, None, IfSome}
+use Rattle.std.specs.Prelude.{◌≡◌, ◌≢◌, Bool, true, false, Contains, Option, Some, None, ⊤}
 use Rattle.cast_types.specs.declared.names.Key.{Key}
 use Rattle.cast_types.specs.declared.source.Source.{Source}
 use Rattle.cast_types.specs.Sources.{source_of}
@@ -31,6 +31,18 @@ source_freed (event.Frame d from (frame.Ack u)) = Some (source_of u)
 source_freed (event.Frame d from (frame.Stable u)) = Some (source_of u)
 source_freed e = None
 
+-- an event is one that sets no message free: entries of an outbox are taken, or a quota gets another value
+abbrev pub frees_nothing : Event → Bool
+frees_nothing (event.Quota d name value) = true
+frees_nothing (event.Take d k most) = true
+frees_nothing e = false
+
+-- none is free where nothing was set free, and none but such as are of a source where that is known
+abbrev pub AreFreed : Bool → Option Source → Records → Type 0
+AreFreed true o r = AreNotFree r
+AreFreed false None r = ⊤
+AreFreed false (Some source) r = AreNotFreeBut source r
+
 -- none is free but such as an event can set free
 abbrev pub AreFreedBy : Event → Records → Type 0
-AreFreedBy e r = IfSome (source_freed e) (λ source. AreNotFreeBut source r)
+AreFreedBy e r = AreFreed (frees_nothing e) (source_freed e) r

@@ -5,7 +5,7 @@ ghost use Rattle.cast_domain.specs.Shows.{groups_shown};
 ghost use Rattle.cast_events.specs.Events.{domain_of};
 ghost use Rattle.cast_domain.specs.Stepped.{IsSteppedBeside, IsRefusedBeside};
 ghost use Rattle.cast_domain.specs.Calls.{answered_in, records, resting_records};
-ghost use Rattle.cast_domain.specs.Freed.{source_freed, AreNotFree, AreFreedBy};
+ghost use Rattle.cast_domain.specs.Freed.{frees_nothing, source_freed, AreNotFree, AreFreedBy};
 ghost use Rattle.cast_events.specs.declared.event.Outs.{Outs};
 ghost use Rattle.cast_rules.specs.Rules.Release.{let_go};
 
@@ -102,9 +102,22 @@ fn let_go_after(domain: &mut Domain, event: &Event, lent: &mut Lent<'_>)
     ensures made { AreFreedBy event.now (records_in domain.old lent.old) → Makes (let_go records resting_records) domain.old lent.old domain.new lent.new }
     ensures none { AreFreedBy event.now (records_in domain.old lent.old) → AreNotFree (records_in domain.new lent.new) }
 {
+    if sets_nothing_free(event) {
+        return;
+    }
     match source_set_free(event) {
         Some(source) => domain.let_go_of(source, lent),
         None => domain.let_go(lent),
+    }
+}
+
+// Whether an event sets no message free: entries of an outbox are taken, or a quota gets another value.
+fn sets_nothing_free(event: &Event) -> bool
+    ensures { result ≡ frees_nothing event.now }
+{
+    match event {
+        Event::Quota { .. } | Event::Take { .. } => true,
+        _ => false,
     }
 }
 
