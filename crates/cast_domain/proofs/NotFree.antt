@@ -1,5 +1,5 @@
 -- No kept message is free: what leaves that as it is, and what frees at most messages of one source.
-use Rattle.std.proofs.Common.{◌≡◌, ◌≢◌, ℕ, zero, suc, ◌+◌, Bool, true, false, cond, not, ◌&&◌, ◌||◌, List, [], ◌∷◌, Contains, Option, Some, None, unwrap_or, refl, sym, ap, subst, ◌∙◌}
+use Rattle.std.proofs.Common.{◌≡◌, ◌≢◌, ℕ, zero, suc, ◌+◌, true, false, cond, not, ◌&&◌, ◌||◌, List, [], ◌∷◌, Contains, Option, Some, None, unwrap_or, refl, sym, ap, subst, ◌∙◌}
 use Rattle.std.specs.Prelude.{nat_lt, if◌then◌else◌}
 use Rattle.std.specs.List.{fold}
 use Rattle.std.specs.Option.{option_map, option_map_or}

@@ -14,7 +14,7 @@ use Rattle.cast_domain.specs.Records.{number_of}
 use Rattle.cast_events.specs.declared.log.Fault.{Fault}
 use Rattle.cast_events.specs.declared.log.Fault.TheVariants.{NoMemory}
 use Rattle.cast_table.specs.Tables.{domain_eq, IsTurn, Lent}
-use Rattle.cast_table.specs.Owns.{is_configured, are_distinct, names, is_own}
+use Rattle.cast_table.specs.Owns.{is_configured, are_distinct, is_own}
 use Rattle.cast_table.proofs.Parts.{same_domain, domain_itself, domain_flipped}
 use Rattle.cast_table.proofs.Places.{none_some, same_some}
 use Rattle.cast_isolation.specs.Replays.{Served, served_as, IsAnswerOf}

@@ -1,7 +1,7 @@
 -- What an event does to what all domains stand for, and what its entry says of itself.
-use Rattle.std.proofs.Common.{◌≡◌, ◌≢◌, ℕ, zero, suc, Bool, true, false, ◌||◌, List, [], ◌∷◌, ◌++◌, Option, Some, None, Result, Ok, Err, slice_set, refl, sym, ap, subst, ◌∙◌}
+use Rattle.std.proofs.Common.{◌≡◌, ◌≢◌, ℕ, zero, suc, Bool, true, false, ◌||◌, List, [], ◌∷◌, Option, Some, None, Result, Ok, Err, slice_set, refl, sym, ap, subst, ◌∙◌}
 use Rattle.std.specs.Prelude.{slice_get, nat_le, if◌then◌else◌}
-use Rattle.std.specs.List.{AllZip, list_any}
+use Rattle.std.specs.List.{AllZip}
 use Rattle.std.specs.Option.{option_map_or}
 use Rattle.std.proofs.lemmas.Bool.{false≢true, and_from, or_left, or_right, or_from, or_parts, le-leb}
 use Rattle.std.proofs.lemmas.List.Folds.{list_any-append}
@@ -19,9 +19,9 @@ use Rattle.cast_domain.specs.declared.shared.Shared.{Shared}
 use Rattle.cast_domain.specs.Records.{number_of, is_halted}
 use Rattle.cast_domain.specs.Shared.{part_of, LeavesOthers}
 use Rattle.cast_domain.proofs.Shares.{others_part}
-use Rattle.cast_table.specs.Tables.{domain_eq, place_named, IsTurn, Lent, IsTurnAt, IsAppliedAt, IsAppliedTo, IsApplied, IsTicked, AreTurns, NotesHalts, NotesHaltsOf, NotesOne, answer_in_turn, halted_by, halted_in_turn, IsLeast, IsLeastOf}
+use Rattle.cast_table.specs.Tables.{domain_eq, place_named, IsTurn, Lent, IsTurnAt, IsAppliedAt, IsAppliedTo, IsApplied, IsTicked, AreTurns, NotesHalts, NotesHaltsOf, NotesOne, answer_in_turn, halted_by, halted_in_turn, IsLeast}
 use Rattle.cast_table.specs.Owns.{names, is_own}
-use Rattle.cast_table.proofs.Parts.{same_domain, domain_itself, domain_flipped}
+use Rattle.cast_table.proofs.Parts.{domain_itself, domain_flipped}
 use Rattle.cast_table.proofs.Places.{named_there, same_some, none_some}
 use Rattle.cast_events.specs.declared.entry.Noted.{Noted}
 use Rattle.cast_events.specs.declared.entry.Noted.TheVariants as noted
@@ -29,7 +29,7 @@ use Rattle.cast_events.specs.declared.entry.Entry.{Entry}
 use Rattle.cast_pool.specs.Traces.{is_among, TellsHalts, IsTickNoted, IsEntryAmong}
 use Rattle.cast_trail.specs.Notes.{noted_of, noted_taken}
 use Rattle.cast_pool.specs.Kept.{are_apart}
-use Rattle.cast_pool.proofs.Numbers.{numbers_in, domain_swapped, stands_among, other_number, first_apart, rest_apart, own_named}
+use Rattle.cast_pool.proofs.Numbers.{numbers_in, stands_among, other_number, first_apart, rest_apart, own_named}
 use Rattle.cast_pool.proofs.Turns.{Follows, turned, left}
 
 -- the others' parts stay

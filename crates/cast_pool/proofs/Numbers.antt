@@ -1,9 +1,9 @@
 -- Numbers of domains: which are among others, and that no two are the same.
-use Rattle.std.proofs.Common.{◌≡◌, ℕ, zero, suc, Bool, true, false, not, ◌&&◌, ◌||◌, List, [], ◌∷◌, map, Some, slice_set, refl, sym, ap, ◌∙◌, inl, inr}
+use Rattle.std.proofs.Common.{◌≡◌, ℕ, zero, suc, true, false, not, ◌&&◌, ◌||◌, List, [], ◌∷◌, map, Some, refl, sym, ap, ◌∙◌, inl, inr}
 use Rattle.std.specs.Prelude.{slice_get}
-use Rattle.std.specs.List.{AllZip, list_any}
+use Rattle.std.specs.List.{AllZip}
 use Rattle.std.specs.Option.{option_map_or}
-use Rattle.std.proofs.lemmas.Bool.{cases_Bool, false≢true, false_from_ne_true, and_parts, and_from, or_left, or_right, or_parts, or_from, not-true, not_from_false}
+use Rattle.std.proofs.lemmas.Bool.{cases_Bool, false≢true, false_from_ne_true, and_parts, or_left, or_right, not-true}
 use Rattle.cast_types.specs.declared.names.DomainNo.{DomainNo}
 use Rattle.cast_events.specs.declared.config.DomainConfig.{DomainConfig}
 use Rattle.cast_events.specs.declared.event.Event.{Event}
@@ -11,7 +11,7 @@ use Rattle.cast_events.specs.Events.{domain_of}
 use Rattle.cast_domain.specs.declared.domain.Domain.{Domain}
 use Rattle.cast_domain.specs.Records.{number_of}
 use Rattle.cast_table.specs.Tables.{domain_eq}
-use Rattle.cast_table.specs.Owns.{is_configured, are_distinct, is_own, names}
+use Rattle.cast_table.specs.Owns.{is_configured, are_distinct, is_own}
 use Rattle.cast_table.proofs.Parts.{same_domain, domain_itself, domain_flipped}
 use Rattle.cast_table.proofs.Places.{IsNumbered, none_some, same_some}
 use Rattle.cast_pool.specs.Traces.{is_among}

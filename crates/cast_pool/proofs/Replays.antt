@@ -1,6 +1,6 @@
 -- A trace leads from its base to the table: at the beginning, with one entry more, and once it is trimmed.
-use Rattle.std.proofs.Common.{◌≡◌, Bool, true, false, ◌&&◌, List, [], ◌∷◌, ◌++◌, length, Option, Some, None, Result, refl, sym, ap, subst, ◌∙◌}
-use Rattle.std.specs.List.{AllZip, All, list_all}
+use Rattle.std.proofs.Common.{◌≡◌, true, List, [], ◌∷◌, ◌++◌, Option, Some, None, Result, refl, sym, ap, subst, ◌∙◌}
+use Rattle.std.specs.List.{AllZip}
 use Rattle.std.proofs.lemmas.Bool.{and_parts}
 use Rattle.std.proofs.lemmas.List.Elements.{All-push, All-nil}
 use Rattle.cast_types.specs.declared.names.DomainNo.{DomainNo}
@@ -16,7 +16,7 @@ use Rattle.cast_rules.specs.State.{State, opening}
 use Rattle.cast_rules.specs.Run.{before_event}
 use Rattle.cast_domain.specs.declared.domain.Domain.{Domain}
 use Rattle.cast_domain.specs.declared.shared.Shared.{Shared}
-use Rattle.cast_domain.specs.Records.{Records, number_of, is_halted, records_of}
+use Rattle.cast_domain.specs.Records.{Records, number_of, records_of}
 use Rattle.cast_domain.specs.Shared.{Part, part_of, no_part}
 use Rattle.cast_domain.specs.Fits.{Fits, Represents, AreDismissed}
 use Rattle.cast_domain.specs.Freed.{AreNotFree}
@@ -31,9 +31,9 @@ use Rattle.cast_events.specs.declared.entry.Entry.{Entry}
 use Rattle.cast_pool.specs.Traces.{StandsFor, Leads, LeadsAll, IsEntryAmong}
 use Rattle.cast_trail.specs.Notes.{noted_of}
 use Rattle.cast_pool.specs.Kept.{IsReplayed, Replays, are_apart, numbers_of}
-use Rattle.cast_pool.proofs.Numbers.{numbers_in, same_numbers, apart_configured}
+use Rattle.cast_pool.proofs.Numbers.{same_numbers, apart_configured}
 use Rattle.cast_pool.proofs.Turns.{Follows}
-use Rattle.cast_pool.proofs.Events.{Taken_in, taken_in}
+use Rattle.cast_pool.proofs.Events.{taken_in}
 
 leads_push : (d : DomainNo) (trace : List Entry) (e : Entry) (s t u : Option State) → LeadsAll d trace s t → Leads d e t u → LeadsAll d (trace ++ e ∷ []) s u
 leads_push d [] e s t u leads next = (u, subst (λ x. Leads d e x u) leads next, refl)

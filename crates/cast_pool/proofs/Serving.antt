@@ -1,9 +1,7 @@
 -- What an event that is served leaves: nothing, or one more entry, with the trace trimmed before it or not.
-use Rattle.std.proofs.Common.{◌≡◌, ℕ, ◌+◌, ◌<◌, ◌≤◌, Bool, true, false, cond, List, [], ◌∷◌, ◌++◌, length, Option, Some, None, Result, Ok, Err, refl, sym, ap, subst, ◌∙◌, arith, length-append}
-use Rattle.std.specs.Prelude.{◌==◌, nat_le}
-use Rattle.std.proofs.lemmas.Bool.{false≢true, le-leb, lt-leb, leb-true, false_from_ne_true, eqb-true}
+use Rattle.std.proofs.Common.{◌≡◌, ℕ, ◌+◌, ◌<◌, ◌≤◌, true, false, cond, List, [], ◌∷◌, ◌++◌, length, Option, Some, None, Result, Ok, Err, refl, sym, ap, subst, ◌∙◌, arith, length-append}
+use Rattle.std.proofs.lemmas.Bool.{false≢true, le-leb, leb-true, false_from_ne_true, eqb-true}
 use Rattle.cast_types.specs.declared.names.DomainNo.{DomainNo}
-use Rattle.cast_types.specs.declared.refusal.Refusal.TheVariants as refusal
 use Rattle.cast_events.specs.declared.event.Event.{Event}
 use Rattle.cast_events.specs.declared.event.Outs.{Outs}
 use Rattle.cast_events.specs.declared.event.Taken.{Taken}
@@ -19,7 +17,7 @@ use Rattle.cast_events.specs.declared.entry.Entry.{Entry}
 use Rattle.cast_trail.specs.declared.trail.Trail.{Trail}
 use Rattle.cast_trail.specs.Notes.{noted_of, noted_taken}
 use Rattle.cast_pool.specs.Kept.{Seen, Replays, seen_of, events_of, is_due, is_full}
-use Rattle.cast_pool.specs.Served.{IsAdded, IsLeft, IsServed, Serves}
+use Rattle.cast_pool.specs.Served.{IsAdded, IsServed, Serves}
 use Rattle.cast_pool.specs.Room.{IsNextBase}
 use Rattle.cast_trail.specs.Room.{base_then, count_then, items_then}
 use Rattle.cast_pool.proofs.Replays.{replays_push, replays_trim}

@@ -1,26 +1,22 @@
 -- What an entry makes of what one domain stands for, by the domain's turn.
-use Rattle.std.proofs.Common.{◌≡◌, ◌≢◌, Bool, true, false, ◌||◌, List, [], ◌∷◌, Option, Some, None, Result, Ok, Err, refl, sym, ap, subst, ◌∙◌}
+use Rattle.std.proofs.Common.{◌≡◌, ◌≢◌, true, false, Option, Some, None, Result, Ok, Err, refl, sym, ap, subst, ◌∙◌}
 use Rattle.std.proofs.lemmas.Bool.{false≢true, or_left}
 use Rattle.cast_types.specs.declared.names.DomainNo.{DomainNo}
-use Rattle.cast_types.specs.declared.refusal.Refusal.TheVariants as refusal
-use Rattle.cast_events.specs.declared.event.Event.{Event}
 use Rattle.cast_events.specs.declared.event.Taken.{Taken}
-use Rattle.cast_events.specs.declared.event.Taken.TheVariants as taken
 use Rattle.cast_events.specs.declared.log.Fault.{Fault}
 use Rattle.cast_events.specs.declared.log.Fault.TheVariants.{NoMemory, Halted, NoDomain}
 use Rattle.cast_rules.specs.State.{State}
 use Rattle.cast_domain.specs.declared.domain.Domain.{Domain}
 use Rattle.cast_domain.specs.declared.shared.Shared.{Shared}
-use Rattle.cast_domain.specs.Records.{number_of, is_halted}
+use Rattle.cast_domain.specs.Records.{number_of}
 use Rattle.cast_domain.specs.Shared.{Part, part_of}
-use Rattle.cast_domain.specs.Fits.{Represents}
 use Rattle.cast_table.specs.Tables.{domain_eq, IsTurn, Lent, halted_by}
 use Rattle.cast_table.specs.Owns.{names, is_own}
-use Rattle.cast_table.proofs.Parts.{domain_itself, other_unnamed, named_own}
+use Rattle.cast_table.proofs.Parts.{domain_itself, other_unnamed}
 use Rattle.cast_events.specs.declared.entry.Noted.{Noted}
 use Rattle.cast_events.specs.declared.entry.Noted.TheVariants as noted
 use Rattle.cast_events.specs.declared.entry.Entry.{Entry}
-use Rattle.cast_pool.specs.Traces.{StandsFor, Leads, IsKeptStep, is_among}
+use Rattle.cast_pool.specs.Traces.{StandsFor, Leads, is_among}
 use Rattle.cast_trail.specs.Notes.{noted_of, noted_taken}
 
 -- where the domain stands for something, the entry leads from there to what it stands for then

@@ -4,10 +4,8 @@ ghost use Rattle.cast_types.specs.Names.{proc_cmp, proc_eq};
 ghost use Rattle.cast_types.specs.Sets.{with_item, without};
 ghost use Rattle.cast_message.specs.Membership.{is_held};
 ghost use Rattle.cast_flush.specs.Reports.{cut_from, wanting};
-ghost use Rattle.cast_flush.specs.Decisions.{order_from};
 ghost use Rattle.cast_view.specs.Home.{least_of};
 ghost use Rattle.cast_view.specs.Flush.{lacking_in};
-ghost use Rattle.cast_view.specs.declared.phase.Phase.TheVariants.{Idle};
 
 use crate::flush::Flush;
 use crate::phase::{Answer, Decision, Phase, install_phase};

@@ -6,7 +6,7 @@ use Rattle.std.proofs.lemmas.List.Elements.{Contains-append_left}
 use Rattle.std.proofs.lemmas.List.{append-nil, length-append}
 use Rattle.std.specs.List.{find, list_any}
 use Rattle.std.specs.Option.{option_map_or}
-use Rattle.std.specs.Prelude.{◌&&◌, ◌++◌, Bool, Contains, List, None, Option, Some, [], false, if◌then◌else◌, is_some, length, map, not, refl, suc, take, true, unwrap_or, zero, ◌||◌, ℕ, ◌∷◌, ◌≡◌, ◌⊎◌}
+use Rattle.std.specs.Prelude.{◌&&◌, ◌++◌, Bool, Contains, List, None, Option, Some, [], false, if◌then◌else◌, is_some, length, map, not, refl, suc, true, unwrap_or, ◌||◌, ℕ, ◌∷◌, ◌≡◌, ◌⊎◌}
 use Rattle.cast_ready.specs.Ready.{is_outside}
 use Rattle.cast_rules.specs.Order.{holder_here, holds, is_of_view, order_told, told_by, unlisted_ids}
 use Rattle.cast_rules.specs.Reports.{is_unplaced, kept_in, kept_list, report_in, whole_order}

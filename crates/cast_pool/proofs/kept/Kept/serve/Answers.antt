@@ -1,4 +1,4 @@
-use Rattle.std.proofs.Common.{◌≡◌, ◌+◌, ◌++◌, ◌∷◌, [], ◌≤◌, length, sym, ap, subst, ◌∙◌, arith}
+use Rattle.std.proofs.Common.{◌≡◌, ◌+◌, ◌++◌, ◌∷◌, [], length, sym, ap, subst, ◌∙◌, arith}
 use Rattle.cast_events.specs.declared.event.Outs.{Outs}
 use Rattle.cast_events.specs.Outs.{no_outs}
 use Rattle.cast_table.specs.Tables.{IsApplied, IsUnchanged, NotesHalts, domains_of, lent_of}
