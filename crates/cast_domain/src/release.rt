@@ -64,7 +64,7 @@ impl Domain {
     fn is_done_with(&self, id: Uid) -> bool
         ensures { result ≡ (is_stable_in self.now.acks id && not (is_awaited self.now.delay.rows id)) }
     {
-        self.acks.is_stable(id) && !self.delay.is_awaited(id)
+        self.acks.is_stable(id) && self.acks.may_free(id, self.delay.is_awaited(id))
     }
 
     // Whether a message is of the current view of its group, which no flush has frozen.

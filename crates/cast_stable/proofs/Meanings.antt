@@ -317,3 +317,7 @@ module _ (l : Acks) (u : Uid) where
 
   pub is_stable_means : (b : Bool) → b ≡ is_stable_in l u → (past : Past) → Fits past l → past.is_live (source_of u) ≡ true → 0 < u.count → b ≡ is_known_stable past.here (past.others u.group) past.acks past.told u
   is_stable_means b is past fits live positive = is ∙ stable_meant past l fits u live positive
+
+  pub may_free_means : (awaited b : Bool) → b ≡ (is_stable_in l u && not awaited) → (past : Past) → Fits past l → past.is_live (source_of u) ≡ true → 0 < u.count → b ≡ (is_known_stable past.here (past.others u.group) past.acks past.told u && not awaited)
+  may_free_means awaited b is past fits live positive =
+      is ∙ ap (λ stable. stable && not awaited) (stable_meant past l fits u live positive)

@@ -1,4 +1,4 @@
-ghost use Rattle.std.specs.Prelude.{◌≡◌, ◌≢◌, ◌<◌, true, [], OnOk, OnErr, IfOk, unwrap_or, map, min};
+ghost use Rattle.std.specs.Prelude.{◌≡◌, ◌≢◌, ◌<◌, true, [], OnOk, OnErr, IfOk, not, ◌&&◌, unwrap_or, map, min};
 ghost use Rattle.std.specs.List.{reduce};
 ghost use Rattle.std.specs.FinMap.Entries.{find, put};
 ghost use Rattle.std.specs.Option.{option_copied};
@@ -180,6 +180,15 @@ impl Acks {
             return id.count <= self.stable_upto(id);
         }
         id.count <= self.told_count(source_of(id))
+    }
+
+    /// Whether a kept message may be let go: it is stable, and no local process awaits it. Takes no
+    /// memory.
+    pub fn may_free(&self, id: Uid, is_awaited: bool) -> bool
+        ensures value { result ≡ (is_stable_in self.now id && not is_awaited) }
+        ensures meaning { WhileLive self.now (source_of id) (λ past. 0 < id.count → result ≡ (is_stable_by past id && not is_awaited)) }
+    {
+        self.is_stable(id) && !is_awaited
     }
 
     /// The other sites of a group's view, none of a group of which no view was told. Takes no memory.
