@@ -1,4 +1,9 @@
--- The parts of the frames between a program and its daemon: what is read is spelled so, and what is spelled so is read.
+-- The parts of the frames between a program and its daemon: what is read is spelled so, and what
+-- is spelled so is read.
+-- `parts_take` says what reading the parts of one type takes: a frame of this type, and no more
+-- bytes than those that spell it. `parts_again` says that the bytes that spell a frame are read as
+-- that frame. There is one case for each type of frame, made of its fields in turn; the last field
+-- of a frame may reach to the end, and its length is that of the whole frame.
 use Rattle.std.proofs.Common.{◌≡◌, ℕ, ◌≤◌, cond, eqb, ltb, List, [], ◌++◌, length, Option, Some, None, Result, Ok, Err, refl, sym, ap, subst, ◌∙◌, arith, lit<, lit≤, inl, inr}
 use Rattle.std.proofs.lemmas.Bool.{cases_Bool, false≢true, eqb-true, eq-eqb, le-ltb, ltb-false}
 use Rattle.std.proofs.lemmas.List.{append-nil}

@@ -1,4 +1,9 @@
--- What was looked at of the messages stays known: processes come, go, take in facts and deliver, and messages come and go.
+-- What was looked at of the messages stays known: processes come, go, take in facts and deliver,
+-- and messages come and go.
+-- A queue notes up to which key it has looked for a process, so that it need not look again. The
+-- lemmas ending in `_looked` say that each change keeps these notes true, and `unseen_seen` that
+-- what need not be looked at was seen. A change after which a process may be ready for more drops
+-- the notes of that process; each other change leaves the rows awaiting what they awaited.
 use Rattle.std.proofs.Common.{◌≡◌, ◌⊎◌, ℕ, ◌+◌, Bool, true, false, cond, not, ◌&&◌, List, [], ◌∷◌, ◌++◌, take, filter, Contains, Option, Some, None, Ok, Err, unwrap_or, refl, sym, ap, subst, ◌∙◌, inl, inr, arith}
 use Rattle.std.specs.Prelude.{nat_lt, nat_le, ◌==◌, if◌then◌else◌, Result, IfSome, OnOk, OnErr}
 use Rattle.std.specs.List.{list_all}

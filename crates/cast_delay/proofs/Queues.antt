@@ -1,4 +1,9 @@
 -- The queue names the first message that is ready, and keeps its meaning.
+-- `first_ready` and its kin say that the queue names the first message that is ready. `Fits` is
+-- the meaning of a queue: its rows tell what each process awaits, its gates the state of each
+-- group. Each change keeps it, since it changes one part: a fact one row (`tell_fits`), a freeze
+-- or an Install one gate (`freeze_fits`, `pend_fits`), and a message that comes what is offered
+-- (`offer_fits`).
 use Rattle.std.proofs.Common.{◌≡◌, ◌↔◌, ℕ, ◌<◌, ◌≤◌, Bool, true, false, cond, not, ◌&&◌, ◌||◌, ◌⊎◌, List, length, take, [], ◌∷◌, ◌++◌, filter, Contains, Option, Some, None, MatchOption, unwrap_or, refl, sym, ap, subst, ◌∙◌, inl, inr, arith}
 use Rattle.std.specs.Prelude.{if◌then◌else◌, slice_get}
 use Rattle.std.specs.List as list

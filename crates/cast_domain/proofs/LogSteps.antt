@@ -1,4 +1,8 @@
 -- A delivery leaves each log telling of the order of its view.
+-- `logs_deliver` says so. A delivery changes one process. The log of another view, and a message
+-- that is no ABCAST, see nothing of it. Within the view, who does not set the order moves over
+-- places that it has delivered; who sets it has one more ABCAST to list, behind the others. A
+-- hand-over changes the hand of the process that takes the token.
 use Rattle.std.proofs.Common.{◌≡◌, ℕ, zero, suc, ◌≤◌, Bool, true, false, cond, not, List, [], ◌∷◌, ◌++◌, map, take, drop, Option, Some, None, refl, sym, ap, subst, ◌∙◌, inl, inr, arith}
 use Rattle.std.specs.Prelude.{◌&&◌, ◌||◌, ◌==◌, if◌then◌else◌, filter}
 use Rattle.std.specs.List.{find, list_all}

@@ -1,4 +1,9 @@
 -- What is kept of a group's order goes on telling of the order of its view.
+-- `logs_receive`, `logs_view`, `logs_close` and `logs_ack` say so of a message, a view, an Install
+-- and an acknowledgement. A log rests on few facts of the history: the view, the set-order
+-- messages received, what each process has delivered, and what is stable. `log_alike` says that it
+-- tells of any history with the same facts; so each lemma shows only what its change adds to
+-- these.
 use Rattle.std.proofs.Common.{◌≡◌, ℕ, ◌+◌, ◌<◌, ◌≤◌, Bool, true, false, cond, List, [], ◌∷◌, ◌++◌, map, Contains, Option, Some, None, refl, sym, ap, subst, ◌∙◌, inl, inr, arith}
 use Rattle.std.specs.Prelude.{◌&&◌, ◌==◌, if◌then◌else◌, take, filter}
 use Rattle.std.specs.List.{flat_map, fold}

@@ -1,5 +1,10 @@
--- What the records say of the order of a view is so of the history that they stand for: the turns of processes, and what
--- who holds the token has still to list.
+-- What the records say of the order of a view is so of the history that they stand for: the turns
+-- of processes, and what who holds the token has still to list.
+-- The claims are `turn_there`, `places_there` and `place_to_pass_there`. The log of a group keeps
+-- places and counts where the history keeps lists of ids: a place is how many of the first ids a
+-- process has delivered (`all_past`), and what it has to list is the ids behind. So each answer of
+-- the records is computed from the log as the history computes it from the lists, once `Fits`
+-- holds.
 use Rattle.std.proofs.Common.{◌≡◌, ℕ, zero, suc, ◌+◌, ◌-◌, ◌≤◌, max, Bool, true, false, cond, not, List, [], ◌∷◌, ◌++◌, length, take, drop, map, Contains, Option, Some, None, refl, sym, ap, subst, ◌∙◌, inl, inr, arith}
 use Rattle.std.proofs.lemmas.Bool.Decides.{nat_tests}
 use Rattle.std.specs.Prelude.{◌&&◌, ◌==◌, ◌⊎◌, nat_lt, nat_le, is_some, if◌then◌else◌, filter, slice_get}

@@ -1,4 +1,8 @@
 -- What a domain's records let go is what the history lets go that they stand for.
+-- `fits_let_go` and `fits_release_ended` say so. Records and history test each kept message:
+-- whether it is stable, and whether a local member still awaits it. The tests agree, since a row
+-- awaits a message exactly if its process has still to deliver it. So each side keeps the same
+-- messages, and the queue forgets the keys of the others.
 use Rattle.std.proofs.Common.{◌≡◌, ℕ, ◌+◌, ◌<◌, ◌≤◌, Bool, true, false, cond, not, ◌&&◌, ◌||◌, List, [], ◌∷◌, map, Contains, Some, None, refl, sym, ap, subst, ◌∙◌, inl, inr, arith}
 use Rattle.std.specs.Prelude.{◌==◌, nat_lt, filter, slice_get}
 use Rattle.std.specs.List.{fold, find, list_any, list_all}

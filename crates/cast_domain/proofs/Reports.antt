@@ -1,5 +1,10 @@
--- What a site reports where a group's view is flushed, and what it lacks of the view that ends: by its records the same as by
--- the history that they stand for.
+-- What a site reports where a group's view is flushed, and what it lacks of the view that ends: by
+-- its records the same as by the history that they stand for.
+-- The claims are `cut_there`, `missing_there` and `report_there`. The history names each message;
+-- the records have rows, which say up to which count each process has delivered. A row that awaits
+-- a message awaits all later ones of the same process, so the last message of a cut speaks for
+-- those before it; and the greatest counts are the same on both sides, as each count of one side
+-- is reached on the other.
 use Rattle.std.proofs.Common.{◌≡◌, ℕ, zero, suc, ◌+◌, ◌<◌, ◌≤◌, ◌⊎◌, Bool, true, false, cond, not, ◌&&◌, ◌||◌, List, [], ◌∷◌, ◌++◌, map, Contains, Option, Some, None, refl, sym, ap, subst, ◌∙◌, inl, inr, arith}
 use Rattle.std.specs.Prelude.{◌==◌, max, min, nat_lt, nat_le, if◌then◌else◌, filter, take, drop, slice_get}
 use Rattle.std.specs.List.{fold, list_any, list_all, flat_map, range_with_len}

@@ -1,4 +1,9 @@
--- What changes a domain's records changes the history that they stand for in the same way: one change at a time.
+-- What changes a domain's records changes the history that they stand for in the same way: one
+-- change at a time.
+-- The invariant is `Fits`: the records `r` stand for the history `s`. For each change there is one
+-- lemma, named `fits_` and the change. It changes one part (a group, a process, a session, what
+-- was received), so that it shows the clauses of `Fits` that speak of this part; the others hold
+-- as they did.
 use Rattle.std.proofs.Common.{◌≡◌, ℕ, zero, suc, ◌+◌, ◌<◌, ◌≤◌, Bool, true, false, not, cond, ◌&&◌, List, [], ◌∷◌, ◌++◌, length, map, filter, drop, Option, Some, None, refl, sym, ap, subst, ◌∙◌, inl, inr, arith}
 use Rattle.std.specs.Prelude.{◌==◌, ◌||◌, nat_lt, nat_le, if◌then◌else◌, slice_get, is_some}
 use Rattle.std.specs.List.{find, range_with_len}

@@ -1,4 +1,8 @@
 -- Records that a pass leaves as they are stand for a history at rest.
+-- `still_pass` says so: where a pass leaves the records as they are, it leaves the history as it
+-- is. The messages received are the same before and after, so no message was sent; a row that is
+-- the same tells of the same deliveries; a process without a row is in no group, and delivers
+-- nothing. As many Installs wait and as many Wants are to be owed, so nothing else was done.
 use Rattle.std.proofs.Common.{◌≡◌, ℕ, zero, suc, ◌+◌, ◌*◌, ◌<◌, Bool, true, false, not, List, [], ◌∷◌, ◌++◌, length, map, Option, Some, None, refl, sym, ap, subst, ◌∙◌, inl, inr, arith}
 use Rattle.std.specs.Prelude.{◌&&◌, ◌||◌, ◌==◌, if◌then◌else◌, filter}
 use Rattle.std.specs.List.{fold, find, flat_map, range_with_len}

@@ -1,4 +1,8 @@
 -- The turns of the records' rest are those of the history that they stand for.
+-- `fits_deliver_all` says so. The queue names the message that the rule of the history names, as
+-- its rows tell what each process awaits. Delivering it changes the records and the history alike
+-- (`fits_first`). A message that was delivered is ready no more, so that as many turns as there
+-- are kept messages are enough on both sides (`settled_kept`).
 use Rattle.std.proofs.Common.{◌≡◌, ℕ, zero, suc, ◌<◌, ◌≤◌, Bool, true, false, cond, not, List, [], ◌∷◌, ◌++◌, length, Contains, Option, Some, None, refl, sym, ap, subst, ◌∙◌, inl, inr, arith}
 use Rattle.std.specs.Prelude.{◌&&◌, ◌||◌, ◌==◌, if◌then◌else◌, filter, take}
 use Rattle.std.specs.List.{find, list_any}

@@ -1,4 +1,5 @@
 -- What programs take of what they are pushed, and quotas that change, by worked scripts.
+-- Each is a worked example: the script is run by computation, and its output is stated.
 use Rattle.std.specs.Prelude.{◌≡◌, ℕ, List, [], ◌∷◌, codes, Ok, true, refl}
 use Rattle.std.specs.List.{list_all}
 use Rattle.cast_examples.proofs.Everything.{everything}

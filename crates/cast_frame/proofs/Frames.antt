@@ -1,4 +1,9 @@
 -- Frames are read as they were spelled: what is read is spelled so, and what is spelled so is read.
+-- `found` says that bytes that are read as a frame are the ones that spell it; `read_again` says
+-- that the bytes that spell a frame of at most 60000 bytes are read as that frame. Both follow
+-- field by field: a reader `Takes` what its spelling says, and leaves the bytes behind it alone.
+-- Each frame type has one such lemma (`data_takes` to `out_takes`), so a frame is a header and one
+-- of these cases.
 use Rattle.std.proofs.Common.{◌≡◌, ℕ, ◌≤◌, Bool, true, false, not, cond, eqb, ltb, List, [], ◌++◌, length, Result, Ok, Err, refl, sym, ap, subst, ◌∙◌, append_assoc, arith, lit<, lit≤, inl, inr}
 use Rattle.std.specs.Prelude.{◌||◌}
 use Rattle.std.specs.Int.{w16, w32}

@@ -1,4 +1,5 @@
 -- The vectors of the format, computed both ways, and its faults.
+-- Each is a worked example: both sides compute to the same value.
 use Rattle.std.proofs.Common.{◌≡◌, ◌≤◌, ℕ, true, false, List, [], ◌∷◌, length, Some, None, Ok, Err, refl, take, arith}
 use Rattle.std.specs.Prelude.{nat_lt}
 use Rattle.std.proofs.lemmas.Bool.{le-ltb}

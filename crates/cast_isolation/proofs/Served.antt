@@ -1,4 +1,8 @@
 -- What each domain of a table has given so far, beside what a daemon gives that serves it alone.
+-- `HasGiven` says that what the table answered, sent and pushed for a domain is what the daemon
+-- would that has this domain alone. An event of another domain changes nothing of this domain's
+-- part (`keeps_same`, `kept_given`). An event of its own is one step of both, and what the step
+-- sends bears the domain's number (`turn_number`). A domain that is halted gives nothing more.
 use Rattle.std.proofs.Common.{◌≡◌, ◌≢◌, ℕ, ◌<◌, true, false, cond, List, [], ◌∷◌, ◌++◌, map, take, length, Option, Some, None, is_some, Result, Ok, Err, refl, sym, ap, subst, ◌∙◌, inl, inr, arith}
 use Rattle.std.specs.List.{AllZip}
 use Rattle.std.proofs.lemmas.Bool.{cases_Bool, eq-eqb, false≢true, and_parts, ne_eqb, or_parts}

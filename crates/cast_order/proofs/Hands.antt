@@ -1,4 +1,10 @@
--- What is kept of processes that order a view's ABCASTs: what one has while its own or another's changes, and what it means.
+-- What is kept of processes that order a view's ABCASTs: what one has while its own or another's
+-- changes, and what it means.
+-- A hand is what is kept of one process that orders the ABCASTs of a view. `hand_of_change` says
+-- that a change of one hand changes no other. The lemmas whose names end in `_fits` say that each
+-- move of a log (a new hand, a token that is taken or handed over, an order that is told, a place
+-- that is passed) keeps what the hands mean. Each looks at the one hand that changes, as the
+-- others stand; and hands stay in the order of their processes (`change_rises`).
 use Rattle.std.proofs.Common.{◌≡◌, ℕ, suc, ◌+◌, ◌≤◌, max, Bool, true, false, cond, not, ◌||◌, List, [], ◌∷◌, ◌++◌, length, map, take, drop, Option, Some, None, unwrap_or, refl, sym, ap, subst, ◌∙◌, inl, inr, arith, Less, Equal, Greater}
 use Rattle.std.specs.Prelude.{nat_lt, nat_le}
 use Rattle.std.specs.List.{find, filter, list_any, insert, position_or_len}

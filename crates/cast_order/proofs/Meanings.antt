@@ -1,4 +1,9 @@
 -- What changes a group's log changes what it means in the same way; and what it means.
+-- A log means an order, the facts that tell it, and a place in it for each process. It keeps only
+-- the end of the order, from `base` on: `IsKept` says that this end is the true one. `learn_fits`,
+-- `pass_fits` and `forget_fits` keep this: what is learnt joins the end, a place moves over ids
+-- that were delivered, and what goes from the front was passed by all. The lemmas ending in
+-- `_rules` read the log so.
 use Rattle.std.proofs.Common.{◌≡◌, ℕ, ◌+◌, ◌-◌, ◌*◌, ◌<◌, ◌≤◌, min, max, Bool, true, false, cond, not, ◌&&◌, List, [], ◌++◌, length, take, drop, length-append, Option, Some, None, unwrap_or, refl, sym, ap, subst, ◌∙◌, inl, inr, arith}
 use Rattle.std.specs.Prelude.{nat_lt, nat_le, if◌then◌else◌}
 use Rattle.std.specs.List.{find, list_all}

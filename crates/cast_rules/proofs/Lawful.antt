@@ -1,4 +1,9 @@
 -- What holds of each history that events lead to is kept by each effect.
+-- The invariant is `IsLawful`: what each process did is of views that were reached, standings
+-- agree with the views of groups, and each message that was let go is spent. An effect that
+-- touches nothing of this keeps it at once (`SameLaw`). The others change one part: a process
+-- (`lawful_outside`), the messages (`lawful_receiving`, `lawful_let_go`, `lawful_sending`), or a
+-- view (`lawful_passing`), which is a later one, so that what was reached and spent stays so.
 use Rattle.std.proofs.Common.{◌≡◌, ℕ, zero, suc, ◌+◌, ◌<◌, ◌≤◌, Bool, true, false, cond, not, Less, Equal, Greater, List, [], ◌∷◌, ◌++◌, Contains, Option, Some, None, refl, sym, ap, subst, ◌∙◌, inl, inr, arith}
 use Rattle.std.specs.Prelude.{◌&&◌, ◌||◌, ◌⊎◌, ◌==◌, nat_lt, nat_le, if◌then◌else◌, filter}
 use Rattle.std.specs.List.{fold, list_any, list_all, range_with_len}

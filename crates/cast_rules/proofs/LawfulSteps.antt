@@ -1,4 +1,9 @@
 -- What holds of each history that events lead to is kept by each event, and until the state rests.
+-- `lawful_acted` says so of an event, and `lawful_rests` of what follows it. Each rule is made of
+-- effects, each of which keeps `IsLawful` by `Lawful`; the tests of a rule give what its effect
+-- supposes: a message that comes is of the view that its group has reached (`taken_current`), a
+-- view that is entered is a later one, and who sets the order may raise its time. The rules of the
+-- home change none of this.
 use Rattle.std.proofs.Common.{◌≡◌, ℕ, ◌+◌, ◌<◌, zero, suc, Bool, true, false, not, List, [], ◌∷◌, length, Option, Some, None, refl, sym, ap, subst, ◌∙◌, inl, inr, arith}
 use Rattle.std.specs.Prelude.{◌&&◌, nat_lt, nat_le, if◌then◌else◌}
 use Rattle.std.specs.List.{fold, find}

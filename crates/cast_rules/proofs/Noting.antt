@@ -1,4 +1,9 @@
 -- In each state that a history passes its acts say what each process did.
+-- `acts_are_noted` says so of each state (`IsNoted`): what the acts say that a process sent was
+-- received here, in that order, and what they say that it delivered is what it delivered. Each
+-- move by which a process sends or delivers adds the act for it, and each other move adds none of
+-- these. What the acts of two lists say, one behind the other, is what each says
+-- (`delivered_append`), so one more act adds its own part alone.
 use Rattle.std.proofs.Common.{◌≡◌, ℕ, Bool, true, false, List, [], ◌∷◌, ◌++◌, cond, filter, Some, None, refl, sym, ap, subst, ◌∙◌, inl, inr}
 use Rattle.std.specs.Prelude.{◌==◌, ◌+◌, not, ◌&&◌, if◌then◌else◌}
 use Rattle.std.specs.List.{fold, find}

@@ -1,4 +1,8 @@
 -- What has come to rest has nothing left to be done.
+-- `rest_is_quiet` says so: nothing is ready, no frame has still to be owed, no order to be told,
+-- no Install completed, and no message let go. By `Rests` each part of a pass changes nothing or
+-- lowers what is to be done. A pass that changes nothing lowers nothing, so each of its parts
+-- changes nothing; and a part that changes nothing had nothing to do.
 use Rattle.std.proofs.Common.{◌≡◌, ℕ, zero, suc, Bool, true, false, not, List, [], ◌∷◌, length, Option, Some, None, refl, sym, ap, subst, ◌∙◌, inl, inr, arith}
 use Rattle.std.specs.Prelude.{◌&&◌, ◌||◌, is_some, if◌then◌else◌, filter}
 use Rattle.std.specs.List.{fold, find, list_all, list_any, range_with_len}

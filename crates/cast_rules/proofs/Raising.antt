@@ -1,4 +1,9 @@
--- A history counts members alone, and each effect keeps it so: a member's count can always be raised.
+-- A history counts members alone, and each effect keeps it so: a member's count can always be
+-- raised.
+-- `can_raise` says that a member's count can always be raised: its time has a place for it, since
+-- it counts members of the view alone (`CountsMembers`). Each effect keeps that. A process that
+-- sends or delivers counts a member, by `IsLawful`; one that enters a view counts nothing of it
+-- yet (`counts_passing`); one that leaves is a member no more. All other effects change no time.
 use Rattle.std.proofs.Common.{◌≡◌, ℕ, ◌+◌, ◌<◌, ◌≤◌, Bool, true, false, cond, not, [], ◌∷◌, ◌++◌, length, Contains, Option, Some, None, unwrap_or, refl, sym, ap, subst, ◌∙◌, ◌⊎◌, inl, inr, arith}
 use Rattle.std.specs.Prelude.{◌&&◌, ◌==◌, nat_lt, nat_le, if◌then◌else◌}
 use Rattle.std.specs.List.{list_all, list_any}

@@ -1,4 +1,9 @@
 -- Each pass that changes something lowers what is to be done, so the rest ends.
+-- The claims are `comes_to_rest` and `rests_at_one`. `Moves s t` says that t is s, or has less to
+-- do than s while as many Installs wait, or has fewer Installs that wait. Each part of a pass
+-- moves so: a delivery leaves one message less to deliver, a set-order message less to list, a
+-- decision a later phase, a Want one key less to be owed; completing an Install lowers the first
+-- number. So `moves_pass` holds.
 use Rattle.std.proofs.Common.{◌≡◌, ℕ, ◌+◌, ◌*◌, ◌<◌, ◌≤◌, ◌⊎◌, zero, suc, Bool, true, false, not, List, [], ◌∷◌, ◌++◌, length, Option, Some, None, refl, sym, ap, subst, ◌∙◌, inl, inr, arith}
 use Rattle.std.specs.Prelude.{◌&&◌, ◌==◌, nat_lt, if◌then◌else◌, filter}
 use Rattle.std.specs.List.{fold, find, list_any, range_with_len}

@@ -1,4 +1,8 @@
 -- What a line is read as, it spells, and what it spells is read of it.
+-- There is a pair of lemmas for each kind of line: one ending in `_is` (what is read is what the
+-- line spells) and one ending in `_again` (the words that spell it are read as it). A line is its
+-- first word, which names the kind, and parts; each part has such a pair in `Parts`, so each line
+-- joins those of its parts, and what tells kinds of lines apart is their first word.
 use Rattle.std.proofs.Common.{◌≡◌, ◌≢◌, ◌<◌, ℕ, false, eqb, ltb, List, [], ◌∷◌, ◌++◌, length, take, drop, map, codes, Result, Ok, Err, inl, inr, refl, sym, ap, subst, ◌∙◌, arith}
 use Rattle.std.specs.Fmt.{decimal}
 use Rattle.std.proofs.lemmas.Bool.{lt-ltb, ltb-true}

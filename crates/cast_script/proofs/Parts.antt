@@ -1,4 +1,9 @@
 -- What a word or a part of a line is read as, it spells, and what it spells is read of it.
+-- There is a pair of lemmas for each part: one ending in `_is` (what is read is what the words
+-- spell) and one ending in `_again` (the words that spell it are read as it). Numbers, names,
+-- lists of sites and groups, quotas and bytes each have a pair. Reading takes one word after the
+-- other, so the pair of a list follows from that of its items, and a test that a reading makes is
+-- one that the spelling asks.
 use Rattle.std.proofs.Common.{◌≡◌, ◌≢◌, ℕ, ◌≤◌, true, false, cond, ltb, eqb, ◌&&◌, ◌||◌, bytes_eq, Decides, List, [], ◌∷◌, length, get_or, codes, Contains, Result, Ok, Err, inl, inr, IsTrue, refl, sym, ap, subst, ◌∙◌, arith}
 use Rattle.std.specs.Borrow.{Bor}
 use Rattle.std.specs.Fmt.{decimal}

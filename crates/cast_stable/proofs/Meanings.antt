@@ -1,4 +1,10 @@
 -- The ledger means what it tells of, and keeps that meaning.
+-- What a ledger means is a past: the messages received, acknowledged and told of. `new_fits` says
+-- that a new ledger has an empty past; `receive_fits`, `ack_fits`, `learn_fits` and `tell_fits`
+-- say that each change of the ledger is the same change of its past. The ledger keeps counts in
+-- place of names: each count stands for the acknowledgements of one source, and an answer compares
+-- counts. The lemmas `received_meant` to `stable_meant` show that each answer is then the one that
+-- the past gives.
 use Rattle.std.proofs.Common.{◌≡◌, ℕ, ◌+◌, ◌<◌, ◌≤◌, max, Bool, true, false, ◌&&◌, ◌||◌, cond, None, unwrap_or, List, [], ◌∷◌, ◌++◌, map, Contains, refl, sym, ap, subst, ◌∙◌, inl, inr, arith}
 use Rattle.std.specs.Prelude.{if◌then◌else◌, not, ◌≢◌, ◌==◌, min, nat_lt, nat_le}
 use Rattle.std.specs.List.{list_any, fold}

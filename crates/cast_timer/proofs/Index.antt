@@ -1,4 +1,10 @@
--- Frames that go with a map of their moments, and what is owed once keys are put in, taken out and looked up.
+-- Frames that go with a map of their moments, and what is owed once keys are put in, taken out and
+-- looked up.
+-- `IsIndex` says that the map gives the moment of each frame in the list. `index_with`,
+-- `index_paid` and `index_renewed` say that putting in a key, taking out keys and moving a key
+-- keep it. Each key is in the list once at most, so that a key that changes is taken out and put
+-- in, and all others are found as before. The last part finds the entries up to a key by a range
+-- of the map (`between`), since keys that differ in their counts alone are ordered by these.
 use Rattle.std.proofs.Common.{◌≡◌, ℕ, Bool, true, false, not, cond, ◌&&◌, ◌||◌, List, [], ◌∷◌, filter, Ordering, Less, Equal, Greater, Option, Some, None, refl, sym, ap, ◌∙◌, inl, inr, arith}
 use Rattle.std.specs.Prelude.{◌==◌, is_some, nat_le, ◌<◌, ◌≤◌}
 use Rattle.std.specs.List.{list_any, list_all}

@@ -1,4 +1,10 @@
--- The rows and a domain's map of moments say the same: what a change of both leaves, and what is owed by them.
+-- The rows and a domain's map of moments say the same: what a change of both leaves, and what is
+-- owed by them.
+-- `IsKept` says so: each key is owed at the moment that the map gives. `keeps_added`,
+-- `keeps_taken` and `keeps_moved` keep it where one key changes, `keeps_dropped` and
+-- `keeps_at_once` where many do. A change of one key writes the row of one moment and one entry of
+-- the map, and both then answer for this key alike; other keys, and rows of other domains, stand.
+-- Many changes are one after the other.
 use Rattle.std.proofs.Common.{◌≡◌, ◌≢◌, ℕ, suc, ◌+◌, ◌<◌, Bool, true, false, cond, ◌&&◌, ◌||◌, List, [], ◌∷◌, filter, length, take, get_or, Option, Some, None, refl, sym, ap, subst, ◌∙◌, inl, inr, arith}
 use Rattle.std.specs.Prelude.{◌==◌, map, nat_le, slice_index_or}
 use Rattle.std.specs.BTreeMap.{is_at}

@@ -1,4 +1,9 @@
 -- Rows by their moments: what is owed by them rises, and has what is held in them.
+-- `owed_rises` says that what is owed rises where the rows do, and `owed_held` that a frame is
+-- owed exactly if its key is held at its moment. Rows stand in the order of their moments, and the
+-- keys of each row in theirs, so frames come moment by moment. `Holds` is one change of one row:
+-- `holds_with`, `holds_first` and `holds_dropped` say that writing, adding and removing a row
+-- change no other key.
 use Rattle.std.proofs.Common.{◌≡◌, ℕ, Bool, true, false, cond, ◌&&◌, ◌||◌, List, [], ◌∷◌, ◌++◌, Ordering, Less, Equal, Greater, Option, Some, None, length, refl, sym, ap, ◌∙◌, inl, inr, arith}
 use Rattle.std.specs.Prelude.{◌==◌, Result, Ok, Err, OnOk, OnErr}
 use Rattle.std.specs.List.{list_any, list_all, AllByRecursion}

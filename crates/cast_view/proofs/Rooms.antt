@@ -1,4 +1,9 @@
--- The next views have room for whom they are to have: what changes the expected members keeps it so.
+-- The next views have room for whom they are to have: what changes the expected members keeps it
+-- so.
+-- A home is sound where no more processes are expected than a view may have. `sound_joined`,
+-- `sound_leaving`, `sound_suspected`, `sound_joins` and `sound_passed` say that each change of the
+-- expected members keeps it so. All but a join add no one to the expected, so they stay as few; a
+-- join adds one, and is refused where there is no room for it (`join_fits`).
 use Rattle.std.proofs.Common.{◌≡◌, ℕ, ◌+◌, ◌≤◌, ◌<◌, Bool, true, false, ◌&&◌, ◌||◌, not, List, [], ◌∷◌, ◌++◌, filter, length, Equal, refl, sym, ap, ◌∙◌, inl, inr, arith, IsTrue}
 use Rattle.std.specs.Prelude.{if◌then◌else◌, nat_le}
 use Rattle.std.specs.List.{list_all}

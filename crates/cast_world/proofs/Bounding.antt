@@ -1,4 +1,10 @@
 -- What is kept is bounded, whatever frames come.
+-- `what_is_kept_is_bounded` says so. The invariant is `Bounded`: at most twice the quota of
+-- messages are kept that no waiting Install covers (`few`), each kept message is of its group's
+-- view, and a Want is owed only of a message that the site or the home still waits for. A site
+-- takes a message only where the quota has room or an Install waits for it, so receiving keeps
+-- this. While a site passes to a view, the messages of the view before it are set apart, and it
+-- lets all of them go.
 use Rattle.std.proofs.Common.{ap, arith, inl, inr, subst, sym, ◌∙◌}
 use Rattle.std.proofs.lemmas.Bool.{and_from, eq-eqb, eqb-true, false_from_ne_true, false≢true, lt-ltb, ltb-true, true≢false}
 use Rattle.std.proofs.lemmas.List.Elements.{Contains-push_cases, filter-append}

@@ -1,5 +1,9 @@
--- What holds of how views end holds in every network that steps lead to. So who passes from one view to the next delivered the ABCASTs of the
--- first in the same order.
+-- What holds of how views end holds in every network that steps lead to. So who passes from one
+-- view to the next delivered the ABCASTs of the first in the same order.
+-- The claims are `same_order` and `starts_are_known`. `Everything` joins all invariants of a
+-- network; `ended_in_every` says that it holds wherever steps lead, by one step at a time: a step
+-- is the moves of one site, each of which keeps it. Two who pass have delivered prefixes of the
+-- order that the view ended with, and the same messages, so the prefixes are one.
 use Rattle.cast_types.proofs.Orders.{group_itself, same_site}
 use Rattle.cast_world.proofs.ListsAreActs.{abcasts_are_acts}
 use Rattle.std.proofs.Common.{ap, arith, inl, inr, subst, sym, ◌∙◌}

@@ -1,4 +1,9 @@
 -- Every move of one site keeps what holds of how views end.
+-- The claim is `kept_closing`: `ClosingNow`, what holds of how views end, is kept by all moves of
+-- a site. A view ends with one order for all who pass to the next view. `sends_closing` is a
+-- message that is sent: it is of the group's view, which has not ended at this site.
+-- `delivers_closing` is a delivery: while an Install waits, it goes by the order that the view
+-- ends with. The other moves deliver nothing.
 use Rattle.std.proofs.Common.{ap, arith, inl, inr, subst, sym, ◌∙◌}
 use Rattle.std.proofs.lemmas.Bool.{cases_Bool, false≢true, true≢false}
 use Rattle.std.proofs.lemmas.List.Elements.{Contains-push_cases}

@@ -1,4 +1,6 @@
--- What tests of the rules are for. Over rules that lack one test, a schedule ends in what the laws exclude: each of these is computed.
+-- What tests of the rules are for. Over rules that lack one test, a schedule ends in what the laws
+-- exclude: each of these is computed.
+-- Each part names the test that is left out, runs a schedule, and states the law that then fails.
 use Rattle.cast_delay.proofs.MemberLemmas.{member_any}
 use Rattle.cast_types.proofs.Contains.{contains_here}
 use Rattle.cast_types.proofs.Orders.{group_itself, uid_itself}

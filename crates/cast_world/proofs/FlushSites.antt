@@ -1,4 +1,9 @@
 -- What holds of flushes at a site is kept by each of its primitive moves.
+-- `SiteAgrees` says that a site goes by the choice of members and cut that was made for each view.
+-- There is one lemma for each move that says that it stays so (`emits_agrees`, `received_agrees`,
+-- `delivered_agrees`, `sent_agrees`). A move changes one process, one group or what was received,
+-- so each lemma looks at that part alone. A frozen group delivers only what the cut has
+-- (`ready_within`).
 use Rattle.std.proofs.Common.{ap, arith, inl, inr, subst, sym, ◌∙◌}
 use Rattle.std.proofs.lemmas.Bool.{and_parts, eq-eqb, eqb-true, false≢true, or_cases, true≢false}
 use Rattle.std.proofs.lemmas.List.Elements.{Contains-append_left, Contains-push_cases}

@@ -1,4 +1,9 @@
 -- What holds of flushes is kept by every step of every run.
+-- The claim is `kept_flush`. `Flushing` holds of a network for some choice of members and a cut
+-- for each view: each site and each frame agrees with it, and each view that ended is covered. A
+-- move that decides nothing keeps the choice (`flush_move`). A decision adds one view to it
+-- (`decides_flush`), with the cut that the reports give: each member at a site that is not
+-- suspected has reported (`has_reported`).
 use Rattle.std.proofs.Common.{ap, arith, inl, inr, subst, sym, ◌∙◌}
 use Rattle.std.proofs.lemmas.Bool.{and_parts, cases_lt, eq-eqb, eqb-true, false≢true, true≢false}
 use Rattle.std.proofs.lemmas.List.Elements.{Contains-append_cases}

@@ -1,4 +1,8 @@
 -- What the moves of a history keep, its rules of commands and frames keep.
+-- For any invariant `I` that each move keeps (`FullyKept`), `commanded_keeps` says that a command
+-- keeps `I`, and `framed_keeps` says that a frame does. A rule is made of questions, which change
+-- nothing, and of moves, each of which keeps `I`; the tests before a move say what that move may
+-- suppose. There is one lemma for each rule, which stands behind those of the rules that it uses.
 use Rattle.cast_types.proofs.Orders.{uid_itself}
 use Rattle.std.proofs.Common.{ap, arith, inl, inr, subst, sym, ◌∙◌}
 use Rattle.std.proofs.lemmas.Bool.{and_parts, eq-eqb, eqb-true, false≢true, leb-false, ltb-false, ltb-true, true≢false}

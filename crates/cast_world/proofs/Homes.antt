@@ -1,4 +1,9 @@
 -- Lists of sites, and homes that change without a decision.
+-- `HomeFollows` says how a home may change as frames come: its number and its members stay, and
+-- all that is new in it came in a frame. One lemma for each change says that it does so
+-- (`replied_follows`, `suspicion_follows`, `request_follows`). A change touches either the phase,
+-- of which `PhaseFollows` asks the same, or the requests; and who was awaited is awaited still, or
+-- reported, or is suspected.
 use Rattle.std.proofs.Common.{Equal, Greater, Less, Ordering, ap, arith, inl, inr, subst, sym, ◌∙◌}
 use Rattle.std.proofs.lemmas.Bool.{and_parts, cases_Bool, eqb-true, false≢true, true≢false}
 use Rattle.std.proofs.lemmas.Cmp.{nat_cmp_total, on_total}

@@ -1,4 +1,8 @@
 -- The moves of a history, each with all that is known when a rule makes it.
+-- `FullyKept` lists the moves, and for each what an invariant may suppose of it. `kept_fully` says
+-- that what the plain moves keep (`Kept`) is kept by these too, as each of these is a plain move
+-- of which more is known. Where a rule makes several moves in turn, what holds between them is
+-- `Between` (while a site passes to a view) or `During` (while it takes a message).
 use Rattle.std.proofs.Common.{inr}
 use Rattle.std.specs.Prelude.{◌+◌, ◌++◌, ◌<◌, Bool, Contains, List, Some, [], false, true, ℕ, ◌∷◌, ◌≡◌, ◌⊎◌}
 use Rattle.cast_clock.specs.Times.{view_of}

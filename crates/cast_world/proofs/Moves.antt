@@ -1,4 +1,9 @@
 -- Each primitive move of a site goes forward, and keeps what holds of the site.
+-- `Later` relates a state to what comes after it, and `SiteHolds` is what holds of one site in a
+-- network. For each move there is a lemma that says that the state goes forward (`later_sent`,
+-- `later_passing`) and one that says that `SiteHolds` stays (`emits_site`, `received_site`,
+-- `sent_site`). A move changes one process, one group, or what was received; all else stands, so
+-- each lemma looks at that part alone.
 use Rattle.std.proofs.Common.{ap, arith, inl, inr, subst, sym, ◌∙◌}
 use Rattle.std.proofs.lemmas.Bool.{eq-eqb, eqb-true, false≢true, true≢false}
 use Rattle.std.proofs.lemmas.List.Elements.{Contains-append_left, Contains-push, Contains-push_cases}

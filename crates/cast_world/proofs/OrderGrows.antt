@@ -1,4 +1,10 @@
--- What holds of orders is kept where a set-order message is sent: the order of its view grows by what the message tells.
+-- What holds of orders is kept where a set-order message is sent: the order of its view grows by
+-- what the message tells.
+-- The claim is `told_ordered`: the sites go by the order `longer`, which is the order of the view
+-- with the ids of the message behind it. Only who has the token sends such a message. By then it
+-- has delivered the order and those ids (`all_done`), and the message tells the places that come
+-- next (`tells_it`); so the new order begins with the old one, and the order of each other view
+-- stands as it was.
 use Rattle.cast_types.proofs.Orders.{group_cases, group_itself, site_itself}
 use Rattle.std.proofs.Common.{ap, append_assoc, arith, inl, inr, subst, sym, ◌∙◌}
 use Rattle.std.proofs.lemmas.Bool.{and_parts, eq-eqb, eqb-true, false≢true, true≢false}

@@ -1,5 +1,10 @@
--- What holds of orders is kept where a hand-over is sent: who sent it has delivered nothing beyond the order, and nobody has the token until the process that
--- it names delivers it.
+-- What holds of orders is kept where a hand-over is sent: who sent it has delivered nothing beyond
+-- the order, and nobody has the token until the process that it names delivers it.
+-- The claim is `handed_ordered`: the order stays, and the last hand-over of the view is now this
+-- message (`next_handed`). Who sends it holds the token and has settled all that it delivered,
+-- which is the whole order (`settles_all`, `place_is`). By sending it gives the token away, so no
+-- process has it until the process that is named delivers the message; the hand-overs of other
+-- views stand.
 use Rattle.cast_types.proofs.Orders.{group_itself, site_itself}
 use Rattle.std.proofs.Common.{ap, arith, inl, inr, subst, sym, ◌∙◌}
 use Rattle.std.proofs.lemmas.Bool.{and_parts, cases_Bool, eq-eqb, eqb-true, false≢true, true≢false}

@@ -1,4 +1,9 @@
 -- Lists that begin alike, and orders that are known in part.
+-- An order is a list of entries, and facts tell which entry stands at which place. `known_begins`
+-- says that facts that stand in an order tell a prefix of it; `known_whole` says that they tell
+-- all of it where each place is told. `next_begins` says that who delivers the next of what it
+-- knows has delivered a prefix still. Two prefixes of one order are comparable (`comparable`), and
+-- no entry stands twice in it.
 use Rattle.std.proofs.Common.{ap, append_assoc, arith, inl, inr, subst, sym, ◌∙◌}
 use Rattle.std.proofs.lemmas.Bool.{eq-eqb, eqb-true, true≢false}
 use Rattle.std.proofs.lemmas.List.Elements.{Contains-append_cases, Contains-append_left, Contains-append_right}

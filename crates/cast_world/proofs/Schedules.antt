@@ -1,4 +1,5 @@
 -- Worked schedules over several sites.
+-- Each runs steps of a small network by computation, and states what the processes delivered.
 use Rattle.cast_delay.proofs.MemberLemmas.{member_any}
 use Rattle.std.proofs.Common.{ap, append_assoc, subst, sym, ◌∙◌}
 use Rattle.std.proofs.lemmas.Bool.{false≢true, true≢false}

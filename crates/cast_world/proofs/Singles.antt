@@ -1,4 +1,9 @@
 -- No message is kept twice, whatever frames come, where their stamps are in order.
+-- `single_after` says so of each run of events. The invariant is `Single`: each name is kept once
+-- at most (`KeptOnce`); each kept message was received; and each process counts the kept messages
+-- of its own name (`CountsOwn`). So a message that a process sends has a new name, since its count
+-- is above those; one that another site sends is taken only where it was not received. No other
+-- move adds a message.
 use Rattle.std.proofs.Common.{ap, arith, inl, inr, subst, sym, ◌∙◌}
 use Rattle.std.proofs.lemmas.Bool.{and_from, and_parts, cases_Bool, eq-eqb, false_from_ne_true, false≢true, true≢false}
 use Rattle.std.proofs.lemmas.List.Elements.{Contains-append_left, Contains-push_cases, filter-append}

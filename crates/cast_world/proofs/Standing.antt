@@ -1,4 +1,9 @@
 -- Daemons stand for a network, through each step.
+-- A network of daemons is at each moment like a network of the model in which each site runs one
+-- domain. The claims end in `_stands`, or in the name of what a step does (`serves_at`, `acts`,
+-- `hands`). A step changes one daemon: there the domain's step is that of the model, and the
+-- frames that it sent are added on both sides. All other daemons stand as they were. `new_world`
+-- is the start.
 use Rattle.std.proofs.Common.{ap, arith, get_or, inl, inr, map, subst, sym, ◌∙◌}
 use Rattle.std.proofs.lemmas.Bool.{cases_Bool, eq-eqb, eqb-true, false_from_ne_true, false≢true, true≢false}
 use Rattle.std.proofs.lemmas.List.{map-append}

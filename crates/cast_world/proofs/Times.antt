@@ -1,4 +1,10 @@
--- What times cover: joins, counts that are raised, and views that are entered, cover all that was covered.
+-- What times cover: joins, counts that are raised, and views that are entered, cover all that was
+-- covered.
+-- A time covers a message where it counts the message. `join_covers` and `below_join` say that a
+-- join covers what either time covers, `below_bumped` says so of a count that is raised, and
+-- `below_entering` of a view that is entered. Each changes the clock of one group, or takes the
+-- greater one for each group; a clock of a later view covers all of the views before it. The rest
+-- keeps times in order.
 use Rattle.std.proofs.Common.{Equal, Greater, Less, Ordering, ap, arith, inl, inr, subst, sym, ◌∙◌}
 use Rattle.std.proofs.lemmas.Bool.{and_parts, cases_lt, eq-eqb, false≢true, le-leb}
 use Rattle.std.proofs.lemmas.Cmp.{nat_cmp_total, on_total, then_total, tied_itself}

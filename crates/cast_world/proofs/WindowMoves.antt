@@ -1,4 +1,9 @@
 -- A move of one site keeps what holds of acknowledgements and of what sites know of orders.
+-- `window_keep` says so of a move by which no one who tells an order delivers: each site knows no
+-- less of each order, and no order grows. `window_delivers` is a delivery. Where its process tells
+-- the order of its view, all sites know what it has settled, since what is settled is stable; so
+-- the part that is known to all may be greater (`wider`), and what it has delivered past that is
+-- bounded.
 use Rattle.cast_types.proofs.Orders.{group_itself}
 use Rattle.std.proofs.Common.{ap, arith, inl, inr, subst, sym, ◌∙◌}
 use Rattle.std.proofs.lemmas.Bool.{and_parts, cases_Bool, eq-eqb, eqb-true, false_from_ne_true, false≢true, ltb-false, ltb-true, true≢false}

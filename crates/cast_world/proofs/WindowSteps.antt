@@ -1,4 +1,9 @@
 -- Every move of one site keeps what holds of acknowledgements and of what sites know of orders.
+-- The claim is `kept_window`: `WindowNow` is kept by all moves of a site. It says how much of each
+-- order every site knows, that each acknowledgement is of a message that its site has, and that
+-- what is owed is true. A move under which no order grows, and by which no one who tells an order
+-- delivers, keeps it (`quiet`). `sends_window` and `delivers_window` are the others, by the lemmas
+-- of `WindowMoves`.
 use Rattle.cast_types.proofs.Orders.{group_itself, same_uid}
 use Rattle.std.proofs.Common.{ap, arith, inl, inr, subst, sym, ◌∙◌}
 use Rattle.std.proofs.lemmas.Bool.{false≢true, true≢false}

@@ -1,5 +1,9 @@
--- When what a rule leads to at one site stands for what it leads to at another: where each question has the same answer at both, and each
--- move leads to states that stand for each other. So what is to be shown of two sites is one fact for each question and each move.
+-- When what a rule leads to at one site stands for what it leads to at another: where each
+-- question has the same answer at both, and each move leads to states that stand for each other.
+-- So what is to be shown of two sites is one fact for each question and each move.
+-- `follows_itself` says that a site follows itself while an invariant holds, and `with_invariant`
+-- joins a relation with an invariant of one side. A rule is made of choices, lists and moves, so a
+-- relation that each question and each move keeps is kept by the whole rule.
 use Rattle.std.proofs.Common.{◌≡◌, ◌<◌, ℕ, Bool, true, false, List, [], ◌∷◌, Option, Some, None, refl, sym, ap, subst}
 use Rattle.std.specs.Prelude.{⊤, nat_lt, if◌then◌else◌}
 use Rattle.std.specs.List.{fold}
