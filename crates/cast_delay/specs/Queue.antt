@@ -1,6 +1,6 @@
 -- The queue as contracts see it.
--- It has gates of groups, messages in order of receipt, what is kept of each process, and what the processes have
--- reached.
+-- It has gates of groups, messages in order of receipt, what is kept of each process, and what the
+-- processes have reached.
 use Rattle.std.specs.Prelude.{◌≡◌, ℕ, Bool, false, not, if◌then◌else◌, List, map, filter, Contains, Option, Some, None}
 use Rattle.std.specs.List.{fold, find, list_any}
 use Rattle.std.specs.Option.{option_map, option_map_or, option_and_then}
