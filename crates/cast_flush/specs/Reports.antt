@@ -1,5 +1,6 @@
 -- What sites report of a view that ends, and what follows from all reports.
--- That is which messages belong to the view, which of them some of the sites lack, and who has those.
+-- That is which messages belong to the view, which of them some of the sites lack, and who has
+-- those.
 use Rattle.std.specs.Prelude.{ℕ, max, Bool, not, ◌&&◌, nat_lt, List, map, filter, take, Option}
 use Rattle.std.specs.List.{fold, flat_map, filter_map, find, list_any, list_all}
 use Rattle.std.specs.Option.{option_map}

@@ -1,5 +1,6 @@
 -- What is kept of a group's order keeps its meaning, and what it means.
--- What changes it changes what it means in the same way. A closed order stays, and groups do not mix.
+-- What changes it changes what it means in the same way. A closed order stays, and groups do not
+-- mix.
 use Rattle.std.specs.Prelude.{◌≡◌, ℕ, ◌-◌, ◌≤◌, max, Bool, true, false, List, [], ◌∷◌, ◌++◌, length, map, take, drop, Option, Some, None, if◌then◌else◌, ◌&&◌, nat_lt}
 use Rattle.std.specs.List.{list_all}
 use Rattle.cast_types.specs.declared.limits.TheConstants.{MAX_TAIL, MAX_POSITION}

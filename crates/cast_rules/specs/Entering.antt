@@ -1,6 +1,6 @@
 -- How a site passes to the next view of a group.
--- A flush freezes it, the Install of the next one waits, members that the next one lacks are put out, and those that
--- it takes in enter it.
+-- A flush freezes it, the Install of the next one waits, members that the next one lacks are put
+-- out, and those that it takes in enter it.
 use Rattle.std.specs.Prelude.{ℕ, Bool, not, ◌&&◌, ◌||◌, if◌then◌else◌, [], ◌∷◌, ◌++◌}
 use Rattle.cast_types.specs.declared.names.GroupNo.{GroupNo}
 use Rattle.cast_types.specs.declared.names.Standing.TheVariants.{Outside, Member}

@@ -1,5 +1,6 @@
 -- The order of a view's ABCASTs at a site, which processes hold the token, what is to be listed.
--- The site knows the order from all set-order messages that it received. The holders are processes of its own.
+-- The site knows the order from all set-order messages that it received. The holders are processes
+-- of its own.
 use Rattle.std.specs.Prelude.{ℕ, ◌+◌, ◌-◌, Bool, not, ◌&&◌, ◌==◌, nat_lt, if◌then◌else◌, List, [], ◌∷◌, ◌++◌, length, map, filter, drop, Option, Some, None, is_some}
 use Rattle.std.specs.List.{flat_map, fold, find}
 use Rattle.cast_types.specs.declared.names.GroupNo.{GroupNo}

@@ -1,5 +1,6 @@
 -- What a history keeps: sessions, messages, acknowledgements; and changes of it.
--- It is the state of one domain at one site, with its whole history, and what its parts say together.
+-- It is the state of one domain at one site, with its whole history, and what its parts say
+-- together.
 use Rattle.std.specs.Prelude.{ℕ, ◌+◌, min, Bool, not, ◌&&◌, ◌||◌, ◌==◌, nat_lt, nat_le, if◌then◌else◌, List, [], ◌∷◌, ◌++◌, length, filter, Option, Some, None}
 use Rattle.std.specs.List.{find, list_any, list_all, range_with_len}
 use Rattle.cast_types.specs.declared.names.SiteNo.{SiteNo}

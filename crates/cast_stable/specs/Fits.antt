@@ -1,6 +1,6 @@
 -- What a site keeps of receipts means.
--- It means the other sites of each group's view, and of what rules may still ask of the messages received,
--- acknowledged and told to be stable.
+-- It means the other sites of each group's view, and of what rules may still ask of the messages
+-- received, acknowledged and told to be stable.
 use Rattle.std.specs.Prelude.{◌≡◌, ◌<◌, ◌≤◌, ℕ, Bool, true, nat_le, List}
 use Rattle.cast_types.specs.declared.names.SiteNo.{SiteNo}
 use Rattle.cast_types.specs.declared.names.GroupNo.{GroupNo}

@@ -1,6 +1,6 @@
 -- The rules of a flush at a site of the view.
--- It tells the home what it has, wants what it lacks of the view that ends, and completes the Install of the next
--- one.
+-- It tells the home what it has, wants what it lacks of the view that ends, and completes the
+-- Install of the next one.
 use Rattle.std.specs.Prelude.{ℕ, ◌+◌, Bool, false, ◌&&◌, ◌==◌, if◌then◌else◌, Some, None}
 use Rattle.std.specs.List.{fold}
 use Rattle.cast_types.specs.declared.names.SiteNo.{SiteNo}

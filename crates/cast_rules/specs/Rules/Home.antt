@@ -1,6 +1,6 @@
 -- The rules of the home: flushes, decided views, suspicions.
--- It asks what the sites of a view have of it, fetches what some of them lack, decides the next view, and has it
--- installed.
+-- It asks what the sites of a view have of it, fetches what some of them lack, decides the next
+-- view, and has it installed.
 use Rattle.std.specs.Prelude.{ℕ, Bool, not, ◌&&◌, ◌==◌, if◌then◌else◌, List, Option, Some, None}
 use Rattle.std.specs.List.{fold, find}
 use Rattle.std.specs.Option.{option_or, option_map_or}

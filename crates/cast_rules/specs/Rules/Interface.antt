@@ -1,7 +1,8 @@
 -- A domain at its site, as the rules see it: what they ask of it, and what they do to it.
--- A rule is written once, over this, and holds of whatever gives it: of the history of a domain, and of the records that
--- stand for a history. The rules of what a domain does of itself after an event ask and do more, and that stands apart:
--- what is ready follows from what the first rules tell of the order.
+-- A rule is written once, over this, and holds of whatever gives it: of the history of a domain,
+-- and of the records that stand for a history. The rules of what a domain does of itself after an
+-- event ask and do more, and that stands apart: what is ready follows from what the first rules
+-- tell of the order.
 use Rattle.std.specs.Prelude.{ℕ, Bool, List, Option}
 use Rattle.cast_types.specs.declared.names.SiteNo.{SiteNo}
 use Rattle.cast_types.specs.declared.names.GroupNo.{GroupNo}

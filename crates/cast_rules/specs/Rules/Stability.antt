@@ -1,5 +1,6 @@
 -- The rules of stability: what Acks and Stables do.
--- A site learns by acknowledgements which messages of its own processes are stable, and tells the other sites.
+-- A site learns by acknowledgements which messages of its own processes are stable, and tells the
+-- other sites.
 use Rattle.std.specs.Prelude.{ℕ, Bool, ◌&&◌, nat_lt, nat_le, if◌then◌else◌}
 use Rattle.std.specs.List.{fold}
 use Rattle.cast_types.specs.declared.names.SiteNo.{SiteNo}
