@@ -63,7 +63,11 @@ use Rattle.cast_domain.specs.Records.{Records}
 use Rattle.cast_domain.specs.Calls.{record_at, standing_of, time_of, tell_in, go_in, receive_in, freeze_in, pend_in, awaits_own_in, place_to_pass_of, records}
 use Rattle.cast_domain.specs.Fits.{process_named, record_for, LogFits, Fits, past_of}
 use Rattle.cast_domain.proofs.Acting.{quiet_outside, logs_quiet}
-use Rattle.cast_domain.proofs.Standing.{process_here, record_there, standing_there, time_there, open_row, status_there, box_there, fits_push, fits_counted, fits_close, fits_go, fits_standing, fits_told, fits_acts, fits_here, fits_gated, orders_group, fits_home, fits_receive}
+use Rattle.cast_domain.proofs.Standing.{process_here, record_there, standing_there, time_there, orders_group}
+use Rattle.cast_domain.proofs.SessionChanges.{open_row, status_there, box_there, fits_push, fits_counted, fits_close, fits_go}
+use Rattle.cast_domain.proofs.GroupChanges.{fits_here, fits_gated, fits_home}
+use Rattle.cast_domain.proofs.ProcessChanges.{fits_standing, fits_told, fits_acts}
+use Rattle.cast_domain.proofs.Arrivals.{fits_receive}
 use Rattle.cast_domain.proofs.Logs.{logs_close, new_unreceived}
 use Rattle.cast_domain.proofs.Ordering.{place_to_pass_there, unfrozen_waits}
 use Rattle.cast_domain.proofs.Reports.{report_there}

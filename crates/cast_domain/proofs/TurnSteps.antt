@@ -68,7 +68,8 @@ use Rattle.cast_types.proofs.Iterates.{iterate_still}
 use Rattle.cast_domain.proofs.Framing.{StandsIn, records_follow_all}
 use Rattle.cast_domain.proofs.Following.{IsAt}
 use Rattle.cast_domain.proofs.Remaining.{names_after}
-use Rattle.cast_domain.proofs.Standing.{process_here, member_row, named_set, still_in, still_idle}
+use Rattle.cast_domain.proofs.Standing.{process_here, member_row, still_idle}
+use Rattle.cast_domain.proofs.ProcessChanges.{named_set, still_in}
 
 -- What the turns leave as it is
 
