@@ -35,7 +35,7 @@ use Rattle.cast_rules.specs.Rules.Home.{suspect}
 use Rattle.cast_rules.specs.Rules.Frames.{framed}
 use Rattle.cast_rules.specs.Rules.Owing.{tick}
 use Rattle.cast_rules.specs.Rules.Asking.{request}
-use Rattle.cast_rules.proofs.Lawful.{same_request}
+use Rattle.cast_rules.proofs.SameLaw.{same_request}
 use Rattle.cast_rules.proofs.LawfulSteps.{lawful_going}
 use Rattle.cast_rules.proofs.Rules.Follows.{IsInvariantOfAll}
 use Rattle.cast_rules.proofs.Rules.Leaving.{left_keeps}

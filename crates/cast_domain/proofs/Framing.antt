@@ -56,7 +56,8 @@ use Rattle.cast_rules.proofs.Rules.Leaving.{leave_all_follows}
 use Rattle.cast_rules.proofs.Rules.Commands.{commanded_follows}
 use Rattle.cast_rules.proofs.Rules.Home.{suspect_follows}
 use Rattle.cast_rules.proofs.Rules.Frames.{framed_follows}
-use Rattle.cast_rules.proofs.Lawful.{same_pushing, same_closing, local_speaks}
+use Rattle.cast_rules.proofs.SameLaw.{same_pushing, same_closing}
+use Rattle.cast_rules.proofs.LawfulMessages.{local_speaks}
 use Rattle.cast_rules.proofs.LawfulSteps.{placed_at, taken_current, entered, all_lawful, lawful_going, taken_speaks}
 use Rattle.cast_domain.specs.declared.record.GroupRecord.{GroupRecord}
 use Rattle.cast_domain.specs.Records.{Records}

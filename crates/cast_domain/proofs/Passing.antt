@@ -20,7 +20,7 @@ use Rattle.cast_rules.specs.State.{State, local, serials, is_group, local_member
 use Rattle.cast_rules.specs.Entering.{put_outside, is_put_out, putting_out, passing}
 use Rattle.cast_rules.specs.Acts.Act.{Left}
 use Rattle.cast_rules.specs.Lawful.{IsLawful}
-use Rattle.cast_rules.proofs.Lawful.{lawful_all_parted}
+use Rattle.cast_rules.proofs.LawfulViews.{lawful_all_parted}
 use Rattle.cast_domain.specs.Records.{Records}
 use Rattle.cast_domain.specs.Calls.{local_in, serials_in, record_at, standing_of, tell_in, put_out_in, is_put_out_in, put_out_if_in, put_out_all_in, begin_view_in, pass_in, gone_in, members_in}
 use Rattle.cast_domain.specs.Fits.{Fits}
