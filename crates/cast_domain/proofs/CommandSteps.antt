@@ -42,7 +42,9 @@ use Rattle.cast_domain.specs.Fits.{process_named, TellsOrder, LogFits, Fits}
 use Rattle.cast_domain.proofs.Logs.{IsNew}
 use Rattle.cast_domain.proofs.Following.{asked_of, fits_sends}
 use Rattle.cast_domain.proofs.Ordering.{settled_there}
-use Rattle.cast_domain.proofs.Standing.{record_there, member_row, standing_there, time_there, fits_sent, process_here, fits_receive, fits_receive_with}
+use Rattle.cast_domain.proofs.Standing.{record_there, member_row, standing_there, time_there, process_here}
+use Rattle.cast_domain.proofs.ProcessChanges.{fits_sent}
+use Rattle.cast_domain.proofs.Arrivals.{fits_receive, fits_receive_with}
 use Rattle.cast_domain.proofs.Rows.{row_given}
 use Rattle.cast_domain.proofs.Releases.{current_same, current_stands}
 use Rattle.cast_types.proofs.Bools.{same_bools, and_none}

@@ -35,7 +35,7 @@ use Rattle.cast_rules.specs.Rules.Home.{suspect}
 use Rattle.cast_rules.specs.Rules.Frames.{framed}
 use Rattle.cast_rules.specs.Rules.Owing.{tick}
 use Rattle.cast_rules.specs.Rules.Asking.{request}
-use Rattle.cast_rules.proofs.Lawful.{same_request}
+use Rattle.cast_rules.proofs.SameLaw.{same_request}
 use Rattle.cast_rules.proofs.LawfulSteps.{lawful_going}
 use Rattle.cast_rules.proofs.Rules.Follows.{IsInvariantOfAll}
 use Rattle.cast_rules.proofs.Rules.Leaving.{left_keeps}
@@ -49,7 +49,9 @@ use Rattle.cast_domain.specs.Fits.{process_named, ProcessesFit, Fits, AreDismiss
 use Rattle.cast_domain.proofs.Rows.{names_of, row_by_names}
 use Rattle.cast_domain.proofs.Remaining.{RemainAs, gone_of, remain_as, all_remain}
 use Rattle.cast_domain.proofs.Dismissals.{still_dismissed}
-use Rattle.cast_domain.proofs.Standing.{process_here, fits_if, fits_go, fits_open, status_there}
+use Rattle.cast_domain.proofs.Standing.{process_here, fits_if}
+use Rattle.cast_domain.proofs.SessionChanges.{fits_go, status_there}
+use Rattle.cast_domain.proofs.Arrivals.{fits_open}
 use Rattle.cast_domain.proofs.Framing.{fits_left}
 
 -- Who leaves all groups is in none

@@ -38,7 +38,9 @@ use Rattle.cast_rules.specs.Lawful.{IsLawful}
 use Rattle.cast_domain.specs.Fits.{Fits}
 use Rattle.cast_domain.proofs.Logs.{IsFresh, held_log, held_fresh, log_of_held}
 use Rattle.cast_domain.proofs.Acting.{quiet_if, quiet_entered, logs_quiet}
-use Rattle.cast_domain.proofs.Standing.{CountsStill, fits_told, fits_member, fits_if, record_there, standing_there, time_there, fits_view, still_in, fits_acts}
+use Rattle.cast_domain.proofs.Standing.{CountsStill, fits_if, record_there, standing_there, time_there}
+use Rattle.cast_domain.proofs.GroupChanges.{fits_view}
+use Rattle.cast_domain.proofs.ProcessChanges.{fits_told, fits_member, still_in, fits_acts}
 use Rattle.cast_types.proofs.Bools.{and_none}
 
 -- Small truths of tests

@@ -18,7 +18,9 @@ use Rattle.cast_domain.specs.Calls.{records, records_sessions, open_in, take_ent
 use Rattle.cast_rules.specs.Lawful.{IsLawful, IsTyped}
 use Rattle.cast_domain.specs.GivenSessions.{status_in}
 use Rattle.cast_domain.specs.Fits.{Fits}
-use Rattle.cast_domain.proofs.Standing.{fits_if, fits_open, fits_take_entries, fits_counted, sessions_there, status_there, box_there}
+use Rattle.cast_domain.proofs.Standing.{fits_if}
+use Rattle.cast_domain.proofs.SessionChanges.{fits_take_entries, fits_counted, sessions_there, status_there, box_there}
+use Rattle.cast_domain.proofs.Arrivals.{fits_open}
 use Rattle.cast_domain.proofs.Framing.{fits_framed, fits_commanded, fits_suspect}
 use Rattle.cast_domain.proofs.Ending.{fits_ended}
 use Rattle.cast_domain.proofs.Following.{fits_tick}

@@ -56,14 +56,19 @@ use Rattle.cast_rules.proofs.Rules.Leaving.{leave_all_follows}
 use Rattle.cast_rules.proofs.Rules.Commands.{commanded_follows}
 use Rattle.cast_rules.proofs.Rules.Home.{suspect_follows}
 use Rattle.cast_rules.proofs.Rules.Frames.{framed_follows}
-use Rattle.cast_rules.proofs.Lawful.{same_pushing, same_closing, local_speaks}
+use Rattle.cast_rules.proofs.SameLaw.{same_pushing, same_closing}
+use Rattle.cast_rules.proofs.LawfulMessages.{local_speaks}
 use Rattle.cast_rules.proofs.LawfulSteps.{placed_at, taken_current, entered, all_lawful, lawful_going, taken_speaks}
 use Rattle.cast_domain.specs.declared.record.GroupRecord.{GroupRecord}
 use Rattle.cast_domain.specs.Records.{Records}
 use Rattle.cast_domain.specs.Calls.{record_at, standing_of, time_of, tell_in, go_in, receive_in, freeze_in, pend_in, awaits_own_in, place_to_pass_of, records}
 use Rattle.cast_domain.specs.Fits.{process_named, record_for, LogFits, Fits, past_of}
 use Rattle.cast_domain.proofs.Acting.{quiet_outside, logs_quiet}
-use Rattle.cast_domain.proofs.Standing.{process_here, record_there, standing_there, time_there, open_row, status_there, box_there, fits_push, fits_counted, fits_close, fits_go, fits_standing, fits_told, fits_acts, fits_here, fits_gated, orders_group, fits_home, fits_receive}
+use Rattle.cast_domain.proofs.Standing.{process_here, record_there, standing_there, time_there, orders_group}
+use Rattle.cast_domain.proofs.SessionChanges.{open_row, status_there, box_there, fits_push, fits_counted, fits_close, fits_go}
+use Rattle.cast_domain.proofs.GroupChanges.{fits_here, fits_gated, fits_home}
+use Rattle.cast_domain.proofs.ProcessChanges.{fits_standing, fits_told, fits_acts}
+use Rattle.cast_domain.proofs.Arrivals.{fits_receive}
 use Rattle.cast_domain.proofs.Logs.{logs_close, new_unreceived}
 use Rattle.cast_domain.proofs.Ordering.{place_to_pass_there, unfrozen_waits}
 use Rattle.cast_domain.proofs.Reports.{report_there}

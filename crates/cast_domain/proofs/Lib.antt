@@ -18,6 +18,10 @@ pub mod Rows
 pub mod Statuses
 pub mod Remaining
 pub mod Standing
+pub mod SessionChanges
+pub mod GroupChanges
+pub mod ProcessChanges
+pub mod Arrivals
 pub mod Holders
 pub mod Idle
 pub mod Gathering

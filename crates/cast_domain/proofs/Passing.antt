@@ -20,12 +20,13 @@ use Rattle.cast_rules.specs.State.{State, local, serials, is_group, local_member
 use Rattle.cast_rules.specs.Entering.{put_outside, is_put_out, putting_out, passing}
 use Rattle.cast_rules.specs.Acts.Act.{Left}
 use Rattle.cast_rules.specs.Lawful.{IsLawful}
-use Rattle.cast_rules.proofs.Lawful.{lawful_all_parted}
+use Rattle.cast_rules.proofs.LawfulViews.{lawful_all_parted}
 use Rattle.cast_domain.specs.Records.{Records}
 use Rattle.cast_domain.specs.Calls.{local_in, serials_in, record_at, standing_of, tell_in, put_out_in, is_put_out_in, put_out_if_in, put_out_all_in, begin_view_in, pass_in, gone_in, members_in}
 use Rattle.cast_domain.specs.Fits.{Fits}
 use Rattle.cast_domain.proofs.Acting.{quiet_if, quiet_left, logs_quiet}
-use Rattle.cast_domain.proofs.Standing.{member_of_none, fits_told, fits_if, record_there, standing_there, fits_acts}
+use Rattle.cast_domain.proofs.Standing.{member_of_none, fits_if, record_there, standing_there}
+use Rattle.cast_domain.proofs.ProcessChanges.{fits_told, fits_acts}
 use Rattle.cast_domain.proofs.Statuses.{within, not_given}
 use Rattle.cast_domain.proofs.Entering.{or_none, and_true, changed, changed_one, has_row, fits_complete}
 use Rattle.cast_domain.proofs.Rows.{row_ungiven, row_untested, filter_within}

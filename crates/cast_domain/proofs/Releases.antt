@@ -41,7 +41,8 @@ use Rattle.cast_domain.specs.Fits.{process_named, Fits, is_live, past_of}
 use Rattle.cast_rules.proofs.Totals.{In}
 use Rattle.cast_domain.proofs.Rows.{names_of, serial_of, rise_filter, filter_within, row_found, row_untested, row_ungiven}
 use Rattle.cast_domain.proofs.Over.{keeps_fewer}
-use Rattle.cast_domain.proofs.Standing.{orders_same, record_there, place_some, place_none, process_here, given_later, member_of_none}
+use Rattle.cast_domain.proofs.Standing.{orders_same, record_there, place_some, place_none, process_here, member_of_none}
+use Rattle.cast_domain.proofs.Arrivals.{given_later}
 use Rattle.cast_types.proofs.Bools.{neither}
 use Rattle.cast_domain.proofs.Receipts.{live_now}
 use Rattle.cast_stable.specs.Acks.{is_stable_in}

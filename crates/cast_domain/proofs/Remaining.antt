@@ -31,7 +31,7 @@ use Rattle.cast_domain.proofs.Statuses.{found_first}
 use Rattle.cast_domain.specs.Records.{Records}
 use Rattle.cast_domain.specs.Calls.{local_in, serials_in, record_at, standing_of, time_of, with_status, tell_in, enter_in, take_in, view_in, pass_in, is_put_out_in, put_out_in, put_out_if_in, put_out_all_in, release_in, release_all_in, is_ended_in, records, resting_records}
 use Rattle.cast_domain.proofs.Rows.{names_of}
-use Rattle.cast_domain.proofs.Standing.{told_keeps, same_names}
+use Rattle.cast_domain.proofs.ProcessChanges.{told_keeps, same_names}
 
 -- a delivery leaves the rows of the same processes
 pub names_after : (offered : List Offered) (p : Proc) (key : Key) (rows : List Row) → map (λ (row : Row). row.process) (after_delivery offered p key rows) ≡ map (λ (row : Row). row.process) rows

@@ -9,7 +9,7 @@ use Rattle.cast_rules.specs.Resting.{resting}
 use Rattle.cast_rules.specs.Lawful.{IsLawful}
 use Rattle.cast_rules.specs.Rest.{pass, let_go}
 use Rattle.cast_rules.specs.Rules.Rest as rest
-use Rattle.cast_rules.proofs.Lawful.{lawful_let_go}
+use Rattle.cast_rules.proofs.LawfulMessages.{lawful_let_go}
 use Rattle.cast_rules.proofs.LawfulSteps.{lawful_deliver_all, lawful_set_order_by}
 use Rattle.cast_rules.proofs.Rules.Rest.{FollowsToRest, pass_follows}
 use Rattle.cast_domain.specs.Records.{Records}

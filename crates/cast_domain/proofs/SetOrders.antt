@@ -41,7 +41,7 @@ use Rattle.cast_domain.proofs.Releases.{fits_let_go}
 use Rattle.cast_domain.proofs.CommandSteps.{fits_noted, noted_new, next_sound, fits_send_message_with}
 use Rattle.cast_domain.proofs.TurnSteps.{Kept, kept_self, kept_if}
 use Rattle.cast_domain.proofs.Receipts.{live_now}
-use Rattle.cast_rules.proofs.Lawful.{local_speaks}
+use Rattle.cast_rules.proofs.LawfulMessages.{local_speaks}
 
 -- The message
 

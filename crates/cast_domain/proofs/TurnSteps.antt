@@ -59,7 +59,7 @@ use Rattle.cast_domain.proofs.LogSteps.{noting, logs_deliver}
 use Rattle.cast_domain.proofs.Ordering.{order_unclosed, sets_order_there, turns_there}
 use Rattle.cast_rules.proofs.Totals.{left_found, left_le}
 use Rattle.cast_rules.proofs.Spots.{found_passes}
-use Rattle.cast_rules.proofs.Lawful.{delivered_view, lawful_delivery}
+use Rattle.cast_rules.proofs.LawfulMessages.{delivered_view, lawful_delivery}
 use Rattle.cast_domain.proofs.Over.{join_counts_on}
 use Rattle.cast_rules.proofs.LawfulSteps.{all_lawful, lawful_first}
 use Rattle.cast_domain.proofs.Releases.{fits_let_go}
@@ -68,7 +68,8 @@ use Rattle.cast_types.proofs.Iterates.{iterate_still}
 use Rattle.cast_domain.proofs.Framing.{StandsIn, records_follow_all}
 use Rattle.cast_domain.proofs.Following.{IsAt}
 use Rattle.cast_domain.proofs.Remaining.{names_after}
-use Rattle.cast_domain.proofs.Standing.{process_here, member_row, named_set, still_in, still_idle}
+use Rattle.cast_domain.proofs.Standing.{process_here, member_row, still_idle}
+use Rattle.cast_domain.proofs.ProcessChanges.{named_set, still_in}
 
 -- What the turns leave as it is
 

@@ -1,9 +1,9 @@
 -- What holds of each history that events lead to is kept by each event, and until the state rests.
 -- `lawful_acted` says so of an event, and `lawful_rests` of what follows it. Each rule is made of
--- effects, each of which keeps `IsLawful` by `Lawful`; the tests of a rule give what its effect
--- supposes: a message that comes is of the view that its group has reached (`taken_current`), a
--- view that is entered is a later one, and who sets the order may raise its time. The rules of the
--- home change none of this.
+-- effects, each of which keeps `IsLawful` by a lemma of `LawfulMessages` and its like, or by
+-- `SameLaw`; the tests of a rule give what its effect supposes: a message that comes is of the
+-- view that its group has reached (`taken_current`), a view that is entered is a later one, and
+-- who sets the order may raise its time. The rules of the home change none of this.
 use Rattle.std.proofs.Common.{◌≡◌, ℕ, ◌+◌, ◌<◌, zero, suc, Bool, true, false, not, List, [], ◌∷◌, length, Option, Some, None, refl, sym, ap, subst, ◌∙◌, inl, inr, arith}
 use Rattle.std.specs.Prelude.{◌&&◌, nat_lt, nat_le, if◌then◌else◌}
 use Rattle.std.specs.List.{fold, find}
@@ -67,7 +67,11 @@ use Rattle.cast_rules.proofs.Rules.Home.{start_keeps, want_bodies_keeps, decide_
 use Rattle.cast_rules.proofs.Rules.Frames.{framed_keeps}
 use Rattle.cast_rules.proofs.Rules.Flushes.{wanted_current, wanted_of_member, go_on_keeps}
 use Rattle.cast_rules.proofs.Alikes.{alike_installing}
-use Rattle.cast_rules.proofs.Lawful.{same_acted, SameLaw, same_self, same_then, same_fold, same_owe, same_home, same_group_set, same_freezing, same_pending, moves_same, invariant_by_same, kept_map, lawful_same, lawful_sent_here, local_speaks, lawful_if, lawful_fold, lawful_standing, lawful_receiving, lawful_let_go, lawful_sending, lawful_delivery, lawful_passing, lawful_releasing_ended, lawful_outside, same_pushing, same_closing, same_going, same_taking, same_setting, same_counting}
+use Rattle.cast_rules.proofs.Lawful.{same_acted, kept_map, lawful_if, lawful_fold}
+use Rattle.cast_rules.proofs.SameLaw.{SameLaw, same_self, same_then, same_fold, same_owe, same_home, same_group_set, same_freezing, same_pending, moves_same, invariant_by_same, lawful_same, same_pushing, same_closing, same_going, same_taking, same_setting, same_counting}
+use Rattle.cast_rules.proofs.LawfulProcesses.{lawful_standing, lawful_outside}
+use Rattle.cast_rules.proofs.LawfulMessages.{lawful_sent_here, local_speaks, lawful_receiving, lawful_let_go, lawful_sending, lawful_delivery, lawful_releasing_ended}
+use Rattle.cast_rules.proofs.LawfulViews.{lawful_passing}
 
 -- a stamp is in order
 stamp_sorted : (t : ClockList) → is_stamp t ≡ true → is_sorted group_cmp t ≡ true

@@ -25,6 +25,10 @@ pub mod Quiet
 pub mod Still
 pub mod Spots
 pub mod Lawful
+pub mod SameLaw
+pub mod LawfulProcesses
+pub mod LawfulMessages
+pub mod LawfulViews
 pub mod Telling
 pub mod LawfulSteps
 pub mod Counting

@@ -53,7 +53,9 @@ use Rattle.cast_rules.specs.Step.{opening_next}
 use Rattle.cast_rules.specs.Run.{before_event}
 use Rattle.cast_rules.specs.Lawful.{IsLawful}
 use Rattle.cast_rules.specs.Raising.{IsTimeOf, IsFromMember, IsView, IsAmongMembers, CountsMembers, CanRaise}
-use Rattle.cast_rules.proofs.Lawful.{SameLaw, same_send_data, same_fold, seen_view, allowed_view, ready_allows, named_here, same_noting, Stays, outside_still, lawful_all_parted, stays_then}
+use Rattle.cast_rules.proofs.SameLaw.{SameLaw, same_send_data, same_fold, seen_view, same_noting}
+use Rattle.cast_rules.proofs.LawfulMessages.{allowed_view, ready_allows}
+use Rattle.cast_rules.proofs.LawfulViews.{named_here, Stays, outside_still, lawful_all_parted, stays_then}
 use Rattle.cast_rules.proofs.Counting.{all_counted, time_joined, time_entered, time_raised, time_spelled, put_some, counted_put, counted_joined, raised_room, each_sender}
 use Rattle.cast_types.proofs.Bools.{and_end}
 

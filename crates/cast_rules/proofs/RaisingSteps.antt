@@ -56,7 +56,10 @@ use Rattle.cast_rules.proofs.Rules.Leaving.{ended_keeps}
 use Rattle.cast_rules.proofs.Rules.Rest.{told_if_keeps}
 use Rattle.cast_rules.proofs.Rules.Home.{suspect_keeps}
 use Rattle.cast_rules.proofs.Rules.Frames.{framed_keeps}
-use Rattle.cast_rules.proofs.Lawful.{same_home, same_group_set, same_freezing, same_pending, same_acts, left_on, same_closing, same_going, same_taking, same_setting, same_counting, invariant_by_same, lawful_same, same_pushing, lawful_opening, lawful_before, lawful_let_go, lawful_delivery}
+use Rattle.cast_rules.proofs.Lawful.{lawful_opening, lawful_before}
+use Rattle.cast_rules.proofs.SameLaw.{same_home, same_group_set, same_freezing, same_pending, same_acts, same_closing, same_going, same_taking, same_setting, same_counting, invariant_by_same, lawful_same, same_pushing}
+use Rattle.cast_rules.proofs.LawfulProcesses.{left_on}
+use Rattle.cast_rules.proofs.LawfulMessages.{lawful_let_go, lawful_delivery}
 use Rattle.cast_rules.proofs.LawfulSteps.{same_tick, same_start, same_want_bodies, same_decide, placed_at, taken_current, brought_current, brought_of_member, entered, all_lawful, lawful_going, lawful_acted, lawful_first, lawful_set_order_by, lawful_set_order, waits_typed, lawful_go_on, go_on_each}
 use Rattle.cast_rules.specs.Order.{holders}
 use Rattle.cast_rules.proofs.Counting.{is_clock_of, all_both}

@@ -18,7 +18,7 @@ use Rattle.cast_rules.specs.History.{history}
 use Rattle.cast_rules.specs.Rules.Asking.{request}
 use Rattle.cast_rules.specs.Rules.Leaving.{Attempt, leave_group, leave_each, close_session, tell_open, tell}
 use Rattle.cast_rules.specs.Rules.Rest.{tell_if}
-use Rattle.cast_rules.proofs.Lawful.{SameLaw, same_pushing, same_closing, same_request}
+use Rattle.cast_rules.proofs.SameLaw.{SameLaw, same_pushing, same_closing, same_request}
 use Rattle.cast_events.specs.Session.{is_open}
 
 pub record Tells (s : State) (t : State) : Type 0 where

@@ -19,7 +19,8 @@ use Rattle.cast_domain.specs.Calls.{acted_in}
 use Rattle.cast_rules.specs.Lawful.{IsLawful}
 use Rattle.cast_domain.specs.Fits.{Fits, AreDismissed}
 use Rattle.cast_domain.specs.Freed.{AreNotFree, AreFreedBy}
-use Rattle.cast_rules.proofs.Lawful.{lawful_before, lawful_let_go}
+use Rattle.cast_rules.proofs.Lawful.{lawful_before}
+use Rattle.cast_rules.proofs.LawfulMessages.{lawful_let_go}
 use Rattle.cast_rules.proofs.LawfulSteps.{lawful_acted, lawful_rests}
 use Rattle.cast_domain.proofs.EventSteps.{fits_acted, answer_acted}
 use Rattle.cast_domain.proofs.Passes.{fits_between}

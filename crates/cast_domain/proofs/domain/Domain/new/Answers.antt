@@ -7,7 +7,7 @@ use Rattle.cast_rules.specs.Run.{before_event}
 use Rattle.cast_domain.specs.Fits.{Fits, AreDismissed, record_for}
 use Rattle.cast_domain.specs.Freed.{AreNotFree}
 use Rattle.cast_rules.proofs.Lawful.{lawful_opening}
-use Rattle.cast_domain.proofs.Standing.{fits_before}
+use Rattle.cast_domain.proofs.Arrivals.{fits_before}
 use Rattle.cast_domain.proofs.domain.Domain.new.Goals as goal
 
 pub returns-clause-begins : goal.returns-clause-begins
