@@ -22,10 +22,10 @@ pub(crate) struct Flush {
 /// The messages of a group's view with these members that some sites lack and that did not come.
 #[derive(Drop)]
 pub(crate) struct Lacking {
-    pub(crate) group: GroupNo,
-    pub(crate) view: u32,
-    pub(crate) members: Vec<Proc>,
-    pub(crate) ids: Vec<(Proc, u32)>,
+    group: GroupNo,
+    view: u32,
+    members: Vec<Proc>,
+    ids: Vec<(Proc, u32)>,
 }
 
 impl Model for Flush {
