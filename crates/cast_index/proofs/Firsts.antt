@@ -17,7 +17,7 @@ use Rattle.cast_types.proofs.Orders.{same_uid, uid_itself}
 use Rattle.cast_types.proofs.Rising.{less_is}
 use Rattle.cast_types.proofs.Sources.{source_total}
 use Rattle.cast_index.specs.declared.entry.Entry.{Entry}
-use Rattle.cast_index.specs.Index.{entry_cmp, has, is_behind, is_from, count_of_source, lowest_past, IsFirstEntry, IsFirstBehind}
+use Rattle.cast_index.specs.Index.{entry_cmp, has, is_behind, is_from, behind_count, lowest_past, IsFirstEntry, IsFirstBehind}
 use Rattle.cast_index.proofs.Orders.{entry_total, contained, ordered, from_lowest}
 use Rattle.std.specs.BTreeMap.{is_at}
 use Rattle.std.specs.BTreeMap.Range.{range_contains}
@@ -89,7 +89,7 @@ any_from (e ∷ es) u k test there passes = elim (or_cases (uid_eq u e.id && (k.
     or_true true = refl
     or_true false = refl
 
-pub fewer_left : (entries : List Entry) (after : Option Source) (e : Entry) → IsFirstEntry entries (λ x. is_behind after x.id) e → count_of_source entries (Some (source_of e.id)) < count_of_source entries after
+pub fewer_left : (entries : List Entry) (after : Option Source) (e : Entry) → IsFirstEntry entries (λ x. is_behind after x.id) e → behind_count entries (Some (source_of e.id)) < behind_count entries after
 fewer_left entries after e first =
     fewer (λ x. is_behind (Some (source_of e.id)) x.id) (λ x. is_behind after x.id)
     (λ x more. further after e.id x.id first.passes more)

@@ -27,9 +27,9 @@ abbrev pub is_behind : Option Source → Uid → Bool
 is_behind None u = true
 is_behind (Some s) u = is_lt (source_cmp s (source_of u))
 
--- how many pairs have an id whose source does
-abbrev pub count_of_source : List Entry → Option Source → ℕ
-count_of_source entries after = length (filter (λ e. is_behind after e.id) entries)
+-- how many pairs have an id whose source stands behind one
+abbrev pub behind_count : List Entry → Option Source → ℕ
+behind_count entries after = length (filter (λ e. is_behind after e.id) entries)
 
 -- the lowest entry that is of a source behind another
 abbrev pub lowest_past : Source → Entry

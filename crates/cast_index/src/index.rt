@@ -6,7 +6,7 @@ ghost use Rattle.cast_types.specs.declared.names.Uid.{Uid};
 ghost use Rattle.cast_types.specs.declared.names.Key.{Key};
 ghost use Rattle.cast_types.specs.Names.{uid_eq};
 ghost use Rattle.cast_types.specs.Sources.{source_of};
-ghost use Rattle.cast_index.specs.Index.{entry_cmp, has, is_below, is_pair, is_behind, is_from, is_upto, count_of_source, lowest_of, lowest_past, IsCountRange, IsFirstEntry, IsFirstBehind, IsFirstOf, IsLastEntry};
+ghost use Rattle.cast_index.specs.Index.{entry_cmp, has, is_below, is_pair, is_behind, is_from, is_upto, behind_count, lowest_of, lowest_past, IsCountRange, IsFirstEntry, IsFirstBehind, IsFirstOf, IsLastEntry};
 
 use crate::entry::Entry;
 use cast_types::{Key, NoMemory, Proc, Source, Uid, source_of};
@@ -88,7 +88,7 @@ impl Index {
     pub fn first_behind(&self, after: Option<Source>) -> Option<Uid>
         ensures some { IfSome result (IsFirstBehind self.now after) }
         ensures none { IfNone result ((u : Uid) (k : Key) → has self.now u k ≡ true → is_behind after u ≡ false) }
-        ensures fewer { IfSome result (λ id. count_of_source self.now (Some (source_of id)) < count_of_source self.now after) }
+        ensures fewer { IfSome result (λ id. behind_count self.now (Some (source_of id)) < behind_count self.now after) }
     {
         let entry = entry_behind(&self.entries, after)?;
         Some(entry.id)
