@@ -34,7 +34,9 @@ use Rattle.cast_rules.specs.Rules.Data.{is_used, is_outdated, acknowledge, want_
 use Rattle.cast_rules.specs.Rules.Stability.{is_used_ack, with_ack, tell_stable, tell_more, on_ack, on_stable}
 use Rattle.cast_rules.specs.Rules.Frames.{framed, group_of, on_frame}
 use Rattle.cast_domain.specs.Records.{Records}
-use Rattle.cast_domain.specs.Calls.{place_in, record_at, is_open_in, send_in, note_owed_in, pay_upto_in, note_ack_in, note_stable_in, receive_in, acted_in, records}
+use Rattle.cast_domain.specs.PartCalls.{place_in, record_at, send_in, note_owed_in, pay_upto_in, note_ack_in, note_stable_in, receive_in}
+use Rattle.cast_domain.specs.FlushCalls.{is_open_in}
+use Rattle.cast_domain.specs.Calls.{acted_in, records}
 use Rattle.cast_domain.specs.Trims.{trim_in, trim_all_in}
 use Rattle.cast_domain.specs.Freed.{AreNotFree, AreNotFreeBut, AreFreedBy}
 
