@@ -1,7 +1,9 @@
 ghost use Rattle.std.specs.Prelude.{◌≡◌, ◌<◌, IfOk, length, ◌≤◌, None, OnOk, vec_len, ◌||◌, ◌==◌, not, ◌+◌, Some};
 ghost use Rattle.cast_rules.specs.Rules.Commands.{body_of, cast, leave, cast_at, commanded, join, join_at, pass_at, pass_token, requested};
 ghost use Rattle.cast_domain.specs.Records.{number_of, KeepsBeside, records_in, Makes, own_records, Attempts};
-ghost use Rattle.cast_domain.specs.Calls.{records, answered_in, time_of, place_to_pass_of};
+ghost use Rattle.cast_domain.specs.PartCalls.{time_of};
+ghost use Rattle.cast_domain.specs.ReleaseCalls.{place_to_pass_of};
+ghost use Rattle.cast_domain.specs.Calls.{records, answered_in};
 ghost use Rattle.cast_types.specs.declared.limits.TheConstants.{MAX_POSITION};
 ghost use Rattle.cast_order.specs.Log.{places_by};
 ghost use Rattle.cast_rules.specs.Rules.Sending.{send_message};

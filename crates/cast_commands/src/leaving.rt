@@ -1,6 +1,7 @@
 ghost use Rattle.std.specs.Prelude.{◌≡◌, ◌<◌, ◌==◌, IfOk, OnOk, vec_len};
 ghost use Rattle.cast_domain.specs.Records.{number_of, KeepsBeside, records_in, Makes};
-ghost use Rattle.cast_domain.specs.Calls.{answered_in, end_in, go_in};
+ghost use Rattle.cast_domain.specs.PartCalls.{go_in};
+ghost use Rattle.cast_domain.specs.Calls.{answered_in, end_in};
 ghost use Rattle.cast_rules.specs.Rules.Leaving.{leave_all};
 ghost use Rattle.cast_events.specs.declared.event.Event.TheVariants as event;
 

@@ -1,6 +1,7 @@
 ghost use Rattle.std.specs.Prelude.{◌≡◌, ◌<◌, None, IfOk, Some, OnOk, not, ◌+◌};
 ghost use Rattle.cast_domain.specs.Records.{GivesBack, KeepsBeside, records_in, Makes};
-ghost use Rattle.cast_domain.specs.Calls.{records, send_in};
+ghost use Rattle.cast_domain.specs.PartCalls.{send_in};
+ghost use Rattle.cast_domain.specs.Calls.{records};
 ghost use Rattle.std.specs.List.{fold};
 ghost use Rattle.std.specs.Option.{option_map, option_map_or};
 ghost use Rattle.cast_rules.specs.Rules.Owing.{frame_for, resend_due, send_for, tick};

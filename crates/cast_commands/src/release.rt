@@ -1,6 +1,6 @@
 ghost use Rattle.std.specs.Prelude.{◌≡◌, ◌<◌, false, None, ◌&&◌, Some};
 ghost use Rattle.cast_domain.specs.Records.{own_records};
-ghost use Rattle.cast_domain.specs.Calls.{is_current_in};
+ghost use Rattle.cast_domain.specs.PartCalls.{is_current_in};
 
 use cast_domain::Domain;
 use cast_types::Uid;

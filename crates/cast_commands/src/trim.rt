@@ -2,7 +2,8 @@ ghost use Rattle.std.specs.Prelude.{◌≡◌, ◌==◌, ◌<◌, true, None, ve
 ghost use Rattle.cast_types.specs.Names.{uid_in};
 ghost use Rattle.cast_domain.specs.Trims.{is_kept_among, count_first, is_counted_of, is_over_of, is_past_of, trim_all_in, trim_in};
 ghost use Rattle.cast_domain.specs.Records.{Keeps, MakesAlone, own_records};
-ghost use Rattle.cast_domain.specs.Calls.{record_at, is_awaited_of, is_received_of};
+ghost use Rattle.cast_domain.specs.PartCalls.{record_at};
+ghost use Rattle.cast_domain.specs.FlushCalls.{is_awaited_of, is_received_of};
 ghost use Rattle.cast_ready.specs.Ready.{is_member};
 
 use cast_domain::Domain;

@@ -3,7 +3,7 @@ ghost use Rattle.cast_ready.specs.Ready.{is_member};
 ghost use Rattle.cast_domain.specs.Records.{records_in, own_records};
 ghost use Rattle.cast_domain.specs.Own.{AwaitsNoneOf, is_due_in, source_at};
 ghost use Rattle.cast_order.specs.Log.{log_of, places_by};
-ghost use Rattle.cast_domain.specs.Calls.{awaits_own_in};
+ghost use Rattle.cast_domain.specs.PartCalls.{awaits_own_in};
 
 use crate::release::is_current;
 use crate::trim::message_id;

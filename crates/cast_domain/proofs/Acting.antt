@@ -32,7 +32,7 @@ use Rattle.cast_rules.specs.Acts.{Act}
 use Rattle.cast_rules.specs.Acts.Act.{Sent, Entered, Left}
 use Rattle.cast_rules.specs.State.{State, local, noting_act, acts_outside}
 use Rattle.cast_rules.specs.Order.{is_of_view, facts_in, order_told, abcasts_delivered, last_place, token_sent, token_after, token_of, listed_by, lists_of}
-use Rattle.cast_domain.specs.Calls.{sent_hand, orders_sent}
+use Rattle.cast_domain.specs.PartCalls.{sent_hand, orders_sent}
 use Rattle.cast_domain.specs.Fits.{settled_of, goes_on, has_passed, TellsHand, TellsOrder, LogFits}
 use Rattle.cast_domain.proofs.Over.{over_alike, all_stay}
 use Rattle.cast_domain.proofs.Logs.{hand_made, hand_alike, IsAlike, log_alike, other_group}

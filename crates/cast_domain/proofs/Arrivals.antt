@@ -46,7 +46,8 @@ use Rattle.cast_rules.specs.Step.{opening_next}
 use Rattle.cast_rules.specs.Run.{before_event}
 use Rattle.cast_domain.specs.Shared.{no_part}
 use Rattle.cast_domain.specs.Records.{Records}
-use Rattle.cast_domain.specs.Calls.{local_in, open_in, learn_in, receive_in}
+use Rattle.cast_domain.specs.PartCalls.{local_in, learn_in, receive_in}
+use Rattle.cast_domain.specs.Calls.{open_in}
 use Rattle.cast_domain.specs.Fits.{process_named, record_for, session_for, is_there, is_live, past_of, LogFits, Fits, goes_on, has_passed}
 use Rattle.cast_domain.proofs.Statuses.{roster, set_one, boxes_set, roster_first}
 use Rattle.cast_domain.proofs.Logs.{IsNew, logs_receive}

@@ -20,7 +20,9 @@ use Rattle.cast_rules.specs.Rules.Commands.{join_at, message_sent, cast_at}
 use Rattle.cast_domain.specs.Records.{Records}
 use Rattle.cast_rules.specs.Rules.Commands.{body_of}
 use Rattle.cast_rules.specs.Rules.Release as release
-use Rattle.cast_domain.specs.Calls.{awaits_own_in, records, record_at, standing_of, time_of, local_in, tell_in, count_cast_in, note_sent_in, resting_records}
+use Rattle.cast_domain.specs.PartCalls.{awaits_own_in, record_at, standing_of, time_of, local_in, tell_in, count_cast_in, note_sent_in}
+use Rattle.cast_domain.specs.Calls.{records}
+use Rattle.cast_domain.specs.RestCalls.{resting_records}
 use Rattle.cast_rules.specs.Rules.Order.{may_list, send_places, list_places, set_order_by}
 
 -- what a join does that is not refused

@@ -7,7 +7,7 @@ use Rattle.std.proofs.lemmas.List.{at_drop_more}
 use Rattle.cast_types.specs.declared.names.Key.{Key}
 use Rattle.cast_types.specs.declared.names.Uid.{Uid}
 use Rattle.cast_message.specs.declared.message.Received.{Received}
-use Rattle.cast_domain.specs.Calls.{keys_passing}
+use Rattle.cast_domain.specs.ReleaseCalls.{keys_passing}
 use Rattle.std.proofs.lemmas.Option.{slice_get_within, get_or_from_slice_get}
 
 module _ {X : Type 0} (xs : List X) (i : ℕ) (x : X) (is : slice_get xs i ≡ Some x) where

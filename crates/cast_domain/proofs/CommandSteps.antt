@@ -36,7 +36,8 @@ use Rattle.cast_rules.specs.State.{State, local, others_of, gate_of, was_given, 
 use Rattle.cast_rules.specs.History.{history}
 use Rattle.cast_rules.specs.Effects.{next_message}
 use Rattle.cast_domain.specs.Records.{Records}
-use Rattle.cast_domain.specs.Calls.{standing_of, settled_in, sent_hand, orders_sent, note_sent_by, records, receive_in, is_current_in, is_own_in, awaits_own_in}
+use Rattle.cast_domain.specs.PartCalls.{standing_of, settled_in, sent_hand, orders_sent, note_sent_by, receive_in, is_current_in, is_own_in, awaits_own_in}
+use Rattle.cast_domain.specs.Calls.{records}
 use Rattle.cast_rules.specs.Lawful.{IsSpent, AreKept, IsLawful}
 use Rattle.cast_domain.specs.Fits.{process_named, TellsOrder, LogFits, Fits}
 use Rattle.cast_domain.proofs.Logs.{IsNew}

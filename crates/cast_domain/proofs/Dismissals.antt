@@ -27,7 +27,11 @@ use Rattle.cast_rules.proofs.Rules.Sending.{send_data_keeps}
 use Rattle.cast_rules.proofs.Rules.Owing.{owe_keeps}
 use Rattle.cast_rules.proofs.Rules.Rest.{FollowsToRest, pass_follows}
 use Rattle.cast_domain.specs.Records.{Records}
-use Rattle.cast_domain.specs.Calls.{local_in, serials_in, record_at, time_of, pass_in, gone_in, members_in, is_ended_in, records, resting_records}
+use Rattle.cast_domain.specs.PartCalls.{local_in, serials_in, record_at, time_of}
+use Rattle.cast_domain.specs.ViewCalls.{pass_in, gone_in, members_in}
+use Rattle.cast_domain.specs.ReleaseCalls.{is_ended_in}
+use Rattle.cast_domain.specs.Calls.{records}
+use Rattle.cast_domain.specs.RestCalls.{resting_records}
 use Rattle.cast_domain.specs.Trims.{trim_in, trim_all_in}
 use Rattle.cast_domain.specs.Fits.{AreDismissed}
 use Rattle.cast_domain.proofs.Rows.{names_of, row_by_names}

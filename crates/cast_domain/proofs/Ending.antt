@@ -44,7 +44,8 @@ use Rattle.cast_rules.proofs.Rules.Home.{suspect_keeps}
 use Rattle.cast_rules.proofs.Rules.Frames.{framed_keeps}
 use Rattle.cast_rules.proofs.Rules.Owing.{tick_keeps}
 use Rattle.cast_domain.specs.Records.{Records}
-use Rattle.cast_domain.specs.Calls.{local_in, go_in, open_in, dismiss_in, end_in, acted_in, take_entries_in, set_quota_in, records, records_sessions}
+use Rattle.cast_domain.specs.PartCalls.{local_in, go_in, take_entries_in, set_quota_in}
+use Rattle.cast_domain.specs.Calls.{open_in, dismiss_in, end_in, acted_in, records, records_sessions}
 use Rattle.cast_domain.specs.Fits.{process_named, ProcessesFit, Fits, AreDismissed}
 use Rattle.cast_domain.proofs.Rows.{names_of, row_by_names}
 use Rattle.cast_domain.proofs.Remaining.{RemainAs, gone_of, remain_as, all_remain}

@@ -33,7 +33,8 @@ use Rattle.cast_rules.specs.State.{State, local, is_group, set_process, set_grou
 use Rattle.cast_rules.specs.Acts.Act.{Entered}
 use Rattle.cast_rules.specs.Entering.{enters, in_view, completing, all_in_view}
 use Rattle.cast_domain.specs.Records.{Records}
-use Rattle.cast_domain.specs.Calls.{holding_from, record_at, standing_of, tell_in, enter_in, take_in, view_in, begin_view_in}
+use Rattle.cast_domain.specs.PartCalls.{record_at, standing_of, tell_in}
+use Rattle.cast_domain.specs.ViewCalls.{holding_from, enter_in, take_in, view_in, begin_view_in}
 use Rattle.cast_rules.specs.Lawful.{IsLawful}
 use Rattle.cast_domain.specs.Fits.{Fits}
 use Rattle.cast_domain.proofs.Logs.{IsFresh, held_log, held_fresh, log_of_held}

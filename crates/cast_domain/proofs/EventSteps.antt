@@ -14,7 +14,8 @@ use Rattle.cast_rules.specs.History.{history}
 use Rattle.cast_rules.specs.Step.{opening_next, sessions_given, act_of_event, answer_of_event}
 use Rattle.cast_rules.specs.Rules.Events as rules
 use Rattle.cast_domain.specs.Records.{Records}
-use Rattle.cast_domain.specs.Calls.{records, records_sessions, open_in, take_entries_in, set_quota_in, acted_in}
+use Rattle.cast_domain.specs.PartCalls.{take_entries_in, set_quota_in}
+use Rattle.cast_domain.specs.Calls.{records, records_sessions, open_in, acted_in}
 use Rattle.cast_rules.specs.Lawful.{IsLawful, IsTyped}
 use Rattle.cast_domain.specs.GivenSessions.{status_in}
 use Rattle.cast_domain.specs.Fits.{Fits}

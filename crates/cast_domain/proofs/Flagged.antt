@@ -7,7 +7,8 @@ use Rattle.cast_types.specs.declared.names.Key.{Key}
 use Rattle.cast_message.specs.declared.message.Received.{Received}
 use Rattle.cast_message.specs.Receipts.{message_under}
 use Rattle.cast_domain.specs.Records.{Records}
-use Rattle.cast_domain.specs.Calls.{local_in, ready_key_in}
+use Rattle.cast_domain.specs.PartCalls.{local_in}
+use Rattle.cast_domain.specs.RestCalls.{ready_key_in}
 use Rattle.cast_domain.specs.Flags.{changes_over, has_ready}
 
 pub either_of : (a b c : Bool) → ((a || b) || c) ≡ (a || (b || c))

@@ -22,7 +22,8 @@ use Rattle.cast_rules.proofs.Rules.Owing.{tick_follows}
 use Rattle.cast_rules.proofs.Rules.Sending.{sends_follow}
 use Rattle.cast_domain.specs.declared.record.GroupRecord.{GroupRecord}
 use Rattle.cast_domain.specs.Records.{Records}
-use Rattle.cast_domain.specs.Calls.{place_in, note_ack_in, note_stable_in, records}
+use Rattle.cast_domain.specs.PartCalls.{place_in, note_ack_in, note_stable_in}
+use Rattle.cast_domain.specs.Calls.{records}
 use Rattle.cast_domain.specs.Fits.{is_live, past_of, LogFits, Fits}
 use Rattle.cast_domain.proofs.Logs.{logs_ack}
 use Rattle.cast_domain.proofs.Standing.{orders_same, record_there, place_some, place_none, fits_send}

@@ -61,7 +61,10 @@ use Rattle.cast_rules.proofs.LawfulMessages.{local_speaks}
 use Rattle.cast_rules.proofs.LawfulSteps.{placed_at, taken_current, entered, all_lawful, lawful_going, taken_speaks}
 use Rattle.cast_domain.specs.declared.record.GroupRecord.{GroupRecord}
 use Rattle.cast_domain.specs.Records.{Records}
-use Rattle.cast_domain.specs.Calls.{record_at, standing_of, time_of, tell_in, go_in, receive_in, freeze_in, pend_in, awaits_own_in, place_to_pass_of, records}
+use Rattle.cast_domain.specs.PartCalls.{record_at, standing_of, time_of, tell_in, go_in, receive_in, awaits_own_in}
+use Rattle.cast_domain.specs.FlushCalls.{freeze_in, pend_in}
+use Rattle.cast_domain.specs.ReleaseCalls.{place_to_pass_of}
+use Rattle.cast_domain.specs.Calls.{records}
 use Rattle.cast_domain.specs.Fits.{process_named, record_for, LogFits, Fits, past_of}
 use Rattle.cast_domain.proofs.Acting.{quiet_outside, logs_quiet}
 use Rattle.cast_domain.proofs.Standing.{process_here, record_there, standing_there, time_there, orders_group}

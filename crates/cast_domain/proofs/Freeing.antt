@@ -21,7 +21,10 @@ use Rattle.cast_delay.specs.Queue.{is_awaited}
 use Rattle.cast_stable.specs.Acks.{Acks, is_stable_among, is_stable_in, others_in, told_count, least_acked}
 use Rattle.cast_rules.specs.Rules.Release as release
 use Rattle.cast_domain.specs.Records.{Records}
-use Rattle.cast_domain.specs.Calls.{is_open_in, release_in, records, resting_records}
+use Rattle.cast_domain.specs.FlushCalls.{is_open_in}
+use Rattle.cast_domain.specs.ReleaseCalls.{release_in}
+use Rattle.cast_domain.specs.Calls.{records}
+use Rattle.cast_domain.specs.RestCalls.{resting_records}
 use Rattle.cast_domain.specs.Freed.{AreNotFree, AreNotFreeBut}
 use Rattle.cast_domain.proofs.Releases.{fold_release, is_key, filter_twice, filter_same}
 use Rattle.cast_types.proofs.Bools.{neither}

@@ -4,7 +4,8 @@ use Rattle.std.specs.Prelude.{if◌then◌else◌, get_or}
 use Rattle.std.proofs.lemmas.List.{append-nil, drop_more, drop_all}
 use Rattle.cast_order.specs.Hand.{Hand}
 use Rattle.cast_domain.specs.Records.{Records}
-use Rattle.cast_domain.specs.Calls.{added_if, holds_here, holders_among}
+use Rattle.cast_domain.specs.PartCalls.{added_if}
+use Rattle.cast_domain.specs.FlushCalls.{holds_here, holders_among}
 
 -- one more, if it holds the token
 pub one_gathered : (r : Records) (hands : List Hand) (so_far now : List ℕ) (i : ℕ) (h : Hand) → i < length hands → h ≡ get_or hands i h → now ≡ added_if (holds_here r h) h.process.serial so_far → now ++ holders_among r (drop (i + 1) hands) ≡ so_far ++ holders_among r (drop i hands)

@@ -30,7 +30,8 @@ use Rattle.cast_view.specs.Home.{Home}
 use Rattle.cast_view.specs.Sites.{other_sites}
 use Rattle.cast_rules.specs.State.{State, local, gate_for, gate_of, others_of, set_group, set_home}
 use Rattle.cast_domain.specs.Records.{Records}
-use Rattle.cast_domain.specs.Calls.{record_at, view_in, holding_from}
+use Rattle.cast_domain.specs.PartCalls.{record_at}
+use Rattle.cast_domain.specs.ViewCalls.{view_in, holding_from}
 use Rattle.cast_rules.specs.Lawful.{IsLawful}
 use Rattle.cast_domain.specs.Fits.{process_named, record_for, is_live, past_of, LogFits, Fits}
 use Rattle.cast_domain.proofs.Receipts.{others_told, past_same, live_and_stands}

@@ -15,7 +15,9 @@ use Rattle.cast_rules.specs.Rules.Sending.{may_raise}
 use Rattle.cast_rules.specs.Rules.Leaving.{Attempt}
 use Rattle.cast_rules.specs.Rules.Commands.{pass_at, hand_over}
 use Rattle.cast_domain.specs.Records.{Records}
-use Rattle.cast_domain.specs.Calls.{awaits_own_in, local_in, place_to_pass_of, record_at, records, standing_of, time_of}
+use Rattle.cast_domain.specs.PartCalls.{awaits_own_in, local_in, record_at, standing_of, time_of}
+use Rattle.cast_domain.specs.ReleaseCalls.{place_to_pass_of}
+use Rattle.cast_domain.specs.Calls.{records}
 
 -- what it does is left to the place from which the other process orders
 pub pass_past : (r : Records) (k : ℕ) (g : GroupNo) (to : Proc) (i : ℕ) (p : Proc) → p ≡ local_in r k

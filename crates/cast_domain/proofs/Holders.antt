@@ -21,7 +21,7 @@ use Rattle.cast_rules.specs.Order.{holds, holders, holder_here}
 use Rattle.cast_rules.proofs.Totals.{In}
 use Rattle.cast_rules.proofs.Listings.{in_kept}
 use Rattle.cast_domain.specs.Records.{Records}
-use Rattle.cast_domain.specs.Calls.{holds_here, holders_in, holder_in}
+use Rattle.cast_domain.specs.FlushCalls.{holds_here, holders_in, holder_in}
 use Rattle.cast_domain.specs.Fits.{Fits, LogFits}
 
 -- Rising lists of numbers

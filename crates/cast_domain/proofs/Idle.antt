@@ -15,7 +15,9 @@ use Rattle.cast_order.proofs.Logs.{none_of}
 use Rattle.cast_rules.specs.Rules.Order.{list_places, may_list, set_order_by, set_order}
 use Rattle.cast_rules.specs.Rules.Sending.{may_raise}
 use Rattle.cast_domain.specs.Records.{Records}
-use Rattle.cast_domain.specs.Calls.{local_in, record_at, records, resting_records, time_of}
+use Rattle.cast_domain.specs.PartCalls.{local_in, record_at, time_of}
+use Rattle.cast_domain.specs.Calls.{records}
+use Rattle.cast_domain.specs.RestCalls.{resting_records}
 use Rattle.cast_domain.specs.Flags.{changes_over, lists_some, orders_at, orders_each}
 
 idle_hand : (hands : List Hand) (p : Proc) → list_any (λ h. nat_lt 0 (length h.waiting)) hands ≡ false → nat_lt 0 (length (hand_of hands p).waiting) ≡ false

@@ -38,7 +38,7 @@ use Rattle.cast_rules.specs.State.{State, no_process, local, cut_of, gate_of, wi
 use Rattle.cast_rules.specs.Order.{is_of_view, facts_in, order_told, token_told, token_of, lists_of, holds, sets_order, abcasts_delivered}
 use Rattle.cast_domain.specs.declared.rest.Weight.{Weight}
 use Rattle.cast_domain.specs.declared.rest.Weight.TheVariants.{Nothing, Placed, Hands}
-use Rattle.cast_domain.specs.Calls.{told_in, weight_of}
+use Rattle.cast_domain.specs.RestCalls.{told_in, weight_of}
 use Rattle.cast_domain.specs.Fits.{process_named, settled_of, goes_on, has_passed, is_still_kept, IsOver, TellsHand, TellsOrder, LogFits}
 use Rattle.cast_domain.proofs.Over.{CountsOnIn, over_alike, one_counts_on}
 use Rattle.cast_domain.proofs.Logs.{WereMembers, filter_skips, filter_takes, IsAlike, hand_made, hand_alike, log_alike, other_group}

@@ -50,7 +50,8 @@ use Rattle.cast_rules.specs.Acts.Act.{Sent, Delivered, Entered, Left}
 use Rattle.cast_rules.specs.State.{State, local, is_received, others_of, noting_ack, set_group, receiving}
 use Rattle.cast_rules.specs.Order.{told_by, is_of_view, facts_in, order_told, last_place, token_sent, token_told, token_after, token_of, listed_by, lists_of, abcasts_delivered}
 use Rattle.cast_rules.specs.Entering.{pending_install}
-use Rattle.cast_domain.specs.Calls.{learn_in, holding_from}
+use Rattle.cast_domain.specs.PartCalls.{learn_in}
+use Rattle.cast_domain.specs.ViewCalls.{holding_from}
 use Rattle.cast_rules.specs.Lawful.{IsOfReached, IsTraced}
 use Rattle.cast_domain.specs.Fits.{process_named, settled_of, goes_on, has_passed, IsOver, TellsHand, TellsOrder, AreOwn, LogFits}
 use Rattle.cast_domain.proofs.Hands.{own_changed, own_learnt}

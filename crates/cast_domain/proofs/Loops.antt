@@ -8,7 +8,10 @@ use Rattle.cast_domain.specs.declared.domain.Domain.{Domain}
 use Rattle.cast_domain.specs.declared.record.GroupRecord.{GroupRecord}
 use Rattle.cast_types.specs.declared.names.Key.{Key}
 use Rattle.cast_rules.specs.Rules.Release.{is_free, let_go}
-use Rattle.cast_domain.specs.Calls.{record_at, keys_passing, release_in, records, resting_records}
+use Rattle.cast_domain.specs.PartCalls.{record_at}
+use Rattle.cast_domain.specs.ReleaseCalls.{keys_passing, release_in}
+use Rattle.cast_domain.specs.Calls.{records}
+use Rattle.cast_domain.specs.RestCalls.{resting_records}
 use Rattle.cast_events.specs.declared.config.DomainConfig.{DomainConfig}
 use Rattle.cast_types.specs.declared.names.DomainNo.{DomainNo}
 use Rattle.cast_domain.specs.declared.lent.Lent.{Lent}

@@ -18,7 +18,7 @@ use Rattle.cast_message.specs.KeptIds.{Marked, KeptList, is_kept}
 use Rattle.cast_message.specs.Receipts.{messages}
 use Rattle.cast_flush.proofs.Gathered.{any_filter, any_map}
 use Rattle.cast_domain.specs.declared.record.GroupRecord.{GroupRecord}
-use Rattle.cast_domain.specs.Calls.{is_kept_of}
+use Rattle.cast_domain.specs.FlushCalls.{is_kept_of}
 
 -- what is below each of a list is below each of its first items
 first_below : (x : Entry) (n : ℕ) (xs : List Entry) → list_all (λ y. is_lt (entry_cmp x y)) xs ≡ true → list_all (λ y. is_lt (entry_cmp x y)) (take n xs) ≡ true

@@ -38,7 +38,10 @@ use Rattle.cast_domain.specs.declared.rest.Delivery.{Delivery}
 use Rattle.cast_domain.specs.declared.rest.Weight.{Weight}
 use Rattle.cast_domain.specs.declared.rest.Weight.TheVariants.{Nothing, Placed, Hands}
 use Rattle.cast_domain.specs.Records.{Records}
-use Rattle.cast_domain.specs.Calls.{deliver_as, is_full_in, is_open_in, moved_home, move_home_in, note_weight_in, place_among, push_in, record_at, records, take_delivery_in}
+use Rattle.cast_domain.specs.PartCalls.{is_full_in, moved_home, move_home_in, place_among, push_in, record_at}
+use Rattle.cast_domain.specs.FlushCalls.{is_open_in}
+use Rattle.cast_domain.specs.Calls.{records}
+use Rattle.cast_domain.specs.RestCalls.{deliver_as, note_weight_in, take_delivery_in}
 use Rattle.cast_domain.specs.Freed.{AreNotFree, AreNotFreeBut}
 use Rattle.cast_domain.proofs.Freeing.{free}
 

@@ -52,7 +52,10 @@ use Rattle.cast_rules.specs.Turns.{has_room_for_order, turn_of}
 use Rattle.cast_rules.specs.Lawful.{Waits, IsLawful, IsTraced}
 use Rattle.cast_quota.specs.Quotas as quota
 use Rattle.cast_domain.specs.Records.{Records}
-use Rattle.cast_domain.specs.Calls.{place_in, record_at, records, sets_order_at, sets_order_in, settled_in, settled_at, unsettled_at, has_room_at, place_to_pass_of, turn_at, turns_in}
+use Rattle.cast_domain.specs.PartCalls.{place_in, record_at, settled_in}
+use Rattle.cast_domain.specs.ReleaseCalls.{settled_at, unsettled_at, place_to_pass_of}
+use Rattle.cast_domain.specs.Calls.{records}
+use Rattle.cast_domain.specs.RestCalls.{sets_order_at, sets_order_in, has_room_at, turn_at, turns_in}
 use Rattle.cast_domain.specs.Fits.{record_for, settled_of, process_named, Fits, TellsOrder, LogFits, is_live, past_of, goes_on, has_passed}
 use Rattle.cast_domain.proofs.LogSteps.{none_left}
 use Rattle.cast_domain.proofs.Standing.{record_there, place_some, place_none, process_here, member_row}

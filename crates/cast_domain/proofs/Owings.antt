@@ -15,7 +15,8 @@ use Rattle.cast_timer.specs.Owed.{with_owed, paid, is_of_view, is_upto, renew, k
 use Rattle.cast_rules.specs.State.{State, message_of}
 use Rattle.cast_rules.specs.Owing.{next_due, noting_owed, noting_resent, paying, paying_upto, paying_view, at_moment}
 use Rattle.cast_domain.specs.Records.{Records}
-use Rattle.cast_domain.specs.Calls.{message_in, next_due_in, note_owed_in, note_resent_in, pay_in, pay_upto_in, pay_view_in, note_moment_in}
+use Rattle.cast_domain.specs.PartCalls.{message_in, next_due_in, note_owed_in, note_resent_in, pay_in, pay_upto_in, note_moment_in}
+use Rattle.cast_domain.specs.ReleaseCalls.{pay_view_in}
 use Rattle.cast_domain.specs.Fits.{Fits}
 use Rattle.cast_domain.proofs.Standing.{orders_same}
 

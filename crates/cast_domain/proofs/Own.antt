@@ -16,7 +16,7 @@ use Rattle.cast_delay.specs.Queue.{delivered_in}
 use Rattle.cast_view.specs.MemberSide.{has_view, is_current}
 use Rattle.cast_domain.specs.declared.record.GroupRecord.{GroupRecord}
 use Rattle.cast_domain.specs.Records.{Records}
-use Rattle.cast_domain.specs.Calls.{awaits_own_in, is_current_in, is_own_in, place_among, record_at, standing_of}
+use Rattle.cast_domain.specs.PartCalls.{awaits_own_in, is_current_in, is_own_in, place_among, record_at, standing_of}
 use Rattle.cast_domain.specs.Own.{AwaitsNoneOf, source_at}
 
 none_there : {X : Type 0} (f : X → Bool) (xs : List X) → ((x : X) → Contains xs x → f x ≡ false) → list_any f xs ≡ false

@@ -5,7 +5,8 @@ use Rattle.cast_rules.specs.State.{State}
 use Rattle.cast_rules.specs.Rest.{pass, RestsAt}
 use Rattle.cast_rules.specs.Run.{before_event}
 use Rattle.cast_domain.specs.Records.{Records}
-use Rattle.cast_domain.specs.Calls.{records, resting_records}
+use Rattle.cast_domain.specs.Calls.{records}
+use Rattle.cast_domain.specs.RestCalls.{resting_records}
 use Rattle.cast_rules.specs.Rules.Rest as rest
 use Rattle.cast_rules.specs.Lawful.{IsLawful}
 use Rattle.cast_domain.specs.Fits.{Fits}

@@ -22,7 +22,8 @@ use Rattle.cast_rules.specs.Acts.Act.{Left}
 use Rattle.cast_rules.specs.Lawful.{IsLawful}
 use Rattle.cast_rules.proofs.LawfulViews.{lawful_all_parted}
 use Rattle.cast_domain.specs.Records.{Records}
-use Rattle.cast_domain.specs.Calls.{local_in, serials_in, record_at, standing_of, tell_in, put_out_in, is_put_out_in, put_out_if_in, put_out_all_in, begin_view_in, pass_in, gone_in, members_in}
+use Rattle.cast_domain.specs.PartCalls.{local_in, serials_in, record_at, standing_of, tell_in}
+use Rattle.cast_domain.specs.ViewCalls.{put_out_in, is_put_out_in, put_out_if_in, put_out_all_in, begin_view_in, pass_in, gone_in, members_in}
 use Rattle.cast_domain.specs.Fits.{Fits}
 use Rattle.cast_domain.proofs.Acting.{quiet_if, quiet_left, logs_quiet}
 use Rattle.cast_domain.proofs.Standing.{member_of_none, fits_if, record_there, standing_there}

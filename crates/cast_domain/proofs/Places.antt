@@ -7,7 +7,7 @@ use Rattle.std.specs.List.{position, position_or_len}
 use Rattle.cast_types.specs.declared.names.GroupNo.{GroupNo}
 use Rattle.cast_types.specs.Names.{group_eq}
 use Rattle.cast_domain.specs.declared.record.GroupRecord.{GroupRecord}
-use Rattle.cast_domain.specs.Calls.{place_among}
+use Rattle.cast_domain.specs.PartCalls.{place_among}
 
 abbrev is_named : GroupNo → GroupRecord → Bool
 is_named g x = group_eq x.name g

@@ -32,7 +32,7 @@ use Rattle.cast_rules.specs.State.{State, no_process, local, is_group, gate_of, 
 use Rattle.cast_rules.specs.Acts.{Act}
 use Rattle.cast_rules.specs.Acts.Act.{Sent}
 use Rattle.cast_domain.specs.Records.{Records}
-use Rattle.cast_domain.specs.Calls.{tell_in, orders_sent}
+use Rattle.cast_domain.specs.PartCalls.{tell_in, orders_sent}
 use Rattle.cast_domain.specs.Fits.{settled_of, process_named, LogFits, Fits}
 use Rattle.cast_domain.proofs.Rows.{row_given}
 use Rattle.cast_domain.proofs.Logs.{IsAlike, log_alike, same_alike, log_starts}

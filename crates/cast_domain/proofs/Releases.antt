@@ -35,7 +35,11 @@ use Rattle.cast_rules.specs.State.{State, local, serials, local_members, gate_of
 use Rattle.cast_rules.specs.Rest.{is_free, let_go}
 use Rattle.cast_domain.specs.Records.{Records}
 use Rattle.cast_rules.specs.Rules.Release as release
-use Rattle.cast_domain.specs.Calls.{place_in, record_at, is_current_in, is_open_in, is_ended_in, release_in, release_all_in, records, resting_records}
+use Rattle.cast_domain.specs.PartCalls.{place_in, record_at, is_current_in}
+use Rattle.cast_domain.specs.FlushCalls.{is_open_in}
+use Rattle.cast_domain.specs.ReleaseCalls.{is_ended_in, release_in, release_all_in}
+use Rattle.cast_domain.specs.Calls.{records}
+use Rattle.cast_domain.specs.RestCalls.{resting_records}
 use Rattle.cast_rules.specs.Lawful.{IsLawful, IsSpent, AreKept}
 use Rattle.cast_domain.specs.Fits.{process_named, Fits, is_live, past_of}
 use Rattle.cast_rules.proofs.Totals.{In}

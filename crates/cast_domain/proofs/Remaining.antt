@@ -29,7 +29,11 @@ use Rattle.cast_rules.proofs.Rules.Follows.{IsInvariant, IsInvariantOfAll}
 use Rattle.cast_domain.specs.GivenSessions.{SessionRecord, status_in}
 use Rattle.cast_domain.proofs.Statuses.{found_first}
 use Rattle.cast_domain.specs.Records.{Records}
-use Rattle.cast_domain.specs.Calls.{local_in, serials_in, record_at, standing_of, time_of, with_status, tell_in, enter_in, take_in, view_in, pass_in, is_put_out_in, put_out_in, put_out_if_in, put_out_all_in, release_in, release_all_in, is_ended_in, records, resting_records}
+use Rattle.cast_domain.specs.PartCalls.{local_in, serials_in, record_at, standing_of, time_of, with_status, tell_in}
+use Rattle.cast_domain.specs.ViewCalls.{enter_in, take_in, view_in, pass_in, is_put_out_in, put_out_in, put_out_if_in, put_out_all_in}
+use Rattle.cast_domain.specs.ReleaseCalls.{release_in, release_all_in, is_ended_in}
+use Rattle.cast_domain.specs.Calls.{records}
+use Rattle.cast_domain.specs.RestCalls.{resting_records}
 use Rattle.cast_domain.proofs.Rows.{names_of}
 use Rattle.cast_domain.proofs.ProcessChanges.{told_keeps, same_names}
 

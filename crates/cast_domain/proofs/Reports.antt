@@ -47,7 +47,8 @@ use Rattle.cast_rules.specs.Order.{is_of_view, facts_in, order_told, holder_here
 use Rattle.cast_rules.specs.Reports.{had_here, had_in, unlisted_here, whole_order, tail_of, is_unplaced, kept_list, kept_in, report_in, is_delivered_here, has_delivered_cut, is_missing, missing_in}
 use Rattle.cast_domain.specs.Records.{Records}
 use Rattle.cast_domain.specs.Fits.{Fits, record_for, process_named, TellsOrder, is_live, past_of, goes_on, has_passed}
-use Rattle.cast_domain.specs.Calls.{record_at, holder_in, had_of, tail_in, is_kept_of, report_at, is_awaited_of, is_received_of, has_cut_of, missing_of}
+use Rattle.cast_domain.specs.PartCalls.{record_at}
+use Rattle.cast_domain.specs.FlushCalls.{holder_in, had_of, tail_in, is_kept_of, report_at, is_awaited_of, is_received_of, has_cut_of, missing_of}
 use Rattle.cast_domain.proofs.Holders.{holder_there}
 use Rattle.cast_domain.proofs.Ordering.{waiting_there}
 use Rattle.cast_domain.proofs.Receipts.{live_now}

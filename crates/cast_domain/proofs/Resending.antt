@@ -17,7 +17,8 @@ use Rattle.cast_rules.specs.Rules.Owing.{frame_of_kind, frame_for, send_for, res
 use Rattle.cast_domain.specs.Shared.{part_renewing_due}
 use Rattle.cast_domain.specs.Records.{Records}
 use Rattle.cast_domain.specs.Resent.{IsFrameOf}
-use Rattle.cast_domain.specs.Calls.{records, place_in, send_in, note_resent_in, next_due_in}
+use Rattle.cast_domain.specs.PartCalls.{place_in, send_in, note_resent_in, next_due_in}
+use Rattle.cast_domain.specs.Calls.{records}
 
 -- what a frame says does not hang on what is owed
 kind_same : (r : Records) (k x : OwedKey) (h : ℕ) (kind : OwedKind) → frame_of_kind records (note_resent_in r k) h x kind ≡ frame_of_kind records r h x kind

@@ -13,7 +13,8 @@ use Rattle.cast_rules.proofs.LawfulMessages.{lawful_let_go}
 use Rattle.cast_rules.proofs.LawfulSteps.{lawful_deliver_all, lawful_set_order_by}
 use Rattle.cast_rules.proofs.Rules.Rest.{FollowsToRest, pass_follows}
 use Rattle.cast_domain.specs.Records.{Records}
-use Rattle.cast_domain.specs.Calls.{records, resting_records}
+use Rattle.cast_domain.specs.Calls.{records}
+use Rattle.cast_domain.specs.RestCalls.{resting_records}
 use Rattle.cast_domain.specs.Fits.{Fits}
 use Rattle.cast_domain.proofs.Following.{IsAt}
 use Rattle.cast_domain.proofs.Framing.{StandsIn, there, records_follow_all}
@@ -39,7 +40,8 @@ use Rattle.cast_rules.specs.Lawful.{Waits}
 use Rattle.cast_rules.proofs.Rules.Follows.{choose, each}
 use Rattle.cast_rules.proofs.Rules.Flushes.{want_own_follows, complete_follows}
 use Rattle.cast_domain.specs.declared.record.GroupRecord.{GroupRecord}
-use Rattle.cast_domain.specs.Calls.{record_at, has_cut_of, holders_in}
+use Rattle.cast_domain.specs.PartCalls.{record_at}
+use Rattle.cast_domain.specs.FlushCalls.{has_cut_of, holders_in}
 use Rattle.cast_domain.proofs.Standing.{record_there}
 use Rattle.cast_domain.proofs.Reports.{cut_there, missing_there}
 use Rattle.cast_domain.proofs.SetOrders.{fits_set_order_by, kept_set_order_by}

@@ -25,7 +25,10 @@ use Rattle.cast_rules.specs.State.{State, serials}
 use Rattle.cast_rules.specs.Rules.Release.{let_go}
 use Rattle.cast_rules.specs.Rules.Rest.{tell_if, told_of, deliver_first, deliver_all, settle}
 use Rattle.cast_domain.specs.Records.{Records}
-use Rattle.cast_domain.specs.Calls.{local_in, serials_in, put_out_in, put_out_if_in, put_out_all_in, take_delivery_in, weight_of, note_weight_in, note_delivered_under, ready_key_in, next_ready_in, turns_in, records, resting_records}
+use Rattle.cast_domain.specs.PartCalls.{local_in, serials_in}
+use Rattle.cast_domain.specs.ViewCalls.{put_out_in, put_out_if_in, put_out_all_in}
+use Rattle.cast_domain.specs.Calls.{records}
+use Rattle.cast_domain.specs.RestCalls.{take_delivery_in, weight_of, note_weight_in, note_delivered_under, ready_key_in, next_ready_in, turns_in, resting_records}
 use Rattle.cast_domain.specs.declared.rest.Weight.TheVariants.{Nothing, Placed, Hands}
 use Rattle.cast_domain.specs.Fits.{Fits}
 use Rattle.cast_domain.specs.Flags.{changes_over}

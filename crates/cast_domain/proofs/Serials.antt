@@ -12,7 +12,7 @@ use Rattle.cast_stable.proofs.Runs.{eqb_sym}
 use Rattle.cast_events.specs.declared.session.Status.{Status}
 use Rattle.cast_events.specs.declared.session.Status.TheVariants.{Open, Closed, Gone}
 use Rattle.cast_domain.specs.GivenSessions.{SessionRecord, are_given, closed_if, record_of, status_in}
-use Rattle.cast_domain.specs.Calls.{with_status}
+use Rattle.cast_domain.specs.PartCalls.{with_status}
 
 -- how a session stands is what is found at its serial
 pub status_found : (k : ℕ) (es : List (ℕ × Status)) → status_in (map record_of es) k ≡ option_map_or (λ (s : Status). s) (lookup (λ j. k == j) es) Gone

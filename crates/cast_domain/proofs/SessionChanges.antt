@@ -20,7 +20,7 @@ use Rattle.cast_types.specs.declared.refusal.Refusal.{Refusal}
 use Rattle.cast_rules.specs.State.{State, local, set_session, was_given, serials, sessions, with_push, pushing, closing, going, taking}
 use Rattle.cast_domain.specs.Shared.{part_boxing, part_pushing}
 use Rattle.cast_domain.specs.Records.{Records}
-use Rattle.cast_domain.specs.Calls.{push_in, with_status, close_in, go_in, take_entries_in}
+use Rattle.cast_domain.specs.PartCalls.{push_in, with_status, close_in, go_in, take_entries_in}
 use Rattle.cast_domain.specs.Fits.{with_domain, session_for, is_there, Fits}
 use Rattle.cast_domain.proofs.Statuses.{open_remains, status_given, roster, same_roster, set_one, same_status, roster_closed, roster_gone, boxes_set, unused_set}
 use Rattle.cast_domain.proofs.Standing.{orders_same}

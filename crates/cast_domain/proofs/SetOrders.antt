@@ -26,7 +26,10 @@ use Rattle.cast_rules.specs.Rest.{set_order_by, let_go}
 use Rattle.cast_rules.proofs.Setting.{may_set_order, set_order_is}
 use Rattle.cast_domain.specs.Records.{Records}
 use Rattle.cast_rules.specs.Rules.Release as release
-use Rattle.cast_domain.specs.Calls.{standing_of, time_of, records, resting_records, record_at, log_in, learn_in, note_sent_by}
+use Rattle.cast_domain.specs.PartCalls.{standing_of, time_of, record_at, learn_in, note_sent_by}
+use Rattle.cast_domain.specs.ReleaseCalls.{log_in}
+use Rattle.cast_domain.specs.Calls.{records}
+use Rattle.cast_domain.specs.RestCalls.{resting_records}
 use Rattle.cast_rules.specs.Resting.{places_of}
 use Rattle.cast_rules.specs.Rules.Order as order
 use Rattle.cast_rules.specs.Lawful.{IsLawful}

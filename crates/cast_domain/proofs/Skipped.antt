@@ -10,7 +10,9 @@ use Rattle.cast_ready.specs.declared.row.Row.{Row}
 use Rattle.cast_delay.specs.Says.{SaysMayDeliver}
 use Rattle.cast_rules.specs.Rules.Rest.{deliver_all, settle}
 use Rattle.cast_domain.specs.Records.{Records}
-use Rattle.cast_domain.specs.Calls.{local_in, ready_key_in, records, resting_records, serials_in, turns_in}
+use Rattle.cast_domain.specs.PartCalls.{local_in, serials_in}
+use Rattle.cast_domain.specs.Calls.{records}
+use Rattle.cast_domain.specs.RestCalls.{ready_key_in, resting_records, turns_in}
 use Rattle.cast_domain.specs.Flags.{changes_over, delivers_some, has_ready}
 use Rattle.cast_domain.proofs.Remaining.{RemainAs, gone_of, remain_as}
 use Rattle.cast_domain.proofs.Rounds.{remain_deliver_all, round_changes, round_items, round_next, round_over}

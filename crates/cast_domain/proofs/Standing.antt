@@ -30,7 +30,7 @@ use Rattle.cast_order.specs.Log.{Log, log_of}
 use Rattle.cast_view.specs.MemberSide.{MemberSide, is_pending}
 use Rattle.cast_rules.specs.State.{State, no_process, local, is_group, gate_of, set_process, set_group, emit, was_given}
 use Rattle.cast_domain.specs.Records.{Records}
-use Rattle.cast_domain.specs.Calls.{place_among, place_in, no_record, record_at, standing_of, time_of, send_in}
+use Rattle.cast_domain.specs.PartCalls.{place_among, place_in, no_record, record_at, standing_of, time_of, send_in}
 use Rattle.cast_domain.specs.Fits.{process_named, record_for, LogFits, Fits}
 use Rattle.cast_domain.proofs.Receipts.{group_same}
 use Rattle.cast_domain.proofs.Logs.{log_alike, same_alike}

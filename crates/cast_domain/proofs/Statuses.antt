@@ -11,7 +11,7 @@ use Rattle.cast_events.specs.declared.session.Status.TheVariants.{Open, Closed, 
 use Rattle.cast_events.specs.Session.{Session, no_session, is_open, is_open_status, is_gone, is_gone_status}
 use Rattle.cast_rules.specs.State.{was_given}
 use Rattle.cast_domain.specs.GivenSessions.{SessionRecord, status_in}
-use Rattle.cast_domain.specs.Calls.{with_status}
+use Rattle.cast_domain.specs.PartCalls.{with_status}
 use Rattle.cast_domain.specs.Fits.{session_for, is_there}
 
 -- whether a number is one of n numbers, from a on

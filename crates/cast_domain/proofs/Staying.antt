@@ -9,7 +9,8 @@ use Rattle.cast_types.proofs.Updates.{length_update}
 use Rattle.cast_message.specs.Membership.{Membership}
 use Rattle.cast_view.specs.MemberSide.{with_view, is_taken_in}
 use Rattle.cast_domain.specs.Records.{Records}
-use Rattle.cast_domain.specs.Calls.{serials_in, record_at, standing_of, local_in, enter_in, take_in, view_in, put_out_in, is_put_out_in, put_out_if_in, put_out_all_in, pass_in}
+use Rattle.cast_domain.specs.PartCalls.{serials_in, record_at, standing_of, local_in}
+use Rattle.cast_domain.specs.ViewCalls.{enter_in, take_in, view_in, put_out_in, is_put_out_in, put_out_if_in, put_out_all_in, pass_in}
 
 fold_groups : {X : Type 0} (f : Records → X → Records) → ((r : Records) (x : X) → (f r x).groups ≡ r.groups) → (xs : List X) (r : Records) → (fold f r xs).groups ≡ r.groups
 fold_groups f same [] r = refl

@@ -5,7 +5,7 @@ use Rattle.cast_types.specs.declared.names.Proc.{Proc}
 use Rattle.cast_types.specs.Stamps.{ClockList}
 use Rattle.cast_clock.specs.Times.{no_time}
 use Rattle.cast_delay.specs.Queue.{Queue, row_of}
-use Rattle.cast_domain.specs.Calls.{time_of}
+use Rattle.cast_domain.specs.PartCalls.{time_of}
 
 mapped_some : {A B : Type 0} (f : A → B) (o : Option A) (d : B) (t : B) → option_map f o ≡ Some t → option_map_or f o d ≡ t
 mapped_some f (Some x) d t e = cc

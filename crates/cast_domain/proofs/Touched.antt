@@ -38,7 +38,9 @@ use Rattle.cast_rules.specs.Rules.Stability.{is_used_ack, with_ack, tell_stable,
 use Rattle.cast_rules.specs.Rules.Frames.{framed, group_of, on_frame}
 use Rattle.cast_domain.specs.GivenSessions.{status_in}
 use Rattle.cast_domain.specs.Records.{Records}
-use Rattle.cast_domain.specs.Calls.{place_in, record_at, is_open_in, send_in, note_owed_in, pay_upto_in, note_ack_in, note_stable_in, receive_in, set_quota_in, take_entries_in, acted_in, records}
+use Rattle.cast_domain.specs.PartCalls.{place_in, record_at, send_in, note_owed_in, pay_upto_in, note_ack_in, note_stable_in, receive_in, set_quota_in, take_entries_in}
+use Rattle.cast_domain.specs.FlushCalls.{is_open_in}
+use Rattle.cast_domain.specs.Calls.{acted_in, records}
 use Rattle.cast_domain.specs.Trims.{trim_in, trim_all_in}
 use Rattle.cast_domain.specs.Freed.{AreNotFree, AreNotFreeBut, AreFreedBy}
 

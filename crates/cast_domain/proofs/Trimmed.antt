@@ -29,7 +29,9 @@ use Rattle.cast_rules.specs.Reports.{is_delivered_here}
 use Rattle.cast_rules.specs.Lawful.{IsLawful}
 use Rattle.cast_rules.proofs.Lawful.{range_all}
 use Rattle.cast_domain.specs.Records.{Records}
-use Rattle.cast_domain.specs.Calls.{standing_of, time_of, log_in, is_awaited_of, is_received_of}
+use Rattle.cast_domain.specs.PartCalls.{standing_of, time_of}
+use Rattle.cast_domain.specs.FlushCalls.{is_awaited_of, is_received_of}
+use Rattle.cast_domain.specs.ReleaseCalls.{log_in}
 use Rattle.cast_domain.specs.Trims.{is_counted_of, is_past_of, is_kept_among, is_over_of, count_first, trim_in, trim_all_in}
 use Rattle.cast_domain.specs.Fits.{Fits, LogFits, TellsOrder, IsOver, is_still_kept, record_for, process_named, goes_on, has_passed}
 use Rattle.cast_domain.proofs.Standing.{record_there, standing_there, time_there, process_here, member_row}

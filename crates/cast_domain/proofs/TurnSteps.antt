@@ -48,7 +48,8 @@ use Rattle.cast_rules.specs.Rest.{deliver_first, deliver_all, is_free}
 use Rattle.cast_rules.specs.Endings.{left_count}
 use Rattle.cast_domain.specs.Records.{Records}
 use Rattle.cast_rules.specs.Rules.Release as release
-use Rattle.cast_domain.specs.Calls.{records, resting_records, sets_order_in, turns_in, told_in, weight_of, note_weight_in, note_delivered_under, ready_key_in}
+use Rattle.cast_domain.specs.Calls.{records}
+use Rattle.cast_domain.specs.RestCalls.{resting_records, sets_order_in, turns_in, told_in, weight_of, note_weight_in, note_delivered_under, ready_key_in}
 use Rattle.cast_domain.specs.declared.rest.Weight.{Weight}
 use Rattle.cast_domain.specs.declared.rest.Weight.TheVariants.{Nothing, Placed, Hands}
 use Rattle.cast_rules.specs.Rules.Rest as rest

@@ -11,7 +11,9 @@ use Rattle.cast_message.specs.Receipts.{message_under}
 use Rattle.cast_rules.specs.Rules.Release.{let_go}
 use Rattle.cast_rules.specs.Rules.Rest.{deliver, deliver_first, deliver_all}
 use Rattle.cast_domain.specs.Records.{Records}
-use Rattle.cast_domain.specs.Calls.{local_in, next_ready_in, ready_key_in, records, resting_records}
+use Rattle.cast_domain.specs.PartCalls.{local_in}
+use Rattle.cast_domain.specs.Calls.{records}
+use Rattle.cast_domain.specs.RestCalls.{next_ready_in, ready_key_in, resting_records}
 use Rattle.cast_domain.specs.Flags.{changes_over, has_ready}
 
 module _ (r : Records) (k : ℕ) (none : ready_key_in r (local_in r k) ≡ None) where

@@ -8,7 +8,8 @@ use Rattle.cast_order.specs.Log.{Log, change_in, forgot, is_long, oldest_in}
 use Rattle.cast_order.proofs.Logs.{forgot_none, none_of, same_in}
 use Rattle.cast_domain.specs.declared.record.GroupRecord.{GroupRecord}
 use Rattle.cast_domain.specs.Records.{Records}
-use Rattle.cast_domain.specs.Calls.{log_in, record_at}
+use Rattle.cast_domain.specs.PartCalls.{record_at}
+use Rattle.cast_domain.specs.ReleaseCalls.{log_in}
 use Rattle.cast_domain.specs.Trims.{count_first, is_over_of, trim_in}
 
 none_old : (l : Log) → is_long l ≡ false → oldest_in l ≡ []

@@ -14,7 +14,9 @@ use Rattle.cast_rules.specs.Rules.Order.{may_list, set_order_by, set_order, set_
 use Rattle.cast_rules.specs.Rules.Rest.{deliver_all, settle}
 use Rattle.cast_rules.specs.Rules.Sending.{may_raise}
 use Rattle.cast_domain.specs.Records.{Records}
-use Rattle.cast_domain.specs.Calls.{local_in, next_ready_in, record_at, records, resting_records, serials_in, time_of}
+use Rattle.cast_domain.specs.PartCalls.{local_in, record_at, serials_in, time_of}
+use Rattle.cast_domain.specs.Calls.{records}
+use Rattle.cast_domain.specs.RestCalls.{next_ready_in, resting_records}
 
 -- Want is not owed for a message that the home of the group at a place lacks, or the site
 abbrev pub wants_more : Records → ℕ → SiteNo × Entry → Bool

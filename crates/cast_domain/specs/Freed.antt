@@ -10,7 +10,8 @@ use Rattle.cast_events.specs.declared.event.Event.TheVariants as event
 use Rattle.cast_store.specs.Ids.{IsKeptOf}
 use Rattle.cast_rules.specs.Rules.Release.{is_free}
 use Rattle.cast_domain.specs.Records.{Records}
-use Rattle.cast_domain.specs.Calls.{records, resting_records}
+use Rattle.cast_domain.specs.Calls.{records}
+use Rattle.cast_domain.specs.RestCalls.{resting_records}
 
 -- a key is that of a kept message that is free
 abbrev pub IsFreeKey : Records → Key → Type 0

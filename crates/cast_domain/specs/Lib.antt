@@ -1,7 +1,12 @@
 pub mod GivenSessions
 pub mod Shared
 pub mod Records
+pub mod PartCalls
+pub mod ViewCalls
+pub mod FlushCalls
+pub mod ReleaseCalls
 pub mod Calls
+pub mod RestCalls
 pub mod Resent
 pub mod Trims
 pub mod Fits

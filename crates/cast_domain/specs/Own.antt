@@ -9,7 +9,7 @@ use Rattle.cast_ready.specs.Ready.{is_member}
 use Rattle.cast_delay.specs.Queue.{delivered_in}
 use Rattle.cast_domain.specs.declared.record.GroupRecord.{GroupRecord}
 use Rattle.cast_domain.specs.Records.{Records}
-use Rattle.cast_domain.specs.Calls.{is_current_in, is_own_in, record_at, standing_of}
+use Rattle.cast_domain.specs.PartCalls.{is_current_in, is_own_in, record_at, standing_of}
 
 -- a message of the view of a group of which its process is a member, and that has not delivered it
 abbrev pub is_due_in : Records → Uid → Bool

@@ -9,7 +9,9 @@ use Rattle.cast_ready.specs.Ready.{is_member}
 use Rattle.cast_order.specs.Log.{change_in, oldest_in, forgot}
 use Rattle.cast_domain.specs.declared.record.GroupRecord.{GroupRecord}
 use Rattle.cast_domain.specs.Records.{Records}
-use Rattle.cast_domain.specs.Calls.{record_at, standing_of, time_of, log_in, is_awaited_of, is_received_of}
+use Rattle.cast_domain.specs.PartCalls.{record_at, standing_of, time_of}
+use Rattle.cast_domain.specs.FlushCalls.{is_awaited_of, is_received_of}
+use Rattle.cast_domain.specs.ReleaseCalls.{log_in}
 
 -- the process of a message has counted it, where it is a member of the group here
 abbrev pub is_counted_of : Records → GroupRecord → Entry → Bool

@@ -9,7 +9,8 @@ impl Domain {
     ghost use Rattle.std.specs.Prelude.{◌≡◌, ◌<◌, OnOk, vec_len, ◌==◌};
     ghost use Rattle.cast_types.specs.Names.{site_eq};
     ghost use Rattle.cast_domain.specs.Records.{GivesBack, KeepsBeside, Makes};
-    ghost use Rattle.cast_domain.specs.Calls.{records, record_at};
+    ghost use Rattle.cast_domain.specs.PartCalls.{record_at};
+    ghost use Rattle.cast_domain.specs.Calls.{records};
     ghost use Rattle.cast_rules.specs.Rules.Asking.{ask_home, request};
     ghost use Rattle.cast_rules.specs.Rules.Keys.{ask_key};
     ghost use Rattle.cast_rules.specs.Rules.Owing.{owe};

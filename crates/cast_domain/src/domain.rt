@@ -42,7 +42,7 @@ impl Domain {
     ghost use Rattle.cast_domain.specs.Records.{number_of, quotas_of, is_halted, IsFor, Keeps, MakesAlone, MakesWithOuts};
     ghost use Rattle.cast_domain.specs.Shared.{no_part};
     ghost use Rattle.cast_domain.specs.Fits.{Represents};
-    ghost use Rattle.cast_domain.specs.Calls.{place_among, record_at, send_in, tell_in};
+    ghost use Rattle.cast_domain.specs.PartCalls.{place_among, record_at, send_in, tell_in};
     ghost use Rattle.cast_rules.specs.Rules.Home.{want};
     ghost use Rattle.cast_events.specs.declared.event.Outs.{Outs};
     ghost use Rattle.cast_rules.specs.Rules.Leaving.{tell};

@@ -8,7 +8,7 @@ use cast_types::{Proc, Uid};
 impl Domain {
     ghost use Rattle.std.specs.Prelude.{◌||◌, ◌++◌, not, ◌+◌};
     ghost use Rattle.cast_domain.specs.Records.{own_records};
-    ghost use Rattle.cast_domain.specs.Calls.{is_awaited_of, is_received_of};
+    ghost use Rattle.cast_domain.specs.FlushCalls.{is_awaited_of, is_received_of};
 
     // Whether some member here has not delivered a message of the view of a group.
     pub fn is_awaited_of(&self, group: &GroupRecord, proc: Proc, count: u32) -> bool

@@ -1,5 +1,5 @@
 ghost use Rattle.std.specs.Prelude.{◌≡◌, ◌<◌, ◌==◌};
-ghost use Rattle.cast_domain.specs.Calls.{close_in};
+ghost use Rattle.cast_domain.specs.PartCalls.{close_in};
 
 use crate::domain::Domain;
 use crate::lent::Lent;
@@ -11,7 +11,8 @@ use cast_types::{GroupNo, NoMemory, Refusal, Standing};
 impl Domain {
     ghost use Rattle.std.specs.Prelude.{false, None, IfOk, OnOk, vec_len, Some};
     ghost use Rattle.cast_domain.specs.Records.{GivesBack, KeepsBeside, records_in, Makes, Attempts};
-    ghost use Rattle.cast_domain.specs.Calls.{records, is_full_in, push_in, reason_in};
+    ghost use Rattle.cast_domain.specs.PartCalls.{is_full_in, push_in, reason_in};
+    ghost use Rattle.cast_domain.specs.Calls.{records};
     ghost use Rattle.cast_rules.specs.Rules.Commands.{leave};
     ghost use Rattle.cast_rules.specs.Rules.Leaving.{leave_all, leave_at, leave_group, close_session, tell, tell_open};
 

@@ -1,5 +1,5 @@
 ghost use Rattle.std.specs.Prelude.{◌≡◌, ◌<◌, OnOk};
-ghost use Rattle.cast_domain.specs.Calls.{learn_in};
+ghost use Rattle.cast_domain.specs.PartCalls.{learn_in};
 
 use crate::domain::Domain;
 use cast_message::{Body, Message};
@@ -10,7 +10,8 @@ use cast_types::{GroupNo, NoMemory, Proc, Uid};
 impl Domain {
     ghost use Rattle.std.specs.Prelude.{◌&&◌, ◌||◌};
     ghost use Rattle.cast_domain.specs.Records.{own_records, TellsAlone};
-    ghost use Rattle.cast_domain.specs.Calls.{settled_in, holds_here};
+    ghost use Rattle.cast_domain.specs.PartCalls.{settled_in};
+    ghost use Rattle.cast_domain.specs.FlushCalls.{holds_here};
 
     // Whether what is kept of a process is of one that was let in here, and that holds the token.
     pub fn holds_here(&self, hand: &OrderHand) -> bool

@@ -14,7 +14,8 @@ use cast_view::{HomeSide, Phase};
 impl Domain {
     ghost use Rattle.std.specs.Prelude.{OnOk, vec_len, ◌+◌};
     ghost use Rattle.cast_domain.specs.Records.{GivesBack, records_in, Makes, TellsAlone};
-    ghost use Rattle.cast_domain.specs.Calls.{records, record_at, message_in, pay_in};
+    ghost use Rattle.cast_domain.specs.PartCalls.{record_at, message_in, pay_in};
+    ghost use Rattle.cast_domain.specs.Calls.{records};
     ghost use Rattle.std.specs.List.{find};
     ghost use Rattle.cast_rules.specs.Rules.Home.{wants};
     ghost use Rattle.std.specs.Option.{option_map};

@@ -6,7 +6,8 @@ ghost use Rattle.cast_view.specs.MemberSide.{answers_prepare, frozen_side, verdi
 ghost use Rattle.cast_view.specs.declared.member.Verdict.TheVariants.{Pends};
 ghost use Rattle.cast_view.specs.Home.{answer_to, may_decide};
 ghost use Rattle.cast_view.specs.Home.HomeMove.{Asked, Brought, Decided, Installed, Reported, Started, Suspected};
-ghost use Rattle.cast_domain.specs.Calls.{moved_home, record_at, pending_of, with_first_home, with_install};
+ghost use Rattle.cast_domain.specs.PartCalls.{moved_home, record_at, with_first_home};
+ghost use Rattle.cast_domain.specs.FlushCalls.{pending_of, with_install};
 
 use cast_flush::Report;
 use cast_message::{Change, Membership, Message};

@@ -5,7 +5,10 @@ use cast_types::{Key, Source, Uid};
 impl Domain {
     ghost use Rattle.std.specs.Prelude.{◌≡◌, ◌<◌, false, None, IfSome, ◌&&◌, not, Some, IfNone};
     ghost use Rattle.cast_domain.specs.Records.{Keeps, KeepsBeside, records_in, Makes, own_records};
-    ghost use Rattle.cast_domain.specs.Calls.{records, resting_records, is_open_in, release_in};
+    ghost use Rattle.cast_domain.specs.FlushCalls.{is_open_in};
+    ghost use Rattle.cast_domain.specs.ReleaseCalls.{release_in};
+    ghost use Rattle.cast_domain.specs.Calls.{records};
+    ghost use Rattle.cast_domain.specs.RestCalls.{resting_records};
     ghost use Rattle.cast_rules.specs.Rules.Release.{is_free, let_go};
     ghost use Rattle.cast_domain.specs.Freed.{AreNotFree, AreNotFreeBut, IsFreeKey};
     ghost use Rattle.cast_delay.specs.Queue.{is_awaited};

@@ -13,7 +13,8 @@ use std::alloc::AllocError;
 impl Domain {
     ghost use Rattle.std.specs.Prelude.{◌≡◌, ◌<◌, None, IfOk, OnOk, vec_len, ◌==◌, ◌+◌, Some};
     ghost use Rattle.cast_domain.specs.Records.{GivesBack, Keeps, KeepsBeside, Makes, MakesAlone};
-    ghost use Rattle.cast_domain.specs.Calls.{records, settled_in, note_sent_by, orders_sent, raised_in, receive_in};
+    ghost use Rattle.cast_domain.specs.PartCalls.{settled_in, note_sent_by, orders_sent, raised_in, receive_in};
+    ghost use Rattle.cast_domain.specs.Calls.{records};
     ghost use Rattle.std.specs.List.{fold};
     ghost use Rattle.cast_rules.specs.Rules.Keys.{message_key};
     ghost use Rattle.cast_rules.specs.Rules.Owing.{owe, send_for};

@@ -1,7 +1,7 @@
 ghost use Rattle.std.specs.Prelude.{◌≡◌, ◌+◌, ◌<◌, ◌≤◌, ◌==◌, [], IfOk, OnOk, filter, length, map, not};
 ghost use Rattle.cast_events.specs.declared.session.Status.{Status};
 ghost use Rattle.cast_domain.specs.GivenSessions.{closed_if, status_in, with_next, without_serial};
-ghost use Rattle.cast_domain.specs.Calls.{with_status};
+ghost use Rattle.cast_domain.specs.PartCalls.{with_status};
 
 use crate::domain::Domain;
 use crate::lent::Lent;
@@ -139,7 +139,7 @@ fn remove_in(statuses: &mut IndexMap<u32, Status>, serial: u32)
 impl Domain {
     ghost use Rattle.cast_domain.specs.Records.{records_in};
     ghost use Rattle.cast_events.specs.Session.{is_open_status};
-    ghost use Rattle.cast_domain.specs.Calls.{is_full_in};
+    ghost use Rattle.cast_domain.specs.PartCalls.{is_full_in};
 
     // Whether the session of a serial is open.
     pub fn is_open(&self, serial: u32) -> bool

@@ -11,7 +11,7 @@ impl Domain {
     ghost use Rattle.cast_order.specs.Log.{log_of};
     ghost use Rattle.cast_types.specs.Names.{uid_in};
     ghost use Rattle.cast_delay.specs.Queue.{delivered_in};
-    ghost use Rattle.cast_domain.specs.Calls.{waiting_past, settled_at, unsettled_at};
+    ghost use Rattle.cast_domain.specs.ReleaseCalls.{waiting_past, settled_at, unsettled_at};
 
     // How many places a process has settled.
     pub fn settled_to(&self, process: Proc, kept: &GroupRecord) -> usize

@@ -15,7 +15,10 @@ use cast_view::{is_taken_in, other_sites};
 impl Domain {
     ghost use Rattle.std.specs.Prelude.{◌<◌, None, IfOk, OnOk, vec_len, ◌&&◌, ◌||◌, Some};
     ghost use Rattle.cast_domain.specs.Records.{Keeps, KeepsBeside, Makes, MakesAlone, own_records, MakesAtAnyCut, TellsAlone};
-    ghost use Rattle.cast_domain.specs.Calls.{records, record_at, added_if, begin_view_in, enter_in, standing_of, take_in, time_of, view_in, holding_from, is_ended_in, is_member_in, is_put_out_in, pass_in, put_out_all_in, put_out_if_in, put_out_in, serials_put_out, serials_of_members, keys_passing, local_in};
+    ghost use Rattle.cast_domain.specs.PartCalls.{record_at, added_if, standing_of, time_of, local_in};
+    ghost use Rattle.cast_domain.specs.ViewCalls.{begin_view_in, enter_in, take_in, view_in, holding_from, is_member_in, is_put_out_in, pass_in, put_out_all_in, put_out_if_in, put_out_in, serials_put_out, serials_of_members};
+    ghost use Rattle.cast_domain.specs.ReleaseCalls.{is_ended_in, keys_passing};
+    ghost use Rattle.cast_domain.specs.Calls.{records};
     ghost use Rattle.std.specs.List.{fold};
     ghost use Rattle.cast_rules.specs.Rules.Asking.{request};
     ghost use Rattle.cast_view.specs.MemberSide.{holder_at, is_taken_in};

@@ -1,7 +1,9 @@
 ghost use Rattle.std.specs.Prelude.{◌≡◌, ◌<◌, OnOk, length, ◌≤◌, ◌&&◌, ◌==◌, min, true, false, IfOk, vec_len, ◌||◌, ◌++◌, map, ◌+◌};
 ghost use Rattle.std.specs.List.{list_any};
 ghost use Rattle.cast_types.specs.declared.limits.TheConstants.{MAX_POSITION};
-ghost use Rattle.cast_domain.specs.Calls.{is_kept_of, with_name_of, is_abcast_named, records, record_at, freeze_in, had_of, pend_in, report_at, pending_of, last_sent_of, kept_of_view, is_unplaced_of, added_if};
+ghost use Rattle.cast_domain.specs.PartCalls.{record_at, added_if};
+ghost use Rattle.cast_domain.specs.FlushCalls.{is_kept_of, with_name_of, is_abcast_named, freeze_in, had_of, pend_in, report_at, pending_of, last_sent_of, kept_of_view, is_unplaced_of};
+ghost use Rattle.cast_domain.specs.Calls.{records};
 ghost use Rattle.cast_rules.specs.Rules.Home.{start, wants};
 ghost use Rattle.cast_domain.specs.Records.{Keeps, KeepsBeside, records_in, Makes, MakesAlone, own_records, TellsAlone};
 ghost use Rattle.cast_types.specs.Names.{entry_cmp, entry_of};

@@ -5,7 +5,8 @@ ghost use Rattle.std.specs.Option.{option_copied};
 ghost use Rattle.cast_rules.specs.Rules.Home.{wants, forwardable, is_of_home, on_forward, on_installed, on_want};
 ghost use Rattle.cast_rules.specs.Rules.Commands.{body_of};
 ghost use Rattle.cast_domain.specs.Records.{GivesBack, KeepsBeside, records_in, Makes, TellsAlone};
-ghost use Rattle.cast_domain.specs.Calls.{records, report_at, on_flushed_in};
+ghost use Rattle.cast_domain.specs.FlushCalls.{report_at};
+ghost use Rattle.cast_domain.specs.Calls.{records, on_flushed_in};
 ghost use Rattle.cast_rules.specs.Rules.Data.{is_well_formed};
 ghost use Rattle.cast_rules.specs.Rules.Keys.{home_key, want_key};
 

@@ -1,6 +1,6 @@
 ghost use Rattle.std.specs.Prelude.{◌≡◌, ◌<◌, None, ◌&&◌, ◌||◌, Some};
 ghost use Rattle.cast_domain.specs.Records.{own_records, TellsAlone};
-ghost use Rattle.cast_domain.specs.Calls.{holds_here, holder_in};
+ghost use Rattle.cast_domain.specs.FlushCalls.{holds_here, holder_in};
 ghost use Rattle.std.specs.List.{find};
 ghost use Rattle.std.specs.Option.{option_copied};
 

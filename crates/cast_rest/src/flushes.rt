@@ -1,7 +1,10 @@
 ghost use Rattle.std.specs.Prelude.{◌≡◌, ◌<◌, OnOk, length, ◌≤◌, ◌&&◌, ◌==◌, true, false, IfOk, vec_len, ◌||◌, ◌++◌, take, not, ◌+◌, Some};
 ghost use Rattle.std.specs.List.{list_any, fold};
 ghost use Rattle.cast_domain.specs.Records.{GivesBack, KeepsBeside, records_in, Makes, own_records, MakesAtAnyCut, StaysUnless};
-ghost use Rattle.cast_domain.specs.Calls.{records, record_at, is_awaited_of, is_received_of, resting_records, has_cut_in, missing_in, missing_upto, with_unreceived, complete_in};
+ghost use Rattle.cast_domain.specs.PartCalls.{record_at};
+ghost use Rattle.cast_domain.specs.FlushCalls.{is_awaited_of, is_received_of, has_cut_in, missing_in, missing_upto, with_unreceived};
+ghost use Rattle.cast_domain.specs.Calls.{records, complete_in};
+ghost use Rattle.cast_domain.specs.RestCalls.{resting_records};
 ghost use Rattle.cast_types.specs.declared.limits.TheConstants.{MAX_PLACED};
 ghost use Rattle.cast_domain.specs.Freed.{AreNotFree};
 ghost use Rattle.cast_domain.specs.Flags.{goes_on as goes_on_at, goes_on_some, wants_own_more};

@@ -1,7 +1,8 @@
 ghost use Rattle.std.specs.Prelude.{◌≡◌, ◌<◌, ◌&&◌, ◌==◌, true, false, IfOk, OnOk, vec_len, not};
 ghost use Rattle.cast_rules.specs.Rules.Home.{wants, announce, decide, lead, lead_group, owe_of_home, prepare, start, want, want_bodies};
 ghost use Rattle.cast_domain.specs.Records.{GivesBack, KeepsBeside, records_in, Makes, StaysUnless};
-ghost use Rattle.cast_domain.specs.Calls.{records, record_at};
+ghost use Rattle.cast_domain.specs.PartCalls.{record_at};
+ghost use Rattle.cast_domain.specs.Calls.{records};
 ghost use Rattle.std.specs.List.{fold, list_any};
 ghost use Rattle.cast_view.specs.Home.{may_start, may_decide};
 ghost use Rattle.cast_domain.specs.Flags.{leads_in, leads_some, wants_more};

@@ -1,6 +1,9 @@
 ghost use Rattle.std.specs.Prelude.{◌≡◌, ◌<◌, OnOk, true, false, None, IfOk, vec_len, ◌&&◌, ◌||◌, not, Some};
 ghost use Rattle.cast_domain.specs.Records.{Keeps, KeepsBeside, records_in, Makes, MakesAlone, own_records, StaysUnless, TellsAlone};
-ghost use Rattle.cast_domain.specs.Calls.{records, record_at, resting_records, added_if, sets_order_in, note_delivery_in, raised_at, may_list_of, holds_here, holders_in, told_in};
+ghost use Rattle.cast_domain.specs.PartCalls.{record_at, added_if};
+ghost use Rattle.cast_domain.specs.FlushCalls.{holds_here, holders_in};
+ghost use Rattle.cast_domain.specs.Calls.{records};
+ghost use Rattle.cast_domain.specs.RestCalls.{resting_records, sets_order_in, note_delivery_in, raised_at, may_list_of, told_in};
 ghost use Rattle.std.specs.List.{fold};
 ghost use Rattle.cast_types.specs.Names.{entry_of};
 ghost use Rattle.cast_ready.specs.Ready.{is_member};

@@ -1,5 +1,6 @@
 ghost use Rattle.std.specs.Prelude.{◌≡◌, ◌<◌, None, IfOk, Some, true, false, OnOk, ◌==◌};
-ghost use Rattle.cast_domain.specs.Calls.{delivery_of, weight_of, records, resting_records, deliver_as, note_weight_in, take_delivery_in};
+ghost use Rattle.cast_domain.specs.Calls.{records};
+ghost use Rattle.cast_domain.specs.RestCalls.{delivery_of, weight_of, resting_records, deliver_as, note_weight_in, take_delivery_in};
 ghost use Rattle.cast_domain.specs.declared.rest.Weight.TheVariants.{Hands};
 ghost use Rattle.cast_rules.specs.Rules.Rest.{told_of, tell_if, deliver_first, deliver_all, settle, pass};
 ghost use Rattle.cast_domain.specs.Records.{Keeps, KeepsBeside, records_in, Makes, MakesAlone, MakesWithOuts, StaysUnless};

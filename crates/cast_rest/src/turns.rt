@@ -2,7 +2,8 @@ ghost use Rattle.std.specs.Prelude.{◌≡◌, ◌<◌, None, IfOk, length, ◌&
 ghost use Rattle.cast_domain.specs.Records.{records_in, own_records};
 ghost use Rattle.cast_types.specs.declared.limits.TheConstants.{MAX_POSITION};
 ghost use Rattle.cast_order.specs.Log.{log_of, places_by};
-ghost use Rattle.cast_domain.specs.Calls.{ready_key_in, turn_at, turns_in, sets_order_at, waiting_past, has_room_at, unsettled_at};
+ghost use Rattle.cast_domain.specs.ReleaseCalls.{waiting_past, unsettled_at};
+ghost use Rattle.cast_domain.specs.RestCalls.{ready_key_in, turn_at, turns_in, sets_order_at, has_room_at};
 
 use cast_domain::Domain;
 use cast_domain::lent::Lent;

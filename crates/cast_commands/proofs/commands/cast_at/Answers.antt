@@ -11,7 +11,8 @@ use Rattle.cast_ready.specs.Ready.{is_member}
 use Rattle.cast_rules.specs.Rules.Room.{may_receive}
 use Rattle.cast_rules.specs.Rules.Sending.{send_message, may_raise}
 use Rattle.cast_domain.specs.Records.{records_in}
-use Rattle.cast_domain.specs.Calls.{awaits_own_in, count_cast_in, records, note_sent_by, record_at, standing_of, time_of, local_in}
+use Rattle.cast_domain.specs.PartCalls.{awaits_own_in, count_cast_in, note_sent_by, record_at, standing_of, time_of, local_in}
+use Rattle.cast_domain.specs.Calls.{records}
 use Rattle.cast_domain.proofs.Attempts.{sent, cast_made, cast_owned, cast_full, cast_unraised, raised_none, raised_some}
 use Rattle.cast_domain.proofs.Loops.{seen_as}
 use Rattle.cast_commands.proofs.commands.cast_at.Goals as goal

@@ -9,7 +9,8 @@ use Rattle.cast_ready.specs.Ready.{is_outside}
 use Rattle.cast_ready.specs.declared.row.ProcessUpdate.TheVariants as fact
 use Rattle.cast_rules.specs.Rules.Asking.{request}
 use Rattle.cast_domain.specs.Records.{records_in}
-use Rattle.cast_domain.specs.Calls.{record_at, records, tell_in, standing_of, time_of, local_in}
+use Rattle.cast_domain.specs.PartCalls.{record_at, tell_in, standing_of, time_of, local_in}
+use Rattle.cast_domain.specs.Calls.{records}
 use Rattle.cast_domain.proofs.Attempts.{join_made}
 use Rattle.cast_domain.proofs.Loops.{seen_as}
 use Rattle.cast_commands.proofs.commands.join_at.Goals as goal

@@ -15,7 +15,9 @@ use Rattle.cast_rules.specs.Rules.Sending.{send_message, may_raise}
 use Rattle.cast_rules.specs.Rules.Leaving.{Attempt}
 use Rattle.cast_rules.specs.Rules.Commands.{body_handing, hand_over, message_sent, send_own}
 use Rattle.cast_domain.specs.Records.{Records, records_in}
-use Rattle.cast_domain.specs.Calls.{awaits_own_in, local_in, note_sent_by, place_to_pass_of, record_at, records, standing_of, time_of}
+use Rattle.cast_domain.specs.PartCalls.{awaits_own_in, local_in, note_sent_by, record_at, standing_of, time_of}
+use Rattle.cast_domain.specs.ReleaseCalls.{place_to_pass_of}
+use Rattle.cast_domain.specs.Calls.{records}
 use Rattle.cast_domain.proofs.Attempts.{raised_some}
 use Rattle.cast_domain.proofs.Handing.{pass_past}
 use Rattle.cast_domain.proofs.Loops.{seen_as}

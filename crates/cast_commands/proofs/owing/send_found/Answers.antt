@@ -4,7 +4,7 @@ use Rattle.std.proofs.lemmas.Result.{on_ok_weaker}
 use Rattle.cast_message.specs.declared.site.SiteFrame.{SiteFrame}
 use Rattle.cast_timer.specs.declared.key.OwedKey.{OwedKey}
 use Rattle.cast_domain.specs.Records.{records_in}
-use Rattle.cast_domain.specs.Calls.{send_in}
+use Rattle.cast_domain.specs.PartCalls.{send_in}
 use Rattle.cast_commands.proofs.owing.send_found.Goals as goal
 
 pub returns-in_ok-copy-in-Some-clause-made : goal.returns-in_ok-copy-in-Some-clause-made

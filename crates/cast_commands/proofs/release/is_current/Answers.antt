@@ -1,7 +1,7 @@
 use Rattle.std.proofs.Common.{ℕ, Option, false, ◌∙◌, sym, ap}
 use Rattle.std.specs.Option.{option_map_or}
 use Rattle.cast_view.specs.MemberSide.{is_current}
-use Rattle.cast_domain.specs.Calls.{record_at}
+use Rattle.cast_domain.specs.PartCalls.{record_at}
 use Rattle.cast_commands.proofs.release.is_current.Goals as goal
 
 pub returns-in-Some : goal.returns-in-Some

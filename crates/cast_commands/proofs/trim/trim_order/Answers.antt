@@ -2,7 +2,7 @@ use Rattle.std.proofs.Common.{◌≡◌, ◌∙◌, ap}
 use Rattle.cast_order.specs.Log.{log_of, change_in, oldest_in, forgot}
 use Rattle.cast_domain.specs.declared.record.GroupRecord.{GroupRecord}
 use Rattle.cast_domain.specs.Records.{records_of}
-use Rattle.cast_domain.specs.Calls.{record_at}
+use Rattle.cast_domain.specs.PartCalls.{record_at}
 use Rattle.cast_domain.specs.Trims.{count_first, is_over_of}
 use Rattle.cast_commands.proofs.trim.trim_order.Goals as goal
 

@@ -1,5 +1,5 @@
 use Rattle.std.proofs.Common.{sym, ap, inl, inr}
-use Rattle.cast_domain.specs.Calls.{learn_in}
+use Rattle.cast_domain.specs.PartCalls.{learn_in}
 use Rattle.cast_domain.proofs.order.learn.Goals as goal
 
 pub returns-in-Order : goal.returns-in-Order

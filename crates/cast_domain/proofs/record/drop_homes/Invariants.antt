@@ -1,5 +1,5 @@
 use Rattle.std.proofs.Common.{◌≡◌, ◌++◌, take, drop, map}
-use Rattle.cast_domain.specs.Calls.{with_first_home}
+use Rattle.cast_domain.specs.PartCalls.{with_first_home}
 use Rattle.cast_domain.proofs.record.drop_homes.Given as goal
 
 -- the homes of the groups that were passed keep nothing, and those of the others will

@@ -7,7 +7,8 @@ use Rattle.cast_timer.specs.declared.key.OwedKind.TheVariants as kinds
 use Rattle.cast_rules.specs.Rules.Keys.{message_key}
 use Rattle.cast_rules.specs.Rules.Owing.{owe}
 use Rattle.cast_domain.specs.Records.{records_in}
-use Rattle.cast_domain.specs.Calls.{records, send_in}
+use Rattle.cast_domain.specs.PartCalls.{send_in}
+use Rattle.cast_domain.specs.Calls.{records}
 use Rattle.cast_handlers.proofs.data.acknowledge.Goals as goal
 
 pub returns-then-is_stable-clause-made : goal.returns-then-is_stable-clause-made

@@ -3,7 +3,8 @@ use Rattle.std.specs.Prelude.{if◌then◌else◌}
 use Rattle.cast_message.specs.declared.site.SiteFrame.TheVariants as frame
 use Rattle.cast_rules.specs.Rules.Data.{is_used, is_outdated, use_data}
 use Rattle.cast_domain.specs.Records.{records_in}
-use Rattle.cast_domain.specs.Calls.{record_at, records, send_in}
+use Rattle.cast_domain.specs.PartCalls.{record_at, send_in}
+use Rattle.cast_domain.specs.Calls.{records}
 use Rattle.cast_handlers.proofs.data.on_data.Goals as goal
 
 pub returns-in_ok-send-clause-made : goal.returns-in_ok-send-clause-made

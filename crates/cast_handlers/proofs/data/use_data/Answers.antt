@@ -5,7 +5,8 @@ use Rattle.cast_stable.specs.Acks.{is_received_in}
 use Rattle.cast_rules.specs.Rules.Data.{acknowledge, want_no_more}
 use Rattle.cast_rules.specs.Rules.Room.{may_take}
 use Rattle.cast_domain.specs.Records.{Records, records_in}
-use Rattle.cast_domain.specs.Calls.{records, receive_in, send_in}
+use Rattle.cast_domain.specs.PartCalls.{receive_in, send_in}
+use Rattle.cast_domain.specs.Calls.{records}
 use Rattle.cast_handlers.proofs.data.use_data.Goals as goal
 
 pub returns-then-is_received-clause-made : goal.returns-then-is_received-clause-made

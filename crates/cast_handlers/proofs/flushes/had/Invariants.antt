@@ -5,7 +5,7 @@ use Rattle.cast_events.specs.Outs.{no_outs}
 use Rattle.cast_view.specs.Sites.{is_at}
 use Rattle.cast_domain.specs.Records.{records_of}
 use Rattle.cast_domain.specs.Shared.{no_part}
-use Rattle.cast_domain.specs.Calls.{had_of}
+use Rattle.cast_domain.specs.FlushCalls.{had_of}
 use Rattle.cast_handlers.proofs.flushes.had.Given as goal
 
 -- what is had so far with what the members sent that are left is all

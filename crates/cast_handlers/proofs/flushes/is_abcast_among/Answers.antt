@@ -1,5 +1,5 @@
 use Rattle.std.proofs.Common.{◌&&◌, sym, ◌∙◌}
-use Rattle.cast_domain.specs.Calls.{is_kept_of, is_abcast_named}
+use Rattle.cast_domain.specs.FlushCalls.{is_kept_of, is_abcast_named}
 use Rattle.cast_domain.proofs.Behind.{any_found, any_more}
 use Rattle.cast_handlers.proofs.flushes.is_abcast_among.Goals as goal
 

@@ -1,6 +1,6 @@
 use Rattle.std.proofs.Common.{◌≡◌, ◌&&◌, drop}
 use Rattle.std.specs.List.{list_any}
-use Rattle.cast_domain.specs.Calls.{is_kept_of, is_abcast_named}
+use Rattle.cast_domain.specs.FlushCalls.{is_kept_of, is_abcast_named}
 use Rattle.cast_handlers.proofs.flushes.is_abcast_among.Given as goal
 
 -- none of those so far is

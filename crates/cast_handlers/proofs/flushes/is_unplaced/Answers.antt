@@ -6,7 +6,7 @@ use Rattle.cast_types.specs.Sets.{is_among}
 use Rattle.cast_message.specs.Bodies.{kind_of}
 use Rattle.cast_message.specs.Receipts.{messages}
 use Rattle.cast_order.specs.Log.{log_of, whole_kept}
-use Rattle.cast_domain.specs.Calls.{is_kept_of}
+use Rattle.cast_domain.specs.FlushCalls.{is_kept_of}
 use Rattle.cast_domain.proofs.Marks.{abcast_among}
 use Rattle.cast_handlers.proofs.flushes.is_unplaced.Goals as goal
 

@@ -6,7 +6,7 @@ use Rattle.cast_message.specs.KeptIds.{Marked, KeptList, is_kept}
 use Rattle.cast_message.specs.Receipts.{messages}
 use Rattle.cast_order.specs.Log.{log_of, whole_kept}
 use Rattle.cast_rules.specs.Reports.{is_unplaced}
-use Rattle.cast_domain.specs.Calls.{is_kept_of}
+use Rattle.cast_domain.specs.FlushCalls.{is_kept_of}
 use Rattle.cast_domain.proofs.Marks.{kept_fits}
 use Rattle.cast_handlers.proofs.flushes.kept_of.Goals as goal
 

@@ -2,7 +2,7 @@ use Rattle.std.proofs.Common.{◌≡◌, map, filter, take}
 use Rattle.cast_message.specs.Receipts.{messages}
 use Rattle.cast_order.specs.Log.{log_of, whole_kept}
 use Rattle.cast_rules.specs.Reports.{is_unplaced}
-use Rattle.cast_domain.specs.Calls.{is_kept_of}
+use Rattle.cast_domain.specs.FlushCalls.{is_kept_of}
 use Rattle.cast_handlers.proofs.flushes.mark_names.Given as goal
 
 -- the names so far with their marks

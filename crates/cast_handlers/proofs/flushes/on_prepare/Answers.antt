@@ -5,7 +5,9 @@ use Rattle.cast_view.specs.MemberSide.{answers_prepare}
 use Rattle.cast_rules.specs.Rules.Flushes.{flushed_frame}
 use Rattle.cast_rules.specs.Rules.Asking.{is_from_home}
 use Rattle.cast_domain.specs.Records.{Records, records_in}
-use Rattle.cast_domain.specs.Calls.{records, record_at, report_at, freeze_in, send_in}
+use Rattle.cast_domain.specs.PartCalls.{record_at, send_in}
+use Rattle.cast_domain.specs.FlushCalls.{report_at, freeze_in}
+use Rattle.cast_domain.specs.Calls.{records}
 use Rattle.cast_domain.proofs.Loops.{seen_as}
 use Rattle.cast_handlers.proofs.flushes.on_prepare.Goals as goal
 

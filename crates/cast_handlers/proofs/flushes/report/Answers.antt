@@ -10,7 +10,8 @@ use Rattle.cast_order.specs.Log.{log_of, whole_kept}
 use Rattle.cast_view.specs.MemberSide.{report_of}
 use Rattle.cast_rules.specs.Reports.{kept_list}
 use Rattle.cast_domain.specs.Records.{records_in}
-use Rattle.cast_domain.specs.Calls.{had_of, holder_in, is_kept_of, record_at, report_at, tail_in}
+use Rattle.cast_domain.specs.PartCalls.{record_at}
+use Rattle.cast_domain.specs.FlushCalls.{had_of, holder_in, is_kept_of, report_at, tail_in}
 use Rattle.cast_handlers.proofs.flushes.report.Goals as goal
 
 pub returns : goal.returns

@@ -9,7 +9,8 @@ use Rattle.cast_rules.specs.Rules.Keys.{want_key}
 use Rattle.cast_rules.specs.Rules.Home.{is_of_home, wants}
 use Rattle.cast_domain.specs.Shared.{part_of}
 use Rattle.cast_domain.specs.Records.{Records, records_in}
-use Rattle.cast_domain.specs.Calls.{move_home_in, moved_home, pay_in, record_at, records}
+use Rattle.cast_domain.specs.PartCalls.{move_home_in, moved_home, pay_in, record_at}
+use Rattle.cast_domain.specs.Calls.{records}
 use Rattle.cast_handlers.proofs.home.on_forward.Goals as goal
 
 pub returns-in_default-clause-made : goal.returns-in_default-clause-made

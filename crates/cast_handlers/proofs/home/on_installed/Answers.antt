@@ -7,7 +7,7 @@ use Rattle.cast_view.specs.Home.{takes_installed}
 use Rattle.cast_view.specs.Home.HomeMove.{Installed}
 use Rattle.cast_rules.specs.Rules.Keys.{home_key}
 use Rattle.cast_domain.specs.Records.{records_in}
-use Rattle.cast_domain.specs.Calls.{move_home_in, pay_in, record_at}
+use Rattle.cast_domain.specs.PartCalls.{move_home_in, pay_in, record_at}
 use Rattle.cast_handlers.proofs.home.on_installed.Goals as goal
 
 pub returns-then-takes_installed-clause-made : goal.returns-then-takes_installed-clause-made

@@ -6,7 +6,8 @@ use Rattle.cast_message.specs.declared.site.SiteFrame.TheVariants as frame
 use Rattle.cast_rules.specs.Rules.Home.{forwardable}
 use Rattle.cast_domain.specs.Shared.{part_of}
 use Rattle.cast_domain.specs.Records.{Records, records_in}
-use Rattle.cast_domain.specs.Calls.{records, send_in}
+use Rattle.cast_domain.specs.PartCalls.{send_in}
+use Rattle.cast_domain.specs.Calls.{records}
 use Rattle.cast_handlers.proofs.home.on_want.Goals as goal
 
 pub returns-in_ok-send-in-Some-clause-made : goal.returns-in_ok-send-in-Some-clause-made

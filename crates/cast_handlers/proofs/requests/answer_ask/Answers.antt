@@ -2,7 +2,8 @@ use Rattle.std.proofs.Common.{◌∙◌, sym, ap}
 use Rattle.cast_message.specs.declared.site.SiteFrame.TheVariants as frame
 use Rattle.cast_rules.specs.Rules.Requests.{answer_ask}
 use Rattle.cast_domain.specs.Records.{records_of}
-use Rattle.cast_domain.specs.Calls.{records, send_in}
+use Rattle.cast_domain.specs.PartCalls.{send_in}
+use Rattle.cast_domain.specs.Calls.{records}
 use Rattle.cast_handlers.proofs.requests.answer_ask.Goals as goal
 
 pub returns-in_ok-send-in-Some : goal.returns-in_ok-send-in-Some

@@ -8,7 +8,8 @@ use Rattle.cast_rules.specs.Rules.Requests.{is_joining_by}
 use Rattle.cast_rules.specs.Rules.Leaving.{tell}
 use Rattle.cast_domain.specs.declared.record.GroupRecord.{GroupRecord}
 use Rattle.cast_domain.specs.Records.{Records, records_in}
-use Rattle.cast_domain.specs.Calls.{local_in, note_outside_in, record_at, records, standing_of, tell_in}
+use Rattle.cast_domain.specs.PartCalls.{local_in, note_outside_in, record_at, standing_of, tell_in}
+use Rattle.cast_domain.specs.Calls.{records}
 use Rattle.cast_domain.proofs.Loops.{seen_as}
 use Rattle.cast_handlers.proofs.requests.deny.Goals as goal
 

@@ -2,7 +2,8 @@ use Rattle.std.proofs.Common.{◌≡◌, ◌∙◌, ap}
 use Rattle.cast_rules.specs.Rules.Keys.{ask_key}
 use Rattle.cast_rules.specs.Rules.Asking.{ask_home}
 use Rattle.cast_domain.specs.Records.{records_in}
-use Rattle.cast_domain.specs.Calls.{pay_in, record_at, records}
+use Rattle.cast_domain.specs.PartCalls.{pay_in, record_at}
+use Rattle.cast_domain.specs.Calls.{records}
 use Rattle.cast_handlers.proofs.requests.take_answer.Goals as goal
 
 pub returns-clause-made : goal.returns-clause-made

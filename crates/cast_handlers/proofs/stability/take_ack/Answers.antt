@@ -1,6 +1,6 @@
 use Rattle.std.proofs.Common.{◌∙◌, ap}
 use Rattle.cast_domain.specs.Records.{records_in}
-use Rattle.cast_domain.specs.Calls.{pay_in}
+use Rattle.cast_domain.specs.PartCalls.{pay_in}
 use Rattle.cast_handlers.proofs.stability.take_ack.Goals as goal
 
 pub returns-clause-made : goal.returns-clause-made

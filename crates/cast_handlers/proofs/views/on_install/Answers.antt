@@ -4,7 +4,8 @@ use Rattle.cast_message.specs.declared.site.SiteFrame.TheVariants as frame
 use Rattle.cast_view.specs.declared.member.Verdict.TheVariants.{Again, Skips, Completes, Pends}
 use Rattle.cast_view.specs.MemberSide.{verdict_of}
 use Rattle.cast_domain.specs.Records.{records_in}
-use Rattle.cast_domain.specs.Calls.{record_at, records, send_in}
+use Rattle.cast_domain.specs.PartCalls.{record_at, send_in}
+use Rattle.cast_domain.specs.Calls.{records}
 use Rattle.cast_domain.proofs.Loops.{seen_as}
 use Rattle.cast_domain.proofs.Verdicts.{installed_by}
 use Rattle.cast_handlers.proofs.views.on_install.Goals as goal

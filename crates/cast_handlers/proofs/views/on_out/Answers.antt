@@ -4,7 +4,8 @@ use Rattle.std.proofs.lemmas.Bool.Decides.{nat_tests}
 use Rattle.cast_view.specs.MemberSide.{is_put_out_by}
 use Rattle.cast_rules.specs.Rules.Views.{change_view, no_members}
 use Rattle.cast_domain.specs.Records.{records_in}
-use Rattle.cast_domain.specs.Calls.{record_at, records}
+use Rattle.cast_domain.specs.PartCalls.{record_at}
+use Rattle.cast_domain.specs.Calls.{records}
 use Rattle.cast_handlers.proofs.views.on_out.Goals as goal
 
 pub returns-in_ok-change_view-clause-made : goal.returns-in_ok-change_view-clause-made

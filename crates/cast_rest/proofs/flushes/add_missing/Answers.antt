@@ -4,7 +4,7 @@ use Rattle.cast_delay.specs.Queue.{least_in}
 use Rattle.cast_events.specs.Outs.{no_outs}
 use Rattle.cast_domain.specs.Records.{records_of}
 use Rattle.cast_domain.specs.Shared.{no_part}
-use Rattle.cast_domain.specs.Calls.{is_awaited_of, is_received_of}
+use Rattle.cast_domain.specs.FlushCalls.{is_awaited_of, is_received_of}
 use Rattle.cast_domain.proofs.Least.{awaited_none, awaited_some, left, first_left, left_added, left_end, take_full, few_more}
 use Rattle.cast_rest.proofs.flushes.add_missing.Goals as goal
 

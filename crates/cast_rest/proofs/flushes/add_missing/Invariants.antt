@@ -3,7 +3,7 @@ use Rattle.cast_ready.specs.Ready.{first_of}
 use Rattle.cast_events.specs.Outs.{no_outs}
 use Rattle.cast_domain.specs.Records.{records_of}
 use Rattle.cast_domain.specs.Shared.{no_part}
-use Rattle.cast_domain.specs.Calls.{is_awaited_of, is_received_of}
+use Rattle.cast_domain.specs.FlushCalls.{is_awaited_of, is_received_of}
 use Rattle.cast_domain.proofs.Least.{left}
 use Rattle.cast_rest.proofs.flushes.add_missing.Given as goal
 

@@ -7,7 +7,10 @@ use Rattle.cast_view.specs.declared.member.Pending.{Pending}
 use Rattle.cast_rules.specs.Rules.Flushes.{complete, complete_or_want, want_own}
 use Rattle.cast_rules.specs.Rules.Release.{let_go}
 use Rattle.cast_domain.specs.Records.{Records, records_in}
-use Rattle.cast_domain.specs.Calls.{has_cut_of, missing_of, record_at, records, resting_records}
+use Rattle.cast_domain.specs.PartCalls.{record_at}
+use Rattle.cast_domain.specs.FlushCalls.{has_cut_of, missing_of}
+use Rattle.cast_domain.specs.Calls.{records}
+use Rattle.cast_domain.specs.RestCalls.{resting_records}
 use Rattle.cast_domain.specs.Freed.{AreNotFree}
 use Rattle.cast_domain.proofs.NotFree.{none_wants}
 use Rattle.cast_rest.proofs.flushes.go_on.Goals as goal

@@ -3,7 +3,8 @@ use Rattle.std.specs.Prelude.{◌||◌}
 use Rattle.cast_domain.specs.Flags.{changes_over, goes_on, goes_on_some}
 use Rattle.std.specs.List.{fold, range_with_len}
 use Rattle.cast_rules.specs.Rules.Flushes.{go_on, go_on_all}
-use Rattle.cast_domain.specs.Calls.{records, resting_records}
+use Rattle.cast_domain.specs.Calls.{records}
+use Rattle.cast_domain.specs.RestCalls.{resting_records}
 use Rattle.cast_domain.specs.Records.{KeepsBeside, records_in}
 use Rattle.cast_domain.specs.Freed.{AreNotFree}
 use Rattle.cast_rest.proofs.flushes.go_on_all.Given as goal

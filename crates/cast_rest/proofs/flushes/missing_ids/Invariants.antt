@@ -3,7 +3,8 @@ use Rattle.cast_ready.specs.Ready.{covered_entries}
 use Rattle.cast_events.specs.Outs.{no_outs}
 use Rattle.cast_domain.specs.Records.{records_of}
 use Rattle.cast_domain.specs.Shared.{no_part}
-use Rattle.cast_domain.specs.Calls.{record_at, is_awaited_of, is_received_of, missing_of}
+use Rattle.cast_domain.specs.PartCalls.{record_at}
+use Rattle.cast_domain.specs.FlushCalls.{is_awaited_of, is_received_of, missing_of}
 use Rattle.cast_rest.proofs.flushes.missing_ids.Given as goal
 
 -- the missing ones so far with those of the processes that are left are all

@@ -3,7 +3,7 @@ use Rattle.cast_events.specs.Outs.{no_outs}
 use Rattle.cast_order.specs.Log.{log_of}
 use Rattle.cast_domain.specs.Shared.{no_part}
 use Rattle.cast_domain.specs.Records.{records_of}
-use Rattle.cast_domain.specs.Calls.{holders_among}
+use Rattle.cast_domain.specs.FlushCalls.{holders_among}
 use Rattle.cast_rest.proofs.order.holders.Given as goal
 
 -- those so far with those that are left are all

@@ -5,7 +5,7 @@ use Rattle.cast_types.specs.Names.{entry_of}
 use Rattle.cast_order.specs.Log.{change_log, log_of, next_in, pass_ids}
 use Rattle.cast_delay.specs.Queue.{passed_in}
 use Rattle.cast_domain.specs.Records.{records_of}
-use Rattle.cast_domain.specs.Calls.{sets_order_in, told_in}
+use Rattle.cast_domain.specs.RestCalls.{sets_order_in, told_in}
 use Rattle.cast_rest.proofs.order.note_delivery.Goals as goal
 
 pub returns-clause-made : goal.returns-clause-made

@@ -4,7 +4,8 @@ use Rattle.cast_message.specs.declared.message.Body.TheVariants as body
 use Rattle.cast_message.specs.declared.message.Message.{Message}
 use Rattle.cast_rules.specs.Rules.Sending.{send_message}
 use Rattle.cast_domain.specs.Records.{records_in}
-use Rattle.cast_domain.specs.Calls.{local_in, note_sent_by, record_at, records, time_of}
+use Rattle.cast_domain.specs.PartCalls.{local_in, note_sent_by, record_at, time_of}
+use Rattle.cast_domain.specs.Calls.{records}
 use Rattle.cast_domain.proofs.Loops.{seen_as}
 use Rattle.cast_rest.proofs.order.send_places.Goals as goal
 

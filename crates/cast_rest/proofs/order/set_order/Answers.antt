@@ -1,7 +1,8 @@
 use Rattle.std.proofs.Common.{◌≡◌, ◌∙◌, false, sym, ap}
 use Rattle.cast_order.specs.Log.{log_of, waits_in}
 use Rattle.cast_domain.specs.Records.{records_in}
-use Rattle.cast_domain.specs.Calls.{record_at, resting_records}
+use Rattle.cast_domain.specs.PartCalls.{record_at}
+use Rattle.cast_domain.specs.RestCalls.{resting_records}
 use Rattle.cast_domain.proofs.Idle.{idle_each, idle_told}
 use Rattle.cast_rest.proofs.order.set_order.Goals as goal
 

@@ -8,7 +8,9 @@ use Rattle.cast_rules.specs.Rules.Sending.{may_raise}
 use Rattle.cast_rules.specs.Rules.Order.{may_list}
 use Rattle.cast_domain.specs.Records.{Records, records_in}
 use Rattle.cast_rules.specs.Rules.Release as release
-use Rattle.cast_domain.specs.Calls.{records, resting_records, local_in, record_at, standing_of, time_of}
+use Rattle.cast_domain.specs.PartCalls.{local_in, record_at, standing_of, time_of}
+use Rattle.cast_domain.specs.Calls.{records}
+use Rattle.cast_domain.specs.RestCalls.{resting_records}
 use Rattle.cast_domain.proofs.Attempts.{places_made, places_none, places_missing, places_unraised, raised_none, raised_some}
 use Rattle.cast_domain.proofs.Loops.{groups_let_go}
 use Rattle.cast_rest.proofs.order.set_order_by.Goals as goal

@@ -2,7 +2,8 @@ use Rattle.std.proofs.Common.{◌≡◌, false, drop, vec_len}
 use Rattle.std.specs.Prelude.{◌||◌}
 use Rattle.std.specs.List.{fold}
 use Rattle.cast_rules.specs.Rules.Order.{set_order_by}
-use Rattle.cast_domain.specs.Calls.{records, resting_records}
+use Rattle.cast_domain.specs.Calls.{records}
+use Rattle.cast_domain.specs.RestCalls.{resting_records}
 use Rattle.cast_domain.specs.Flags.{orders_each}
 use Rattle.cast_domain.specs.Records.{KeepsBeside, records_in}
 use Rattle.cast_domain.specs.Freed.{AreNotFree}

@@ -3,7 +3,8 @@ use Rattle.std.specs.List.{fold, range_with_len}
 use Rattle.std.proofs.lemmas.Bool.{or_parts}
 use Rattle.cast_domain.specs.Records.{records_in}
 use Rattle.cast_rules.specs.Rules.Order.{set_order}
-use Rattle.cast_domain.specs.Calls.{records, resting_records}
+use Rattle.cast_domain.specs.Calls.{records}
+use Rattle.cast_domain.specs.RestCalls.{resting_records}
 use Rattle.cast_domain.specs.Flags.{orders_at}
 use Rattle.cast_domain.proofs.Flagged.{more_changes}
 use Rattle.cast_domain.proofs.Loops.{beside_then, fold_more}

@@ -3,7 +3,8 @@ use Rattle.std.specs.Prelude.{◌||◌}
 use Rattle.cast_domain.specs.Flags.{changes_over, orders_at, orders_some}
 use Rattle.std.specs.List.{fold, range_with_len}
 use Rattle.cast_rules.specs.Rules.Order.{set_order, set_orders}
-use Rattle.cast_domain.specs.Calls.{records, resting_records}
+use Rattle.cast_domain.specs.Calls.{records}
+use Rattle.cast_domain.specs.RestCalls.{resting_records}
 use Rattle.cast_domain.specs.Records.{KeepsBeside, records_in}
 use Rattle.cast_domain.specs.Freed.{AreNotFree}
 use Rattle.cast_rest.proofs.order.set_orders.Given as goal

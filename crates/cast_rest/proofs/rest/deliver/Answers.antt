@@ -1,7 +1,8 @@
 use Rattle.std.proofs.Common.{◌≡◌, ◌∙◌}
 use Rattle.cast_rules.specs.Rules.Rest.{tell_if}
 use Rattle.cast_domain.specs.Records.{records_in, records_of}
-use Rattle.cast_domain.specs.Calls.{note_weight_in, records, take_delivery_in}
+use Rattle.cast_domain.specs.Calls.{records}
+use Rattle.cast_domain.specs.RestCalls.{note_weight_in, take_delivery_in}
 use Rattle.cast_domain.proofs.Loops.{keeps_then, seen_as}
 use Rattle.cast_rest.proofs.rest.deliver.Goals as goal
 

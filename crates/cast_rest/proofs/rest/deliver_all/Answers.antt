@@ -5,7 +5,8 @@ use Rattle.cast_types.proofs.Iterates.{iterate_still}
 use Rattle.cast_rules.specs.Rules.Rest.{deliver_first}
 use Rattle.cast_domain.specs.Shared.{part_of}
 use Rattle.cast_domain.specs.Records.{records_in}
-use Rattle.cast_domain.specs.Calls.{records, resting_records}
+use Rattle.cast_domain.specs.Calls.{records}
+use Rattle.cast_domain.specs.RestCalls.{resting_records}
 use Rattle.cast_domain.specs.Flags.{has_ready}
 use Rattle.cast_domain.proofs.Flagged.{none_ready}
 use Rattle.cast_domain.proofs.Loops.{beside_then, turn_more}

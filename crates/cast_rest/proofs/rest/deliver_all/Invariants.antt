@@ -1,7 +1,8 @@
 use Rattle.std.proofs.Common.{◌≡◌, ◌-◌, true, false, length}
 use Rattle.cast_types.specs.Repeat.{iterate}
 use Rattle.cast_rules.specs.Rules.Rest.{deliver_first, deliver_all}
-use Rattle.cast_domain.specs.Calls.{records, resting_records}
+use Rattle.cast_domain.specs.Calls.{records}
+use Rattle.cast_domain.specs.RestCalls.{resting_records}
 use Rattle.cast_domain.specs.Records.{KeepsBeside, records_in}
 use Rattle.cast_domain.specs.Flags.{has_ready}
 use Rattle.cast_domain.specs.Shared.{part_of}

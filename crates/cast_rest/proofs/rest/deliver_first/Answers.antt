@@ -10,7 +10,9 @@ use Rattle.cast_message.specs.Receipts.{message_under}
 use Rattle.cast_rules.specs.Rules.Rest.{tell_if, told_of, deliver}
 use Rattle.cast_domain.specs.Records.{Records, records_in}
 use Rattle.cast_rules.specs.Rules.Release as release
-use Rattle.cast_domain.specs.Calls.{deliver_as, is_full_in, local_in, next_ready_in, note_delivered_under, ready_key_in, records, resting_records}
+use Rattle.cast_domain.specs.PartCalls.{is_full_in, local_in}
+use Rattle.cast_domain.specs.Calls.{records}
+use Rattle.cast_domain.specs.RestCalls.{deliver_as, next_ready_in, note_delivered_under, ready_key_in, resting_records}
 use Rattle.cast_domain.specs.Freed.{AreNotFree, AreNotFreeBut}
 use Rattle.cast_domain.specs.declared.rest.Delivery.{Delivery}
 use Rattle.cast_types.specs.declared.source.Source.{Source}

@@ -2,7 +2,8 @@ use Rattle.std.proofs.Common.{◌≡◌, subst}
 use Rattle.std.specs.Prelude.{IfOk, OnOk}
 use Rattle.cast_delay.specs.Queue.{Queue}
 use Rattle.cast_rules.specs.Rules.Rest.{deliver_all}
-use Rattle.cast_domain.specs.Calls.{records, resting_records}
+use Rattle.cast_domain.specs.Calls.{records}
+use Rattle.cast_domain.specs.RestCalls.{resting_records}
 use Rattle.cast_domain.specs.Freed.{AreNotFree}
 use Rattle.cast_domain.specs.Flags.{has_ready}
 use Rattle.cast_domain.specs.Records.{records_in}

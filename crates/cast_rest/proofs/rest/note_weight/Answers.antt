@@ -1,7 +1,7 @@
 use Rattle.std.proofs.Common.{◌∙◌, sym, ap}
 use Rattle.std.proofs.lemmas.Result.{on_ok_weaker}
 use Rattle.cast_domain.specs.Records.{records_of}
-use Rattle.cast_domain.specs.Calls.{note_weight_in}
+use Rattle.cast_domain.specs.RestCalls.{note_weight_in}
 use Rattle.cast_rest.proofs.rest.note_weight.Goals as goal
 
 pub returns-in-Hands-clause-made : goal.returns-in-Hands-clause-made

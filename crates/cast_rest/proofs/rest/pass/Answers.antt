@@ -5,7 +5,8 @@ use Rattle.cast_rules.specs.Rules.Home.{lead}
 use Rattle.cast_rules.specs.Rules.Order.{set_orders}
 use Rattle.std.specs.Prelude.{◌||◌}
 use Rattle.cast_domain.specs.Flags.{goes_on_some, leads_some, orders_some}
-use Rattle.cast_domain.specs.Calls.{records, resting_records}
+use Rattle.cast_domain.specs.Calls.{records}
+use Rattle.cast_domain.specs.RestCalls.{resting_records}
 use Rattle.cast_domain.specs.Records.{records_in}
 use Rattle.cast_domain.specs.Freed.{AreNotFree}
 use Rattle.cast_domain.proofs.NotFree.{none_lead}

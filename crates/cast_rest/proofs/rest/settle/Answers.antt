@@ -2,7 +2,8 @@ use Rattle.std.proofs.Common.{◌≡◌, None, true, sym}
 use Rattle.std.proofs.lemmas.Bool.{not_from_true}
 use Rattle.cast_types.specs.declared.names.Proc.{Proc}
 use Rattle.cast_domain.specs.Records.{records_in}
-use Rattle.cast_domain.specs.Calls.{ready_key_in, serials_in, turns_in}
+use Rattle.cast_domain.specs.PartCalls.{serials_in}
+use Rattle.cast_domain.specs.RestCalls.{ready_key_in, turns_in}
 use Rattle.cast_domain.proofs.Unready.{none_deliver, none_delivers}
 use Rattle.cast_rest.proofs.rest.settle.Goals as goal
 use Rattle.cast_rest.proofs.rest.settle.Goals.{Then-is_settled}

@@ -9,7 +9,7 @@ use Rattle.cast_events.specs.Outs.{no_outs}
 use Rattle.cast_order.specs.Log.{Log, known_past, log_of}
 use Rattle.cast_domain.specs.Shared.{no_part}
 use Rattle.cast_domain.specs.Records.{records_of}
-use Rattle.cast_domain.specs.Calls.{settled_at, unsettled_at, waiting_past}
+use Rattle.cast_domain.specs.ReleaseCalls.{settled_at, unsettled_at, waiting_past}
 use Rattle.cast_rest.proofs.turns.is_unsettled_past_few.Goals as goal
 
 pub returns-then-saturating_add-lt-MAX_UNSETTLED : goal.returns-then-saturating_add-lt-MAX_UNSETTLED

@@ -4,7 +4,7 @@ use Rattle.cast_types.specs.declared.names.GroupNo.{GroupNo}
 use Rattle.cast_ready.specs.declared.turn.Turn.{Turn}
 use Rattle.cast_domain.specs.declared.record.GroupRecord.{GroupRecord}
 use Rattle.cast_domain.specs.Records.{records_in}
-use Rattle.cast_domain.specs.Calls.{turn_at}
+use Rattle.cast_domain.specs.RestCalls.{turn_at}
 use Rattle.cast_rest.proofs.turns.turns.Goals as goal
 
 pub loop-record-preserved : goal.loop-record-preserved

@@ -1,6 +1,6 @@
 use Rattle.std.proofs.Common.{◌≡◌, map, take}
 use Rattle.cast_domain.specs.Records.{records_in}
-use Rattle.cast_domain.specs.Calls.{turn_at}
+use Rattle.cast_domain.specs.RestCalls.{turn_at}
 use Rattle.cast_rest.proofs.turns.turns.Given as goal
 
 -- the turns in the groups so far

@@ -1,6 +1,6 @@
 use Rattle.std.proofs.Common.{◌≡◌, ◌∙◌, List, [], ◌∷◌, map, refl, ap}
 use Rattle.cast_domain.specs.declared.record.GroupRecord.{GroupRecord}
-use Rattle.cast_domain.specs.Calls.{with_first_home}
+use Rattle.cast_domain.specs.PartCalls.{with_first_home}
 use Rattle.cast_domain.specs.Shows.{group_shown}
 use Rattle.cast_step.proofs.domain.halt.Goals as goal
 

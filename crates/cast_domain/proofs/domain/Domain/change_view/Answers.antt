@@ -1,6 +1,7 @@
 use Rattle.std.proofs.Common.{◌∙◌, ap}
 use Rattle.cast_domain.specs.Records.{records_in}
-use Rattle.cast_domain.specs.Calls.{pay_view_in, records}
+use Rattle.cast_domain.specs.ReleaseCalls.{pay_view_in}
+use Rattle.cast_domain.specs.Calls.{records}
 use Rattle.cast_rules.specs.Rules.Views.{enter_and_tell}
 use Rattle.cast_domain.proofs.domain.Domain.change_view.Goals as goal
 

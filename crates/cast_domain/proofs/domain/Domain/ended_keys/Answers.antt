@@ -2,7 +2,7 @@ use Rattle.std.proofs.Common.{Global, Vec, sym, ap, ◌∙◌}
 use Rattle.cast_types.specs.declared.names.Key.{Key}
 use Rattle.cast_message.specs.declared.message.Received.{Received}
 use Rattle.cast_domain.specs.Records.{own_records}
-use Rattle.cast_domain.specs.Calls.{is_ended_in}
+use Rattle.cast_domain.specs.ReleaseCalls.{is_ended_in}
 use Rattle.cast_domain.proofs.Behind.{keys_found, keys_more}
 use Rattle.cast_domain.proofs.domain.Domain.ended_keys.Goals as goal
 use Rattle.cast_domain.proofs.domain.Domain.ended_keys.Goals.{then-is_ended+in_ok-push, else-is_ended}

@@ -1,6 +1,6 @@
 use Rattle.std.proofs.Common.{◌≡◌, ◌++◌, drop}
 use Rattle.cast_domain.specs.Records.{own_records}
-use Rattle.cast_domain.specs.Calls.{is_ended_in, keys_passing}
+use Rattle.cast_domain.specs.ReleaseCalls.{is_ended_in, keys_passing}
 use Rattle.cast_domain.proofs.domain.Domain.ended_keys.Given as goal
 
 -- the keys so far with those of the messages that are left are all

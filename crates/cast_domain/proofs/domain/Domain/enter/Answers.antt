@@ -2,7 +2,7 @@ use Rattle.std.proofs.Common.{◌∙◌, ap}
 use Rattle.cast_types.specs.declared.names.Standing.TheVariants.{Member}
 use Rattle.cast_ready.specs.declared.row.ProcessUpdate.TheVariants as fact
 use Rattle.cast_domain.specs.Records.{records_of}
-use Rattle.cast_domain.specs.Calls.{tell_in}
+use Rattle.cast_domain.specs.PartCalls.{tell_in}
 use Rattle.cast_domain.proofs.domain.Domain.enter.Goals as goal
 
 pub returns-clause-made : goal.returns-clause-made

@@ -3,7 +3,9 @@ use Rattle.std.specs.List.{fold}
 use Rattle.cast_rules.specs.Rules.Views.{tell_out, tell_view}
 use Rattle.cast_domain.specs.declared.record.GroupRecord.{GroupRecord}
 use Rattle.cast_domain.specs.Records.{Records, records_in}
-use Rattle.cast_domain.specs.Calls.{gone_in, is_member_in, is_put_out_in, members_in, pass_in, record_at, records, serials_in}
+use Rattle.cast_domain.specs.PartCalls.{record_at, serials_in}
+use Rattle.cast_domain.specs.ViewCalls.{gone_in, is_member_in, is_put_out_in, members_in, pass_in}
+use Rattle.cast_domain.specs.Calls.{records}
 use Rattle.cast_domain.proofs.Loops.{seen_as}
 use Rattle.cast_domain.proofs.domain.Domain.enter_and_tell.Goals as goal
 

@@ -5,7 +5,8 @@ use Rattle.cast_message.specs.declared.site.SiteFrame.TheVariants as frame
 use Rattle.cast_rules.specs.Rules.Keys.{id_in}
 use Rattle.cast_rules.specs.Rules.Owing.{frame_of_kind}
 use Rattle.cast_domain.specs.Records.{records_in}
-use Rattle.cast_domain.specs.Calls.{message_in, records}
+use Rattle.cast_domain.specs.PartCalls.{message_in}
+use Rattle.cast_domain.specs.Calls.{records}
 use Rattle.cast_domain.proofs.domain.Domain.frame_at_key.Goals as goal
 
 pub returns-in-Data : goal.returns-in-Data

@@ -3,7 +3,8 @@ use Rattle.cast_message.specs.declared.site.SiteFrame.TheVariants as frame
 use Rattle.cast_rules.specs.Rules.Views.{change_view}
 use Rattle.cast_domain.specs.Shared.{part_of}
 use Rattle.cast_domain.specs.Records.{records_in}
-use Rattle.cast_domain.specs.Calls.{records, send_in}
+use Rattle.cast_domain.specs.PartCalls.{send_in}
+use Rattle.cast_domain.specs.Calls.{records}
 use Rattle.cast_domain.proofs.domain.Domain.install_view.Goals as goal
 
 pub returns-clause-made : goal.returns-clause-made

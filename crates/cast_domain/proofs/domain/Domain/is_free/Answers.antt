@@ -5,7 +5,7 @@ use Rattle.cast_stable.specs.Acks.{is_stable_in}
 use Rattle.cast_events.specs.Outs.{no_outs}
 use Rattle.cast_domain.specs.Records.{records_of}
 use Rattle.cast_domain.specs.Shared.{no_part}
-use Rattle.cast_domain.specs.Calls.{is_open_in}
+use Rattle.cast_domain.specs.FlushCalls.{is_open_in}
 use Rattle.cast_domain.proofs.domain.Domain.is_free.Goals as goal
 
 pub returns-then-is_open_to : goal.returns-then-is_open_to

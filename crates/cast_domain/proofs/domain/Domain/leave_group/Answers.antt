@@ -8,7 +8,8 @@ use Rattle.cast_ready.specs.declared.row.ProcessUpdate.TheVariants as fact
 use Rattle.cast_rules.specs.Rules.Asking.{request}
 use Rattle.cast_domain.specs.declared.record.GroupRecord.{GroupRecord}
 use Rattle.cast_domain.specs.Records.{records_in}
-use Rattle.cast_domain.specs.Calls.{local_in, note_outside_in, record_at, records, tell_in}
+use Rattle.cast_domain.specs.PartCalls.{local_in, note_outside_in, record_at, tell_in}
+use Rattle.cast_domain.specs.Calls.{records}
 use Rattle.cast_domain.proofs.Loops.{seen_as}
 use Rattle.cast_domain.proofs.domain.Domain.leave_group.Goals as goal
 

@@ -3,7 +3,8 @@ use Rattle.cast_types.specs.declared.names.Uid.{Uid}
 use Rattle.cast_rules.specs.Rules.Release as release
 use Rattle.cast_domain.specs.Records.{Records, records_in}
 use Rattle.cast_domain.specs.Freed.{AreNotFreeBut}
-use Rattle.cast_domain.specs.Calls.{records, resting_records}
+use Rattle.cast_domain.specs.Calls.{records}
+use Rattle.cast_domain.specs.RestCalls.{resting_records}
 use Rattle.cast_domain.proofs.Loops.{beside_then}
 use Rattle.cast_domain.proofs.Freeing.{but_released, let_go_first, none_let_go, fewer_kept}
 use Rattle.cast_domain.proofs.domain.Domain.let_go_of.Goals as goal

@@ -1,7 +1,7 @@
 use Rattle.std.proofs.Common.{◌∙◌, sym}
 use Rattle.std.proofs.lemmas.Result.{on_ok_weaker}
 use Rattle.cast_domain.specs.Records.{records_of}
-use Rattle.cast_domain.specs.Calls.{orders_sent, settled_in}
+use Rattle.cast_domain.specs.PartCalls.{orders_sent, settled_in}
 use Rattle.cast_domain.proofs.domain.Domain.note_order.Goals as goal
 
 pub returns-in-Order-clause-made : goal.returns-in-Order-clause-made

@@ -3,7 +3,7 @@ use Rattle.std.specs.Prelude.{is_some, if◌then◌else◌}
 use Rattle.cast_order.specs.Hand.{hand_over, note_order_sent}
 use Rattle.cast_order.specs.Log.{change_log, with_hand}
 use Rattle.cast_domain.specs.Records.{records_of}
-use Rattle.cast_domain.specs.Calls.{sent_hand, settled_in}
+use Rattle.cast_domain.specs.PartCalls.{sent_hand, settled_in}
 use Rattle.cast_domain.proofs.Hands.{logs_twice}
 use Rattle.cast_domain.proofs.domain.Domain.note_places.Goals as goal
 

@@ -1,7 +1,7 @@
 use Rattle.std.proofs.Common.{◌∙◌, sym}
 use Rattle.std.proofs.lemmas.Result.{on_ok_weaker}
 use Rattle.cast_ready.specs.declared.row.ProcessUpdate.TheVariants as fact
-use Rattle.cast_domain.specs.Calls.{tell_in}
+use Rattle.cast_domain.specs.PartCalls.{tell_in}
 use Rattle.cast_domain.proofs.domain.Domain.note_sent.Goals as goal
 
 pub returns-clause-made : goal.returns-clause-made

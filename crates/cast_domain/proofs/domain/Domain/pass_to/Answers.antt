@@ -2,7 +2,7 @@ use Rattle.std.proofs.Common.{◌≡◌, ◌∙◌, ap, length, arith}
 use Rattle.cast_events.specs.Outs.{no_outs}
 use Rattle.cast_domain.specs.Shared.{no_part}
 use Rattle.cast_domain.specs.Records.{records_of}
-use Rattle.cast_domain.specs.Calls.{begin_view_in, put_out_all_in}
+use Rattle.cast_domain.specs.ViewCalls.{begin_view_in, put_out_all_in}
 use Rattle.cast_domain.proofs.Staying.{put_out_all_groups, pass_length}
 use Rattle.cast_domain.proofs.domain.Domain.pass_to.Goals as goal
 

@@ -1,5 +1,5 @@
 use Rattle.std.proofs.Common.{◌∙◌, ap}
-use Rattle.cast_domain.specs.Calls.{place_among}
+use Rattle.cast_domain.specs.PartCalls.{place_among}
 use Rattle.cast_domain.proofs.Places.{place_is_position}
 use Rattle.cast_domain.proofs.domain.Domain.place_of.Goals as goal
 

@@ -1,6 +1,6 @@
 use Rattle.std.proofs.Common.{◌∙◌, ap}
 use Rattle.cast_domain.specs.Records.{records_of}
-use Rattle.cast_domain.specs.Calls.{put_out_in}
+use Rattle.cast_domain.specs.ViewCalls.{put_out_in}
 use Rattle.cast_domain.proofs.domain.Domain.put_out.Goals as goal
 
 pub returns-clause-made : goal.returns-clause-made

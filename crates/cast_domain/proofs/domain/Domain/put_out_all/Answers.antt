@@ -1,7 +1,8 @@
 use Rattle.std.proofs.Common.{◌+◌, ◌∙◌, sym, ap, drop, subst}
 use Rattle.std.specs.List.{fold}
 use Rattle.cast_domain.specs.Records.{records_of}
-use Rattle.cast_domain.specs.Calls.{put_out_if_in, serials_in}
+use Rattle.cast_domain.specs.PartCalls.{serials_in}
+use Rattle.cast_domain.specs.ViewCalls.{put_out_if_in}
 use Rattle.cast_domain.proofs.Loops.{keeps_then}
 use Rattle.cast_domain.proofs.Rows.{names_of}
 use Rattle.cast_domain.proofs.Remaining.{RemainAs, gone_of, remain_put_out}

@@ -2,7 +2,8 @@ use Rattle.std.proofs.Common.{◌≡◌, drop}
 use Rattle.std.specs.List.{fold}
 use Rattle.cast_events.specs.declared.event.Outs.{Outs}
 use Rattle.cast_domain.specs.Shared.{Part}
-use Rattle.cast_domain.specs.Calls.{put_out_all_in, put_out_if_in, serials_in}
+use Rattle.cast_domain.specs.PartCalls.{serials_in}
+use Rattle.cast_domain.specs.ViewCalls.{put_out_all_in, put_out_if_in}
 use Rattle.cast_domain.specs.Records.{Keeps, records_of}
 use Rattle.cast_domain.proofs.Remaining.{RemainAs}
 use Rattle.cast_domain.proofs.domain.Domain.put_out_all.Given as goal

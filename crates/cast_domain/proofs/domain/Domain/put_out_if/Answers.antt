@@ -1,7 +1,8 @@
 use Rattle.std.proofs.Common.{◌∙◌, sym, ap}
 use Rattle.std.specs.Prelude.{if◌then◌else◌}
 use Rattle.cast_domain.specs.Records.{records_of}
-use Rattle.cast_domain.specs.Calls.{local_in, put_out_in}
+use Rattle.cast_domain.specs.PartCalls.{local_in}
+use Rattle.cast_domain.specs.ViewCalls.{put_out_in}
 use Rattle.cast_domain.proofs.domain.Domain.put_out_if.Goals as goal
 
 pub returns-in_ok-put_out-clause-made : goal.returns-in_ok-put_out-clause-made

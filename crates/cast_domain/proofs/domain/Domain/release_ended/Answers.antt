@@ -2,7 +2,7 @@ use Rattle.std.proofs.Common.{◌+◌, ◌∙◌, sym, ap, drop, arith}
 use Rattle.std.specs.List.{fold}
 use Rattle.std.proofs.lemmas.List.{drop_all}
 use Rattle.cast_domain.specs.Records.{records_in}
-use Rattle.cast_domain.specs.Calls.{release_in}
+use Rattle.cast_domain.specs.ReleaseCalls.{release_in}
 use Rattle.cast_domain.proofs.Loops.{beside_then, fold_item}
 use Rattle.cast_domain.proofs.domain.Domain.release_ended.Goals as goal
 

@@ -1,6 +1,6 @@
 use Rattle.std.proofs.Common.{◌≡◌, drop}
 use Rattle.std.specs.List.{fold}
-use Rattle.cast_domain.specs.Calls.{is_ended_in, release_in, release_all_in}
+use Rattle.cast_domain.specs.ReleaseCalls.{is_ended_in, release_in, release_all_in}
 use Rattle.cast_domain.specs.Records.{KeepsBeside, records_in}
 use Rattle.cast_domain.proofs.domain.Domain.release_ended.Given as goal
 

@@ -3,7 +3,7 @@ use Rattle.std.specs.Option.{option_map_or}
 use Rattle.std.proofs.lemmas.Result.{on_ok_weaker}
 use Rattle.cast_message.specs.declared.site.SiteFrame.{SiteFrame}
 use Rattle.cast_domain.specs.Records.{records_in}
-use Rattle.cast_domain.specs.Calls.{send_in}
+use Rattle.cast_domain.specs.PartCalls.{send_in}
 use Rattle.cast_domain.proofs.domain.Domain.send_for.Goals as goal
 
 pub returns-in-Some-clause-made : goal.returns-in-Some-clause-made

@@ -3,7 +3,8 @@ use Rattle.std.specs.List.{fold}
 use Rattle.cast_stable.specs.Acks.{others_in}
 use Rattle.cast_rules.specs.Rules.Sending.{send_data}
 use Rattle.cast_domain.specs.Records.{records_in}
-use Rattle.cast_domain.specs.Calls.{receive_in, records}
+use Rattle.cast_domain.specs.PartCalls.{receive_in}
+use Rattle.cast_domain.specs.Calls.{records}
 use Rattle.cast_domain.proofs.domain.Domain.send_message.Goals as goal
 
 pub returns-clause-made : goal.returns-clause-made

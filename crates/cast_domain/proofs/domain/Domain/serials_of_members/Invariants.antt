@@ -2,7 +2,8 @@ use Rattle.std.proofs.Common.{◌≡◌, ◌++◌, drop, filter}
 use Rattle.cast_events.specs.Outs.{no_outs}
 use Rattle.cast_domain.specs.Shared.{no_part}
 use Rattle.cast_domain.specs.Records.{records_of}
-use Rattle.cast_domain.specs.Calls.{is_member_in, serials_in}
+use Rattle.cast_domain.specs.PartCalls.{serials_in}
+use Rattle.cast_domain.specs.ViewCalls.{is_member_in}
 use Rattle.cast_domain.proofs.domain.Domain.serials_of_members.Given as goal
 
 -- those so far with those that are left are all

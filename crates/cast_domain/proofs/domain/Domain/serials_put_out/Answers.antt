@@ -2,7 +2,8 @@ use Rattle.std.proofs.Common.{◌+◌, ◌++◌, ◌∙◌, sym, ap, drop, filte
 use Rattle.cast_events.specs.Outs.{no_outs}
 use Rattle.cast_domain.specs.Shared.{no_part}
 use Rattle.cast_domain.specs.Records.{records_of}
-use Rattle.cast_domain.specs.Calls.{is_put_out_in, serials_in}
+use Rattle.cast_domain.specs.PartCalls.{serials_in}
+use Rattle.cast_domain.specs.ViewCalls.{is_put_out_in}
 use Rattle.cast_domain.proofs.Rounds.{gather_next, gather_past, gather_end}
 use Rattle.cast_domain.proofs.domain.Domain.serials_put_out.Goals as goal
 use Rattle.cast_domain.proofs.domain.Domain.serials_put_out.Goals.{in-Some+in_ok-add_put_out, in_default}

@@ -2,7 +2,8 @@ use Rattle.std.proofs.Common.{◌≡◌, ◌++◌, drop, filter}
 use Rattle.cast_events.specs.Outs.{no_outs}
 use Rattle.cast_domain.specs.Shared.{no_part}
 use Rattle.cast_domain.specs.Records.{records_of}
-use Rattle.cast_domain.specs.Calls.{is_put_out_in, serials_in}
+use Rattle.cast_domain.specs.PartCalls.{serials_in}
+use Rattle.cast_domain.specs.ViewCalls.{is_put_out_in}
 use Rattle.cast_domain.proofs.domain.Domain.serials_put_out.Given as goal
 
 -- those so far with those that are left are all

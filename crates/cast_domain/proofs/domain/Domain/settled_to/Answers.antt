@@ -4,7 +4,7 @@ use Rattle.cast_order.specs.Hand.{settled_by}
 use Rattle.cast_order.specs.Log.{hand_here, log_of}
 use Rattle.cast_domain.specs.Shared.{no_part}
 use Rattle.cast_domain.specs.Records.{records_of}
-use Rattle.cast_domain.specs.Calls.{settled_in}
+use Rattle.cast_domain.specs.PartCalls.{settled_in}
 use Rattle.cast_domain.proofs.domain.Domain.settled_to.Goals as goal
 
 pub returns : goal.returns

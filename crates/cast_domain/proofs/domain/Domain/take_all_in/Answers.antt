@@ -1,7 +1,7 @@
 use Rattle.std.proofs.Common.{◌∙◌, ◌+◌, ap, drop, arith}
 use Rattle.std.specs.List.{fold}
 use Rattle.cast_domain.specs.Records.{records_of}
-use Rattle.cast_domain.specs.Calls.{take_in}
+use Rattle.cast_domain.specs.ViewCalls.{take_in}
 use Rattle.cast_domain.proofs.Loops.{keeps_then, fold_item}
 use Rattle.cast_domain.proofs.domain.Domain.take_all_in.Goals as goal
 

@@ -2,7 +2,7 @@ use Rattle.std.proofs.Common.{◌≡◌, drop}
 use Rattle.std.specs.List.{fold}
 use Rattle.cast_events.specs.declared.event.Outs.{Outs}
 use Rattle.cast_domain.specs.Shared.{Part}
-use Rattle.cast_domain.specs.Calls.{take_in}
+use Rattle.cast_domain.specs.ViewCalls.{take_in}
 use Rattle.cast_domain.specs.Records.{Keeps, records_of}
 use Rattle.cast_domain.proofs.domain.Domain.take_all_in.Given as goal
 

@@ -4,7 +4,8 @@ use Rattle.std.proofs.lemmas.Bool.{and_from}
 use Rattle.cast_types.specs.Names.{site_eq}
 use Rattle.cast_view.specs.MemberSide.{is_taken_in}
 use Rattle.cast_domain.specs.Records.{records_of}
-use Rattle.cast_domain.specs.Calls.{enter_in, standing_of}
+use Rattle.cast_domain.specs.PartCalls.{standing_of}
+use Rattle.cast_domain.specs.ViewCalls.{enter_in}
 use Rattle.cast_domain.proofs.domain.Domain.take_in.Goals as goal
 
 pub returns-in_ok-enter-clause-made : goal.returns-in_ok-enter-clause-made

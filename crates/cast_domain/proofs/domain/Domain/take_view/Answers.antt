@@ -7,7 +7,8 @@ use Rattle.cast_order.specs.Log.{but_log}
 use Rattle.cast_view.specs.MemberSide.{holder_at, members_of, with_view}
 use Rattle.cast_view.specs.Sites.{other_sites}
 use Rattle.cast_domain.specs.Records.{Records, records_of}
-use Rattle.cast_domain.specs.Calls.{holding_from, record_at}
+use Rattle.cast_domain.specs.PartCalls.{record_at}
+use Rattle.cast_domain.specs.ViewCalls.{holding_from}
 use Rattle.cast_domain.proofs.Loops.{record_at_update}
 use Rattle.cast_domain.proofs.domain.Domain.take_view.Goals as goal
 
