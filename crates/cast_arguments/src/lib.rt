@@ -18,15 +18,15 @@ const VERSION: &str = "0.1.0";
 
 /// What a command line asks for.
 pub enum Asked {
-    /// To replay the script in the file of this name, or the record in the folder of this name: the first events, so many at most, of
-    /// one domain if one is named.
+    /// To replay the script in the file of this name, or the record in the folder of this name: the
+    /// first events, so many at most, of one domain if one is named.
     Replay {
         name: String,
         until: u64,
         domain: Option<DomainNo>,
     },
-    /// To run the daemon of a site by the configuration in the file of this name, with so many workers, 1 to 64, and to record in
-    /// this folder what it does, if one is named.
+    /// To run the daemon of a site by the configuration in the file of this name, with so many
+    /// workers, 1 to 64, and to record in this folder what it does, if one is named.
     Serve {
         config: String,
         site: SiteNo,
@@ -38,8 +38,8 @@ pub enum Asked {
         config: String,
         site: SiteNo,
     },
-    /// For no more than was printed: the program ends with this status, 0 where help or the version was asked for and 2 where
-    /// something is not understood.
+    /// For no more than was printed: the program ends with this status, 0 where help or the version
+    /// was asked for and 2 where something is not understood.
     Ended(u8),
 }
 
@@ -235,8 +235,8 @@ fn usage<R: Print + Eprint>(rt: &R, error: &clap::Error) -> Result<Asked, AllocE
     Ok(Asked::Ended(if error.use_stderr() { USAGE } else { 0 }))
 }
 
-/// What these words ask for, of which the first names the program. Help that is asked for is printed, and what is not understood
-/// is said on standard error.
+/// What these words ask for, of which the first names the program. Help that is asked for is
+/// printed, and what is not understood is said on standard error.
 ///
 /// # Errors
 /// `AllocError` where memory ran out.

@@ -4,7 +4,8 @@
 -- bytes than those that spell it. `parts_again` says that the bytes that spell a frame are read as
 -- that frame. There is one case for each type of frame, made of its fields in turn; the last field
 -- of a frame may reach to the end, and its length is that of the whole frame.
-use Rattle.std.proofs.Common.{◌≡◌, ℕ, ◌≤◌, cond, eqb, ltb, List, [], ◌++◌, length, Option, Some, None, Result, Ok, Err, refl, sym, ap, subst, ◌∙◌, arith, lit<, lit≤, inl, inr}
+use Rattle.std.proofs.Common.{◌≡◌, ℕ, ◌≤◌, cond, eqb, ltb, List, [], ◌++◌, length, Option, Some, None}
+use Rattle.std.proofs.Common.{Result, Ok, Err, refl, sym, ap, subst, ◌∙◌, arith, lit<, lit≤, inl, inr}
 use Rattle.std.proofs.lemmas.Bool.{cases_Bool, false≢true, eqb-true, eq-eqb, le-ltb, ltb-false}
 use Rattle.std.proofs.lemmas.List.{append-nil}
 use Rattle.cast_types.specs.declared.names.GroupNo.{GroupNo}
@@ -25,10 +26,13 @@ use Rattle.cast_field.specs.Spelling.{byte, short, word, spelled_proc, spelled_u
 use Rattle.cast_message.specs.Replies.{reply_code}
 use Rattle.cast_client.specs.Spelling.{cast_code, client_code, spelled_request, spelled_push, spelled_parts}
 use Rattle.cast_field.specs.Reading.{Reader, byte_at, group_at, count_at, proc_at, uid_at, members_at}
-use Rattle.cast_client.specs.Reading.{tag_at, cast_numbered, cast_kind_at, reply_at, named_refusal, refusal_at, end_at, short_end_at, join_at, leave_at, cast_at, pass_at, opened_at, replied_at, view_at, deliver_at, ejected_at, denied_at, closed_at, parts_at}
+use Rattle.cast_client.specs.Reading.{tag_at, cast_numbered, cast_kind_at, reply_at, named_refusal, refusal_at}
+use Rattle.cast_client.specs.Reading.{end_at, short_end_at, join_at, leave_at, cast_at, pass_at, opened_at}
+use Rattle.cast_client.specs.Reading.{replied_at, view_at, deliver_at, ejected_at, denied_at, closed_at, parts_at}
 use Rattle.cast_field.specs.Spelled.{IsFrom, IsName, IsCount, IsProc, IsUid, AreMembers}
 use Rattle.cast_client.specs.Spelled.{IsTag, IsClient}
-use Rattle.cast_field.proofs.Fields.{bind_ok, guard_ok, done, ok_is, Took, joined, Takes, Again, byte_takes, byte_again, word_takes, word_again}
+use Rattle.cast_field.proofs.Fields.{bind_ok, guard_ok, done, ok_is, Took, joined, Takes}
+use Rattle.cast_field.proofs.Fields.{Again, byte_takes, byte_again, word_takes, word_again}
 use Rattle.cast_field.proofs.Parts.{group_takes, group_again, count_takes, count_again, proc_takes, proc_again, uid_takes, uid_again}
 use Rattle.cast_field.proofs.Holders.{chosen, members_take, members_again}
 use Rattle.cast_client.proofs.Sizes.{request_size}
@@ -114,8 +118,10 @@ abbrev pub IsOf : ℕ → ClientFrame → Type 0
 IsOf code f = (length (spelled_parts f) ≤ 19995 → IsClient f) × (client_code f ≡ code)
 
 -- what is read is a frame, and the bytes after it
-made_is : (code : ℕ) (bytes : List ℕ) (f : ClientFrame) (rest : List ℕ) (x : ClientFrame × List ℕ) → done (f, rest) ≡ done x → Took bytes (spelled_parts f) rest (IsOf code f) → Took bytes (spelled_parts x.0) x.1 (IsOf code x.0)
-made_is code bytes f rest x e took = subst (λ (y : ClientFrame × List ℕ). Took bytes (spelled_parts y.0) y.1 (IsOf code y.0)) (ok_is (f, rest) x e) took
+made_is : (code : ℕ) (bytes : List ℕ) (f : ClientFrame) (rest : List ℕ) (x : ClientFrame × List ℕ) → done (f, rest) ≡ done x →
+    Took bytes (spelled_parts f) rest (IsOf code f) → Took bytes (spelled_parts x.0) x.1 (IsOf code x.0)
+made_is code bytes f rest x e took =
+    subst (λ (y : ClientFrame × List ℕ). Took bytes (spelled_parts y.0) y.1 (IsOf code y.0)) (ok_is (f, rest) x e) took
 
 join_takes : Takes join_at spelled_parts (IsOf 1)
 unfolding join_at spelled_request
@@ -147,10 +153,16 @@ cast_takes bytes x fits e =
     let t2 = group_takes a1.0.1 a2.0 t1.rest_fits a2.1 in
     let t3 = cast_kind_takes a2.0.1 a3.0 t2.rest_fits a3.1 in
     let request = Cast a1.0.0 a2.0.0 a3.0.0 a3.0.1 in
-    let whole : bytes ≡ spelled_parts (client.Request request) = t1.parts ∙ ap (λ (r : List ℕ). word a1.0.0 ++ r) (t2.parts ∙ ap (λ (r : List ℕ). short a2.0.0.0 ++ r) t3.parts) in
-    let few_bytes : length (spelled_parts (client.Request request)) ≤ 19995 → length a3.0.1 ≤ 19988 = λ few. omega (arith, request_size request, few) in
+    let whole : bytes ≡ spelled_parts (client.Request request) =
+    t1.parts ∙ ap (λ (r : List ℕ). word a1.0.0 ++ r) (t2.parts ∙ ap (λ (r : List ℕ). short a2.0.0.0 ++ r) t3.parts) in
+    let few_bytes : length (spelled_parts (client.Request request)) ≤ 19995 → length a3.0.1 ≤ 19988 =
+    λ few. omega (arith, request_size request, few) in
     made_is 3 bytes (client.Request request) [] x a3.2
-    (record { parts = whole ∙ sym (append-nil _); rest_fits = λ i. omega arith; holds = (λ few. (t1.holds, t2.holds, few_bytes few), refl) })
+    (record {
+      parts = whole ∙ sym (append-nil _);
+      rest_fits = λ i. omega arith;
+      holds = (λ few. (t1.holds, t2.holds, few_bytes few), refl);
+    })
 
 pass_takes : Takes pass_at spelled_parts (IsOf 4)
 unfolding pass_at spelled_request
@@ -162,7 +174,11 @@ pass_takes bytes x fits e =
     let t2 = group_takes a1.0.1 a2.0 t1.rest_fits a2.1 in
     let t3 = proc_takes a2.0.1 a3.0 t2.rest_fits a3.1 in
     made_is 4 bytes (client.Request (Pass a1.0.0 a2.0.0 a3.0.0)) a3.0.1 x a3.2
-    (record { parts = joined _ _ _ _ _ t1.parts (joined _ _ _ _ _ t2.parts t3.parts); rest_fits = t3.rest_fits; holds = (λ few. (t1.holds, t2.holds, t3.holds), refl) })
+    (record {
+      parts = joined _ _ _ _ _ t1.parts (joined _ _ _ _ _ t2.parts t3.parts);
+      rest_fits = t3.rest_fits;
+      holds = (λ few. (t1.holds, t2.holds, t3.holds), refl);
+    })
 
 opened_takes : Takes opened_at spelled_parts (IsOf 65)
 unfolding opened_at spelled_push
@@ -192,7 +208,11 @@ view_takes bytes x fits e =
     let t2 = count_takes a1.0.1 a2.0 t1.rest_fits a2.1 in
     let t3 = members_take a2.0.1 a3.0 t2.rest_fits a3.1 in
     made_is 67 bytes (client.Push (View a1.0.0 a2.0.0 a3.0.0)) a3.0.1 x a3.2
-    (record { parts = joined _ _ _ _ _ t1.parts (joined _ _ _ _ _ t2.parts t3.parts); rest_fits = t3.rest_fits; holds = (λ few. (t1.holds, t2.holds, t3.holds), refl) })
+    (record {
+      parts = joined _ _ _ _ _ t1.parts (joined _ _ _ _ _ t2.parts t3.parts);
+      rest_fits = t3.rest_fits;
+      holds = (λ few. (t1.holds, t2.holds, t3.holds), refl);
+    })
 
 deliver_takes : Takes deliver_at spelled_parts (IsOf 68)
 unfolding deliver_at short_end_at spelled_push
@@ -205,7 +225,8 @@ deliver_takes bytes x fits e =
     let t2 = cast_kind_takes a1.0.1 a2.0 t1.rest_fits a2.1 in
     let push = Deliver a1.0.0 a2.0.0 a2.0.1 in
     let whole : bytes ≡ spelled_parts (client.Push push) = t1.parts ∙ ap (λ (r : List ℕ). spelled_uid a1.0.0 ++ r) t2.parts in
-    let made : done (client.Push push, []) ≡ done x = ap (λ (y : List ℕ × List ℕ). done (client.Push (Deliver a1.0.0 a2.0.0 y.0), y.1)) (ok_is (a2.0.1, []) a3.0 g.1) ∙ a3.2 in
+    let made : done (client.Push push, []) ≡ done x =
+    ap (λ (y : List ℕ × List ℕ). done (client.Push (Deliver a1.0.0 a2.0.0 y.0), y.1)) (ok_is (a2.0.1, []) a3.0 g.1) ∙ a3.2 in
     made_is 68 bytes (client.Push push) [] x made
     (record { parts = whole ∙ sym (append-nil _); rest_fits = λ i. omega arith; holds = (λ few. (t1.holds, ltb-false _ _ g.0), refl) })
 
@@ -238,7 +259,9 @@ closed_takes bytes x fits e =
     (record { parts = t1.parts; rest_fits = t1.rest_fits; holds = (λ few. tt, refl) })
 
 -- the parts are those of this type, or of one that comes later
-one_of : (n code : ℕ) (bytes : List ℕ) (read later : Result (ClientFrame × List ℕ) FrameFault) (x : ClientFrame × List ℕ) → (read ≡ Ok x → Took bytes (spelled_parts x.0) x.1 (IsOf code x.0)) → (later ≡ Ok x → Took bytes (spelled_parts x.0) x.1 (IsOf n x.0)) → cond (eqb n code) read later ≡ Ok x → Took bytes (spelled_parts x.0) x.1 (IsOf n x.0)
+one_of : (n code : ℕ) (bytes : List ℕ) (read later : Result (ClientFrame × List ℕ) FrameFault) (x : ClientFrame × List ℕ) →
+    (read ≡ Ok x → Took bytes (spelled_parts x.0) x.1 (IsOf code x.0)) → (later ≡ Ok x → Took bytes (spelled_parts x.0) x.1 (IsOf n x.0)) →
+    cond (eqb n code) read later ≡ Ok x → Took bytes (spelled_parts x.0) x.1 (IsOf n x.0)
 one_of n code bytes read later x this next e =
     elim (chosen (eqb n code) read later (Ok x) e) [
       | inl is ↦ subst (λ (m : ℕ). Took bytes (spelled_parts x.0) x.1 (IsOf m x.0)) (sym (eqb-true n code is.0)) (this is.1)
@@ -270,54 +293,78 @@ parts_take n bytes x fits =
 last : {A : Type 0} (read : Reader A) (text : List ℕ) (x : A) → read (text ++ []) ≡ Ok (x, []) → read text ≡ Ok (x, [])
 last read text x e = ap read (sym (append-nil text)) ∙ e
 
-join_again : (tag : ℕ) (g : GroupNo) → IsTag tag → IsName g.0 → join_at (spelled_parts (client.Request (Join tag g))) ≡ Ok (client.Request (Join tag g), [])
+join_again : (tag : ℕ) (g : GroupNo) → IsTag tag → IsName g.0 →
+    join_at (spelled_parts (client.Request (Join tag g))) ≡ Ok (client.Request (Join tag g), [])
 unfolding join_at spelled_request
 join_again tag g is_tag is_group =
     rw (tag_again tag (short g.0) is_tag, last group_at (short g.0) g (group_again g [] is_group)) refl
 
-leave_again : (tag : ℕ) (g : GroupNo) → IsTag tag → IsName g.0 → leave_at (spelled_parts (client.Request (Leave tag g))) ≡ Ok (client.Request (Leave tag g), [])
+leave_again : (tag : ℕ) (g : GroupNo) → IsTag tag → IsName g.0 →
+    leave_at (spelled_parts (client.Request (Leave tag g))) ≡ Ok (client.Request (Leave tag g), [])
 unfolding leave_at spelled_request
 leave_again tag g is_tag is_group =
     rw (tag_again tag (short g.0) is_tag, last group_at (short g.0) g (group_again g [] is_group)) refl
 
-cast_again : (tag : ℕ) (g : GroupNo) (kind : CastKind) (payload : List ℕ) → IsTag tag → IsName g.0 → cast_at (spelled_parts (client.Request (Cast tag g kind payload))) ≡ Ok (client.Request (Cast tag g kind payload), [])
+cast_again : (tag : ℕ) (g : GroupNo) (kind : CastKind) (payload : List ℕ) → IsTag tag → IsName g.0 →
+    cast_at (spelled_parts (client.Request (Cast tag g kind payload))) ≡ Ok (client.Request (Cast tag g kind payload), [])
 unfolding cast_at end_at spelled_request
 cast_again tag g kind payload is_tag is_group =
-    rw (tag_again tag (short g.0 ++ (byte (cast_code kind) ++ payload)) is_tag, group_again g (byte (cast_code kind) ++ payload) is_group, cast_kind_again kind payload) refl
+    rw (
+      tag_again tag (short g.0 ++ (byte (cast_code kind) ++ payload)) is_tag,
+      group_again g (byte (cast_code kind) ++ payload) is_group,
+      cast_kind_again kind payload,
+    ) refl
 
-pass_again : (tag : ℕ) (g : GroupNo) (to : Proc) → IsTag tag → IsName g.0 → IsProc to → pass_at (spelled_parts (client.Request (Pass tag g to))) ≡ Ok (client.Request (Pass tag g to), [])
+pass_again : (tag : ℕ) (g : GroupNo) (to : Proc) → IsTag tag → IsName g.0 → IsProc to →
+    pass_at (spelled_parts (client.Request (Pass tag g to))) ≡ Ok (client.Request (Pass tag g to), [])
 unfolding pass_at spelled_request
 pass_again tag g to is_tag is_group is =
-    rw (tag_again tag (short g.0 ++ spelled_proc to) is_tag, group_again g (spelled_proc to) is_group, last proc_at (spelled_proc to) to (proc_again to [] is)) refl
+    rw (
+      tag_again tag (short g.0 ++ spelled_proc to) is_tag,
+      group_again g (spelled_proc to) is_group,
+      last proc_at (spelled_proc to) to (proc_again to [] is),
+    ) refl
 
 opened_again : (p : Proc) → IsProc p → opened_at (spelled_parts (client.Push (Opened p))) ≡ Ok (client.Push (Opened p), [])
 unfolding opened_at spelled_push
 opened_again p is = rw (last proc_at (spelled_proc p) p (proc_again p [] is)) refl
 
-replied_again : (tag : ℕ) (refusal : Option Refusal) → IsTag tag → replied_at (spelled_parts (client.Push (Reply tag refusal))) ≡ Ok (client.Push (Reply tag refusal), [])
+replied_again : (tag : ℕ) (refusal : Option Refusal) → IsTag tag →
+    replied_at (spelled_parts (client.Push (Reply tag refusal))) ≡ Ok (client.Push (Reply tag refusal), [])
 unfolding replied_at spelled_push
 replied_again tag refusal is_tag =
     rw (tag_again tag (byte (reply_code refusal)) is_tag, last reply_at (byte (reply_code refusal)) refusal (reply_again refusal [])) refl
 
-view_again : (g : GroupNo) (view : ℕ) (m : Membership) → IsName g.0 → IsCount view → AreMembers m → view_at (spelled_parts (client.Push (View g view m))) ≡ Ok (client.Push (View g view m), [])
+view_again : (g : GroupNo) (view : ℕ) (m : Membership) → IsName g.0 → IsCount view → AreMembers m →
+    view_at (spelled_parts (client.Push (View g view m))) ≡ Ok (client.Push (View g view m), [])
 unfolding view_at spelled_push
 view_again g view m is_group is_view are =
-    rw (group_again g (word view ++ spelled_members m) is_group, count_again view (spelled_members m) is_view, last members_at (spelled_members m) m (members_again m [] are)) refl
+    rw (
+      group_again g (word view ++ spelled_members m) is_group,
+      count_again view (spelled_members m) is_view,
+      last members_at (spelled_members m) m (members_again m [] are),
+    ) refl
 
-deliver_again : (id : Uid) (kind : CastKind) (payload : List ℕ) → IsUid id → length payload ≤ 16384 → deliver_at (spelled_parts (client.Push (Deliver id kind payload))) ≡ Ok (client.Push (Deliver id kind payload), [])
+deliver_again : (id : Uid) (kind : CastKind) (payload : List ℕ) → IsUid id → length payload ≤ 16384 →
+    deliver_at (spelled_parts (client.Push (Deliver id kind payload))) ≡ Ok (client.Push (Deliver id kind payload), [])
 unfolding deliver_at short_end_at spelled_push
 deliver_again id kind payload is few =
     rw (uid_again id (byte (cast_code kind) ++ payload) is, cast_kind_again kind payload, le-ltb _ _ few) refl
 
-ejected_again : (g : GroupNo) (view : ℕ) → IsName g.0 → IsCount view → ejected_at (spelled_parts (client.Push (Ejected g view))) ≡ Ok (client.Push (Ejected g view), [])
+ejected_again : (g : GroupNo) (view : ℕ) → IsName g.0 → IsCount view →
+    ejected_at (spelled_parts (client.Push (Ejected g view))) ≡ Ok (client.Push (Ejected g view), [])
 unfolding ejected_at spelled_push
 ejected_again g view is_group is_view =
     rw (group_again g (word view) is_group, last count_at (word view) view (count_again view [] is_view)) refl
 
-denied_again : (g : GroupNo) (refusal : Refusal) → IsName g.0 → denied_at (spelled_parts (client.Push (Denied g refusal))) ≡ Ok (client.Push (Denied g refusal), [])
+denied_again : (g : GroupNo) (refusal : Refusal) → IsName g.0 →
+    denied_at (spelled_parts (client.Push (Denied g refusal))) ≡ Ok (client.Push (Denied g refusal), [])
 unfolding denied_at spelled_push
 denied_again g refusal is_group =
-    rw (group_again g (byte (refusal_code refusal)) is_group, last refusal_at (byte (refusal_code refusal)) refusal (refusal_again refusal [])) refl
+    rw (
+      group_again g (byte (refusal_code refusal)) is_group,
+      last refusal_at (byte (refusal_code refusal)) refusal (refusal_again refusal []),
+    ) refl
 
 closed_again : (refusal : Refusal) → closed_at (spelled_parts (client.Push (Closed refusal))) ≡ Ok (client.Push (Closed refusal), [])
 unfolding closed_at spelled_push

@@ -1,6 +1,7 @@
 -- What stands at the front of bytes: a frame between a program and its daemon is read as it was spelled, and a part of one
 -- wants the rest.
-use Rattle.std.proofs.Common.{◌≡◌, ℕ, ◌+◌, ◌-◌, ◌<◌, ◌≤◌, eqb, ltb, List, [], ◌++◌, length, take, drop, Result, Ok, Err, refl, sym, ap, subst, ◌∙◌, append_assoc, arith, lit<, lit≤, inl, inr}
+use Rattle.std.proofs.Common.{◌≡◌, ℕ, ◌+◌, ◌-◌, ◌<◌, ◌≤◌, eqb, ltb, List, [], ◌++◌, length, take, drop, Result}
+use Rattle.std.proofs.Common.{Ok, Err, refl, sym, ap, subst, ◌∙◌, append_assoc, arith, lit<, lit≤, inl, inr}
 use Rattle.std.specs.Prelude.{IfOk, IsTrue}
 use Rattle.std.specs.Int.{w32}
 use Rattle.std.proofs.Math.Seq.{take-append-add}
@@ -22,7 +23,8 @@ use Rattle.cast_field.specs.Spelled.{IsFrom}
 use Rattle.cast_client.specs.Spelled.{IsClient, Begins, Wants, IsFront}
 use Rattle.cast_message.specs.Fitting.{client_fits}
 use Rattle.cast_client.specs.Laws.{ClientIsRead, ClientSpellingsDiffer, PartWantsTheRest, ClientFits}
-use Rattle.cast_field.proofs.Fields.{IsBytes, IsBytes-take, bind_ok, guard_ok, pass_ok, ok_is, byte_takes, byte_again, word_takes, word_again}
+use Rattle.cast_field.proofs.Fields.{IsBytes, IsBytes-take, bind_ok, guard_ok, pass_ok}
+use Rattle.cast_field.proofs.Fields.{ok_is, byte_takes, byte_again, word_takes, word_again}
 use Rattle.cast_field.proofs.Holders.{chosen}
 use Rattle.cast_field.proofs.Sizes.{word_size}
 use Rattle.cast_client.proofs.Sizes.{word_len, byte_len, client_size, parts_fit}
@@ -47,7 +49,8 @@ code_within (client.Push (Closed refusal)) = record { above = lit≤ tt; below =
 abbrev spelled_body : ClientFrame → List ℕ
 spelled_body f = byte (client_code f) ++ spelled_parts f
 
-body_takes : (bytes : List ℕ) (f : ClientFrame) → IsBytes bytes → length bytes ≤ 19996 → client_frame_of bytes ≡ Ok f → IsClient f × (bytes ≡ spelled_body f)
+body_takes : (bytes : List ℕ) (f : ClientFrame) → IsBytes bytes → length bytes ≤ 19996 → client_frame_of bytes ≡ Ok f →
+    IsClient f × (bytes ≡ spelled_body f)
 unfolding client_frame_of
 body_takes bytes f fits few e =
     let a1 = bind_ok (byte_at 0 255 bytes) _ f e in
@@ -57,9 +60,12 @@ body_takes bytes f fits few e =
     let t1 = byte_takes 0 255 bytes a1.0 fits a1.1 in
     let t2 = parts_take a1.0.0 a1.0.1 a2.0 t1.rest_fits a2.1 in
     let frame = a2.0.0 in
-    let parts : a1.0.1 ≡ spelled_parts frame = t2.parts ∙ ap (λ (r : List ℕ). spelled_parts frame ++ r) nothing ∙ append-nil (spelled_parts frame) in
-    let whole : bytes ≡ spelled_body frame = t1.parts ∙ ap (λ (n : ℕ). byte n ++ a1.0.1) (sym t2.holds.1) ∙ ap (λ (r : List ℕ). byte (client_code frame) ++ r) parts in
-    let short : length (spelled_parts frame) ≤ 19995 = omega (arith, ap length whole, byte_len (client_code frame) (spelled_parts frame), few) in
+    let parts : a1.0.1 ≡ spelled_parts frame =
+    t2.parts ∙ ap (λ (r : List ℕ). spelled_parts frame ++ r) nothing ∙ append-nil (spelled_parts frame) in
+    let whole : bytes ≡ spelled_body frame =
+    t1.parts ∙ ap (λ (n : ℕ). byte n ++ a1.0.1) (sym t2.holds.1) ∙ ap (λ (r : List ℕ). byte (client_code frame) ++ r) parts in
+    let short : length (spelled_parts frame) ≤ 19995 =
+    omega (arith, ap length whole, byte_len (client_code frame) (spelled_parts frame), few) in
     subst (λ (y : ClientFrame). IsClient y × (bytes ≡ spelled_body y)) (ok_is frame f g.1) (t2.holds.0 short, whole)
 
 body_again : (f : ClientFrame) → IsClient f → client_frame_of (spelled_body f) ≡ Ok f
@@ -89,7 +95,13 @@ length_takes bytes n fits e =
     let a = bind_ok (number_at w32 0 4294967295 bytes) _ n e in
     let t = word_takes 0 4294967295 bytes a.0 fits a.1 in
     let is = length_is a.0.0 n a.2 in
-    record { rest = a.0.1; parts = t.parts ∙ ap (λ (m : ℕ). word m ++ a.0.1) is.0; rest_fits = t.rest_fits; least = omega (arith, is.0, is.1); most = omega (arith, is.0, is.2) }
+    record {
+      rest = a.0.1;
+      parts = t.parts ∙ ap (λ (m : ℕ). word m ++ a.0.1) is.0;
+      rest_fits = t.rest_fits;
+      least = omega (arith, is.0, is.1);
+      most = omega (arith, is.0, is.2);
+    }
 
 length_again : (n : ℕ) (rest : List ℕ) → 5 ≤ n → n ≤ 20000 → length_at (word n ++ rest) ≡ Ok n
 unfolding length_at length_of
@@ -98,11 +110,13 @@ length_again n rest least most =
     rw (word_again 0 4294967295 (lit< tt) n rest size, le-ltb _ _ least, le-ltb _ _ most) refl
 
 front_take : (n k : ℕ) (rest : List ℕ) → take (4 + k) (word n ++ rest) ≡ word n ++ take k rest
-front_take n k rest = subst (λ (m : ℕ). take (m + k) (word n ++ rest) ≡ word n ++ take k rest) (word_size n) (take-append-add (word n) rest k)
+front_take n k rest =
+    subst (λ (m : ℕ). take (m + k) (word n ++ rest) ≡ word n ++ take k rest) (word_size n) (take-append-add (word n) rest k)
 
 -- ---- what is read
 
-frame_begins : (bytes : List ℕ) (said : ℕ) (f : ClientFrame) (n : ℕ) → Headed bytes said → frame_of_length bytes said ≡ Ok (Frame f n) → Begins bytes f n
+frame_begins : (bytes : List ℕ) (said : ℕ) (f : ClientFrame) (n : ℕ) → Headed bytes said → frame_of_length bytes said ≡ Ok (Frame f n) →
+    Begins bytes f n
 unfolding frame_of_length spelled_client
 frame_begins bytes said f n h e =
     elim (chosen (ltb (length bytes) said) (Ok (More (said - length bytes))) _ (Ok (Frame f n)) e) [
@@ -114,13 +128,19 @@ frame_begins bytes said f n h e =
           let behind = said - 4 in
           let body = take behind h.rest in
           let split : said ≡ 4 + behind = omega (arith, h.least) in
-          let front : take said bytes ≡ word said ++ body = ap (λ (m : ℕ). take m bytes) split ∙ ap (take (4 + behind)) h.parts ∙ front_take said behind h.rest in
+          let front : take said bytes ≡ word said ++ body =
+          ap (λ (m : ℕ). take m bytes) split ∙ ap (take (4 + behind)) h.parts ∙ front_take said behind h.rest in
           let inside : drop 4 (take said bytes) ≡ body = ap (drop 4) front ∙ drop_at (word said) body 4 (word_size said) in
           let room : said ≤ length bytes = ltb-false _ _ long.0 in
-          let body_len : length body ≡ behind = omega (arith, length-take behind h.rest, ap length h.parts, word_len said h.rest, room, split) in
-          let took = body_takes body f (IsBytes-take behind h.rest h.rest_fits) (omega (arith, body_len, h.most)) (ap client_frame_of (sym inside) ∙ a.1 ∙ ap Ok same_frame) in
-          let len : said ≡ 5 + length (spelled_parts f) = omega (arith, split, body_len, ap length took.1, byte_len (client_code f) (spelled_parts f)) in
-          let whole : take said bytes ≡ spelled_client f = front ∙ ap (λ (b : List ℕ). word said ++ b) took.1 ∙ ap (λ (m : ℕ). word m ++ spelled_body f) len in
+          let body_len : length body ≡ behind =
+          omega (arith, length-take behind h.rest, ap length h.parts, word_len said h.rest, room, split) in
+          let took =
+          body_takes body f (IsBytes-take behind h.rest h.rest_fits) (omega (arith, body_len, h.most))
+          (ap client_frame_of (sym inside) ∙ a.1 ∙ ap Ok same_frame) in
+          let len : said ≡ 5 + length (spelled_parts f) =
+          omega (arith, split, body_len, ap length took.1, byte_len (client_code f) (spelled_parts f)) in
+          let whole : take said bytes ≡ spelled_client f =
+          front ∙ ap (λ (b : List ℕ). word said ++ b) took.1 ∙ ap (λ (m : ℕ). word m ++ spelled_body f) len in
           record {
             spelled = took.0;
             rest = drop said bytes;
@@ -172,14 +192,16 @@ spelled_is : (f : ClientFrame) (rest : List ℕ) → spelled_client f ++ rest �
 unfolding spelled_client
 spelled_is f rest = append_assoc (word (5 + length (spelled_parts f))) (spelled_body f) rest
 
-headed_again : (f : ClientFrame) (rest : List ℕ) → IsClient f → length_at (word (5 + length (spelled_parts f)) ++ rest) ≡ Ok (5 + length (spelled_parts f))
+headed_again : (f : ClientFrame) (rest : List ℕ) → IsClient f →
+    length_at (word (5 + length (spelled_parts f)) ++ rest) ≡ Ok (5 + length (spelled_parts f))
 headed_again f rest is = length_again (5 + length (spelled_parts f)) rest (omega arith) (omega (arith, parts_fit f is))
 
 past_length : (bytes : List ℕ) (said : ℕ) → 4 ≤ length bytes → length_at bytes ≡ Ok said → client_of bytes ≡ frame_of_length bytes said
 unfolding client_of
 past_length bytes said long says = rw (le-ltb _ _ long, says) refl
 
-frame_again : (bytes : List ℕ) (n : ℕ) (f : ClientFrame) → IsClient f → n ≤ length bytes → drop 4 (take n bytes) ≡ spelled_body f → frame_of_length bytes n ≡ Ok (Frame f n)
+frame_again : (bytes : List ℕ) (n : ℕ) (f : ClientFrame) → IsClient f → n ≤ length bytes → drop 4 (take n bytes) ≡ spelled_body f →
+    frame_of_length bytes n ≡ Ok (Frame f n)
 unfolding frame_of_length
 frame_again bytes n f is room inside = rw (le-ltb _ _ room, inside, body_again f is) refl
 
@@ -195,8 +217,11 @@ client_again f rest is =
     let size = client_size f in
     let len : length bytes ≡ n + length rest = length-append (spelled_client f) rest ∙ omega (arith, size) in
     let says : length_at bytes ≡ Ok n = ap length_at (spelled_is f rest) ∙ headed_again f (spelled_body f ++ rest) is in
-    let inside : drop 4 (take n bytes) ≡ spelled_body f = ap (drop 4) (take_at (spelled_client f) rest n size) ∙ drop_at (word n) (spelled_body f) 4 (word_size n) in
-    past_length bytes n (omega (arith, len)) says ∙ frame_again bytes n f is (omega (arith, len)) inside ∙ ap (λ (m : ℕ). Ok (Frame f m)) (sym size)
+    let inside : drop 4 (take n bytes) ≡ spelled_body f =
+    ap (drop 4) (take_at (spelled_client f) rest n size) ∙ drop_at (word n) (spelled_body f) 4 (word_size n) in
+    past_length bytes n (omega (arith, len)) says
+    ∙ frame_again bytes n f is (omega (arith, len)) inside
+    ∙ ap (λ (m : ℕ). Ok (Frame f m)) (sym size)
 
 pub part_wants : PartWantsTheRest
 unfolding client_of spelled_client
@@ -210,10 +235,14 @@ part_wants f k is less =
       | inr long ↦
           let behind = k - 4 in
           let split : k ≡ 4 + behind = omega (arith, long) in
-          let front : bytes ≡ word n ++ take behind (spelled_body f) = ap (λ (m : ℕ). take m (spelled_client f)) split ∙ front_take n behind (spelled_body f) in
+          let front : bytes ≡ word n ++ take behind (spelled_body f) =
+          ap (λ (m : ℕ). take m (spelled_client f)) split ∙ front_take n behind (spelled_body f) in
           let says : length_at bytes ≡ Ok n = ap length_at front ∙ headed_again f (take behind (spelled_body f)) is in
           let wanting : n - length bytes ≡ length (spelled_client f) - k = omega (arith, len, size) in
-          let told : client_of bytes ≡ Ok (More (length (spelled_client f) - k)) = past_length bytes n (omega (arith, len, long)) says ∙ more_again bytes n (omega (arith, len, size, less)) ∙ ap (λ (m : ℕ). Ok (More m)) wanting in
+          let told : client_of bytes ≡ Ok (More (length (spelled_client f) - k)) =
+          past_length bytes n (omega (arith, len, long)) says
+          ∙ more_again bytes n (omega (arith, len, size, less))
+          ∙ ap (λ (m : ℕ). Ok (More m)) wanting in
           rw (le-ltb _ _ long) told
     ]
 
@@ -221,9 +250,11 @@ part_wants f k is less =
 
 pub spellings_differ : ClientSpellingsDiffer
 spellings_differ f g rest more a b same =
-    let one : Frame f (length (spelled_client f)) ≡ Frame g (length (spelled_client g)) = ok_is _ _ (sym (client_again f rest a) ∙ ap client_of same ∙ client_again g more b) in
+    let one : Frame f (length (spelled_client f)) ≡ Frame g (length (spelled_client g)) =
+    ok_is _ _ (sym (client_again f rest a) ∙ ap client_of same ∙ client_again g more b) in
     let frames : f ≡ g = cc one in
-    let behind : drop (length (spelled_client f)) (spelled_client g ++ more) ≡ more = drop_at (spelled_client g) more (length (spelled_client f)) (ap (λ (x : ClientFrame). length (spelled_client x)) (sym frames)) in
+    let behind : drop (length (spelled_client f)) (spelled_client g ++ more) ≡ more =
+    drop_at (spelled_client g) more (length (spelled_client f)) (ap (λ (x : ClientFrame). length (spelled_client x)) (sym frames)) in
     (frames, sym (drop_at (spelled_client f) rest (length (spelled_client f)) refl) ∙ ap (drop (length (spelled_client f))) same ∙ behind)
 
 fits : (f : ClientFrame) → IsClient f → IsTrue (client_fits f)

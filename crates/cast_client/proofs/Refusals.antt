@@ -4,7 +4,9 @@ use Rattle.std.specs.Prelude.{slice_get}
 use Rattle.std.proofs.lemmas.Bool.{and_parts, eqb-true}
 use Rattle.std.proofs.lemmas.Option.{slice_get-get_or}
 use Rattle.cast_types.specs.declared.refusal.Refusal.{Refusal}
-use Rattle.cast_types.specs.declared.refusal.Refusal.TheVariants.{BadFrame, NotOpen, TooManySessions, NoGroup, NotMember, AlreadyMember, Flushing, OwnAbcast, HeldFull, TooLong, NotHolder, Slow, Halted, GroupFull, OutOfRange}
+use Rattle.cast_types.specs.declared.refusal.Refusal.TheVariants.{BadFrame, NotOpen, TooManySessions, NoGroup, NotMember}
+use Rattle.cast_types.specs.declared.refusal.Refusal.TheVariants.{AlreadyMember, Flushing, OwnAbcast, HeldFull, TooLong}
+use Rattle.cast_types.specs.declared.refusal.Refusal.TheVariants.{NotHolder, Slow, Halted, GroupFull, OutOfRange}
 use Rattle.cast_types.specs.Refusals.{refusal_code, refusals, refusal_numbered}
 use Rattle.cast_message.specs.Replies.{reply_code}
 use Rattle.cast_field.specs.Spelled.{IsFrom}

@@ -71,7 +71,12 @@ byte_len n rest = length-append (byte n) rest ∙ omega (arith, byte_size n)
 
 pub client_size : (f : ClientFrame) → length (spelled_client f) ≡ 5 + length (spelled_parts f)
 unfolding spelled_client
-client_size f = omega (arith, word_len (5 + length (spelled_parts f)) (byte (client_code f) ++ spelled_parts f), byte_len (client_code f) (spelled_parts f))
+client_size f =
+    omega (
+      arith,
+      word_len (5 + length (spelled_parts f)) (byte (client_code f) ++ spelled_parts f),
+      byte_len (client_code f) (spelled_parts f),
+    )
 
 pub parts_fit : (f : ClientFrame) → IsClient f → length (spelled_parts f) ≤ 19995
 parts_fit (client.Request (Join tag g)) is = omega (arith, request_size (Join tag g))

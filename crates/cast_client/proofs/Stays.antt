@@ -1,5 +1,6 @@
 -- What stands at the front of a stream when more bytes come.
-use Rattle.std.proofs.Common.{◌≡◌, ℕ, ◌-◌, ◌<◌, ◌≤◌, Bool, true, false, cond, ltb, leb, ◌&&◌, List, ◌++◌, length, take, drop, Result, Ok, Err, refl, sym, ap, ◌∙◌, arith, inl, inr}
+use Rattle.std.proofs.Common.{◌≡◌, ℕ, ◌-◌, ◌<◌, ◌≤◌, Bool, true, false, cond, ltb, leb, ◌&&◌, List, ◌++◌}
+use Rattle.std.proofs.Common.{length, take, drop, Result, Ok, Err, refl, sym, ap, ◌∙◌, arith, inl, inr}
 use Rattle.std.specs.Int.{w32, from_be_bytes}
 use Rattle.std.proofs.lemmas.Bool.{cases_lt, lt-ltb, le-ltb, ltb-false}
 use Rattle.std.proofs.lemmas.List.{length-append, length-take, take-append-drop, take-append-le}
@@ -18,11 +19,13 @@ use Rattle.cast_field.proofs.Fields.{bind_ok, guard_ok}
 abbrev Number : Type 0
 Number = ℕ × List ℕ
 
-tested : {B : Type 0} (b : Bool) (x y : Number) (f : Number → Result B FrameFault) → f x ≡ f y → (cond b (Ok x) (Err Range) >>= f) ≡ (cond b (Ok y) (Err Range) >>= f)
+tested : {B : Type 0} (b : Bool) (x y : Number) (f : Number → Result B FrameFault) → f x ≡ f y →
+    (cond b (Ok x) (Err Range) >>= f) ≡ (cond b (Ok y) (Err Range) >>= f)
 tested true x y f same = same
 tested false x y f same = refl
 
-same_number : {B : Type 0} (n : ℕ) (rest other : List ℕ) (f : ℕ → Result B FrameFault) → (within_range 0 4294967295 n rest >>= λ (x : Number). f x.0) ≡ (within_range 0 4294967295 n other >>= λ (x : Number). f x.0)
+same_number : {B : Type 0} (n : ℕ) (rest other : List ℕ) (f : ℕ → Result B FrameFault) →
+    (within_range 0 4294967295 n rest >>= λ (x : Number). f x.0) ≡ (within_range 0 4294967295 n other >>= λ (x : Number). f x.0)
 unfolding within_range
 same_number n rest other f = tested (leb 0 n && leb n 4294967295) (n, rest) (n, other) (λ (x : Number). f x.0) refl
 
@@ -64,7 +67,8 @@ part_front : (bytes : List ℕ) (said : ℕ) → length bytes < said → frame_o
 unfolding frame_of_length
 part_front bytes said part = rw (lt-ltb _ _ part) refl
 
-whole_front : (bytes : List ℕ) (said : ℕ) → said ≤ length bytes → frame_of_length bytes said ≡ (client_frame_of (drop 4 (take said bytes)) >>= λ frame. Ok (Frame frame said))
+whole_front : (bytes : List ℕ) (said : ℕ) → said ≤ length bytes →
+    frame_of_length bytes said ≡ (client_frame_of (drop 4 (take said bytes)) >>= λ frame. Ok (Frame frame said))
 unfolding frame_of_length
 whole_front bytes said whole = rw (le-ltb _ _ whole) refl
 
@@ -83,7 +87,8 @@ pub record IsThere (bytes : List ℕ) (n : ℕ) : Type 0 where
   pub says : length_at bytes ≡ Ok n
   pub whole : n ≤ length bytes
 
-named : (r : Result ClientFrame FrameFault) (said : ℕ) (f : ClientFrame) (n : ℕ) → (r >>= λ frame. Ok (Frame frame said)) ≡ Ok (Frame f n) → said ≡ n
+named : (r : Result ClientFrame FrameFault) (said : ℕ) (f : ClientFrame) (n : ℕ) →
+    (r >>= λ frame. Ok (Frame frame said)) ≡ Ok (Frame f n) → said ≡ n
 named (Ok frame) said f n e = cc
 named (Err fault) said f n e = absurd cc
 
@@ -100,7 +105,8 @@ frame_is_there bytes f n e =
           elim (cases_lt (length bytes) said.0) [
             | inl part ↦ (let no = sym (part_front bytes said.0 part) ∙ said.2 in absurd cc)
             | inr whole ↦
-                let is : said.0 ≡ n = named (client_frame_of (drop 4 (take said.0 bytes))) said.0 f n (sym (whole_front bytes said.0 whole) ∙ said.2) in
+                let is : said.0 ≡ n =
+                named (client_frame_of (drop 4 (take said.0 bytes))) said.0 f n (sym (whole_front bytes said.0 whole) ∙ said.2) in
                 record { long = long; says = said.1 ∙ ap (λ (k : ℕ). Ok k) is; whole = omega (arith, is) }
           ]
     ]
@@ -108,7 +114,8 @@ frame_is_there bytes f n e =
 -- n bytes are wanting: up to the end of the length, or up to the length that it says
 pub data IsWanting (bytes : List ℕ) (n : ℕ) : Type 0 where
   of_the_length : length bytes < 4 → n ≡ 4 - length bytes → IsWanting bytes n
-  of_the_frame : (said : ℕ) → 4 ≤ length bytes → length_at bytes ≡ Ok said → length bytes < said → n ≡ said - length bytes → IsWanting bytes n
+  of_the_frame : (said : ℕ) → 4 ≤ length bytes → length_at bytes ≡ Ok said → length bytes < said → n ≡ said - length bytes →
+      IsWanting bytes n
 
 pub more_is_wanting : (bytes : List ℕ) (n : ℕ) → client_of bytes ≡ Ok (More n) → IsWanting bytes n
 more_is_wanting bytes n e =
@@ -118,16 +125,19 @@ more_is_wanting bytes n e =
           let said = bind_ok (length_at bytes) (frame_of_length bytes) (More n) (sym (long_front bytes long) ∙ e) in
           elim (cases_lt (length bytes) said.0) [
             | inl part ↦ (let is = sym (part_front bytes said.0 part) ∙ said.2 in of_the_frame said.0 long said.1 part cc)
-            | inr whole ↦ absurd (unnamed (client_frame_of (drop 4 (take said.0 bytes))) said.0 n (sym (whole_front bytes said.0 whole) ∙ said.2))
+            | inr whole ↦
+                absurd (unnamed (client_frame_of (drop 4 (take said.0 bytes))) said.0 n (sym (whole_front bytes said.0 whole) ∙ said.2))
           ]
     ]
 
 -- ---- more bytes come
 
-frame_of : (bytes : List ℕ) (said : ℕ) (r : Result ClientRead FrameFault) → 4 ≤ length bytes → length_at bytes ≡ Ok said → client_of bytes ≡ r → frame_of_length bytes said ≡ r
+frame_of : (bytes : List ℕ) (said : ℕ) (r : Result ClientRead FrameFault) → 4 ≤ length bytes → length_at bytes ≡ Ok said →
+    client_of bytes ≡ r → frame_of_length bytes said ≡ r
 frame_of bytes said r long says e = rw says at (sym (long_front bytes long) ∙ e)
 
-of_frame : (bytes more : List ℕ) (said : ℕ) → 4 ≤ length bytes → length_at bytes ≡ Ok said → client_of (bytes ++ more) ≡ frame_of_length (bytes ++ more) said
+of_frame : (bytes more : List ℕ) (said : ℕ) → 4 ≤ length bytes → length_at bytes ≡ Ok said →
+    client_of (bytes ++ more) ≡ frame_of_length (bytes ++ more) said
 of_frame bytes more said long says =
     let longer : 4 ≤ length (bytes ++ more) = omega (arith, length-append bytes more) in
     long_front (bytes ++ more) longer ∙ rw (length_stays bytes more long, says) refl
@@ -135,7 +145,9 @@ of_frame bytes more said long says =
 pub frame_stays : FrameStays
 frame_stays bytes more f n e =
     let there = frame_is_there bytes f n e in
-    of_frame bytes more n there.long there.says ∙ (whole_stays bytes more n there.whole ∙ frame_of bytes n (Ok (Frame f n)) there.long there.says e)
+    of_frame bytes more n there.long there.says
+    ∙ (whole_stays bytes more n there.whole
+    ∙ frame_of bytes n (Ok (Frame f n)) there.long there.says e)
 
 -- a frame stands there by its own bytes alone
 pub frame_alone : (bytes : List ℕ) (f : ClientFrame) (n : ℕ) → client_of bytes ≡ Ok (Frame f n) → client_of (take n bytes) ≡ Ok (Frame f n)
@@ -158,7 +170,8 @@ fault_stays bytes more e is =
       | inr long ↦ at_length bytes more e (length_at bytes) long refl is
     ]
   where
-    at_length : (bytes more : List ℕ) (e : FrameFault) (r : Result ℕ FrameFault) → 4 ≤ length bytes → length_at bytes ≡ r → client_of bytes ≡ Err e → client_of (bytes ++ more) ≡ Err e
+    at_length : (bytes more : List ℕ) (e : FrameFault) (r : Result ℕ FrameFault) → 4 ≤ length bytes → length_at bytes ≡ r →
+        client_of bytes ≡ Err e → client_of (bytes ++ more) ≡ Err e
     at_length bytes more e (Err d) long says is =
         let longer : 4 ≤ length (bytes ++ more) = omega (arith, length-append bytes more) in
         let same : Err d ≡ Err e = rw says at (sym (long_front bytes long) ∙ is) in
@@ -183,12 +196,14 @@ wanting_stays bytes more n e less =
     ]
 
 -- a frame that comes with the bytes that were wanting ends with them
-pub ends_with_them : (bytes more : List ℕ) (n : ℕ) (f : ClientFrame) (k : ℕ) → client_of bytes ≡ Ok (More n) → length more ≤ n → client_of (bytes ++ more) ≡ Ok (Frame f k) → k ≡ length (bytes ++ more)
+pub ends_with_them : (bytes more : List ℕ) (n : ℕ) (f : ClientFrame) (k : ℕ) → client_of bytes ≡ Ok (More n) → length more ≤ n →
+    client_of (bytes ++ more) ≡ Ok (Frame f k) → k ≡ length (bytes ++ more)
 ends_with_them bytes more n f k wants few e =
     let len = length-append bytes more in
     let there = frame_is_there (bytes ++ more) f k e in
     elim (more_is_wanting bytes n wants) [
-      | of_the_length short is ↦ (let least = (length_fits (bytes ++ more) k there.says).least in absurd (omega (arith, len, least, there.whole)))
+      | of_the_length short is ↦
+          (let least = (length_fits (bytes ++ more) k there.says).least in absurd (omega (arith, len, least, there.whole)))
       | of_the_frame said long says part is ↦
           let same : said ≡ k = cc (length_stays bytes more long, says, there.says) in
           omega (arith, len, same, there.whole)

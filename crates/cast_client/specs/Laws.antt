@@ -29,11 +29,14 @@ PartWantsTheRest =
 -- a frame that was read stays read when more bytes come
 abbrev pub FrameStays : Type 0
 FrameStays =
-    (bytes more : List ℕ) (f : ClientFrame) (n : ℕ) → client_of bytes ≡ Ok (Frame f n) → client_of (bytes ++ more) ≡ Ok (Frame f n)
+    (bytes more : List ℕ) (f : ClientFrame) (n : ℕ) → client_of bytes ≡ Ok (Frame f n)
+    → client_of (bytes ++ more) ≡ Ok (Frame f n)
 
 -- and so does a fault
 abbrev pub FaultStays : Type 0
-FaultStays = (bytes more : List ℕ) (e : FrameFault) → client_of bytes ≡ Err e → client_of (bytes ++ more) ≡ Err e
+FaultStays =
+    (bytes more : List ℕ) (e : FrameFault) → client_of bytes ≡ Err e
+    → client_of (bytes ++ more) ≡ Err e
 
 -- no frame and no fault stands there before all bytes that are wanting have come
 abbrev pub WantingStays : Type 0

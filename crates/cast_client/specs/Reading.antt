@@ -1,6 +1,7 @@
 -- Reading a frame between a program and its daemon from the front of a stream.
 -- What is read is the frame and how long it is, or how many bytes are wanting, or the first fault.
-use Rattle.std.specs.Prelude.{ℕ, ◌-◌, ◌==◌, nat_lt, if◌then◌else◌, List, [], length, take, drop, Option, Some, None, Result, Ok, Err}
+use Rattle.std.specs.Prelude.{ℕ, ◌-◌, ◌==◌, nat_lt, if◌then◌else◌, List, [], length}
+use Rattle.std.specs.Prelude.{take, drop, Option, Some, None, Result, Ok, Err}
 use Rattle.std.specs.Int.{w32}
 use Rattle.cast_types.specs.declared.refusal.Refusal.{Refusal}
 use Rattle.cast_types.specs.Refusals.{refusal_numbered}
@@ -9,12 +10,14 @@ use Rattle.cast_field.specs.declared.fault.FrameFault.TheVariants.{WrongType, Le
 use Rattle.cast_message.specs.declared.client.CastKind.{CastKind}
 use Rattle.cast_message.specs.declared.client.CastKind.TheVariants.{Causal, Atomic}
 use Rattle.cast_message.specs.declared.client.Request.TheVariants.{Join, Leave, Cast, Pass}
-use Rattle.cast_message.specs.declared.client.Push.TheVariants.{Opened, Reply, View, Deliver, Ejected, Denied, Closed}
+use Rattle.cast_message.specs.declared.client.Push.TheVariants.{Opened, Reply, View, Deliver}
+use Rattle.cast_message.specs.declared.client.Push.TheVariants.{Ejected, Denied, Closed}
 use Rattle.cast_message.specs.declared.client.ClientFrame.{ClientFrame}
 use Rattle.cast_message.specs.declared.client.ClientFrame.TheVariants as client
 use Rattle.cast_client.specs.declared.front.ClientRead.{ClientRead}
 use Rattle.cast_client.specs.declared.front.ClientRead.TheVariants.{Frame, More}
-use Rattle.cast_field.specs.Reading.{◌>>=◌, Reader, byte_at, number_at, group_at, count_at, proc_at, uid_at, members_at}
+use Rattle.cast_field.specs.Reading.{◌>>=◌, Reader, byte_at, number_at, group_at}
+use Rattle.cast_field.specs.Reading.{count_at, proc_at, uid_at, members_at}
 
 -- any number
 unfoldable pub tag_at : Reader ℕ
@@ -124,10 +127,13 @@ closed_at bytes = do
 -- the type of a frame says what its parts are
 unfoldable pub parts_at : ℕ → Reader ClientFrame
 parts_at n bytes =
-    if n == 1 then join_at bytes else if n == 2 then leave_at bytes else if n == 3 then cast_at bytes
+    if n == 1 then join_at bytes else if n == 2 then leave_at bytes
+    else if n == 3 then cast_at bytes
     else if n == 4 then pass_at bytes
-    else if n == 65 then opened_at bytes else if n == 66 then replied_at bytes else if n == 67 then view_at bytes
-    else if n == 68 then deliver_at bytes else if n == 69 then ejected_at bytes else if n == 70 then denied_at bytes
+    else if n == 65 then opened_at bytes else if n == 66 then replied_at bytes
+    else if n == 67 then view_at bytes
+    else if n == 68 then deliver_at bytes else if n == 69 then ejected_at bytes
+    else if n == 70 then denied_at bytes
     else if n == 71 then closed_at bytes else Err WrongType
 
 -- what stands behind the length of a frame, all of it: no bytes may be left
@@ -155,4 +161,5 @@ frame_of_length bytes n =
 -- what stands at the front of the bytes: bytes past the frame are not looked at
 unfoldable pub client_of : List ℕ → Result ClientRead FrameFault
 client_of bytes =
-    if nat_lt (length bytes) 4 then Ok (More (4 - length bytes)) else (length_at bytes >>= frame_of_length bytes)
+    if nat_lt (length bytes) 4 then Ok (More (4 - length bytes))
+    else (length_at bytes >>= frame_of_length bytes)

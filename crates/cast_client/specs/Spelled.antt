@@ -1,10 +1,12 @@
 -- The frames between a program and its daemon that have a spelling.
 -- Every number is in its range, and the whole frame is not too long.
-use Rattle.std.specs.Prelude.{ℕ, ◌≡◌, ◌≤◌, ◌+◌, ◌-◌, ◌⊎◌, nat_lt, if◌then◌else◌, List, ◌++◌, length, Ok}
+use Rattle.std.specs.Prelude.{ℕ, ◌≡◌, ◌≤◌, ◌+◌, ◌-◌, ◌⊎◌, nat_lt}
+use Rattle.std.specs.Prelude.{if◌then◌else◌, List, ◌++◌, length, Ok}
 use Rattle.cast_message.specs.declared.client.Request.{Request}
 use Rattle.cast_message.specs.declared.client.Request.TheVariants.{Join, Leave, Cast, Pass}
 use Rattle.cast_message.specs.declared.client.Push.{Push}
-use Rattle.cast_message.specs.declared.client.Push.TheVariants.{Opened, Reply, View, Deliver, Ejected, Denied, Closed}
+use Rattle.cast_message.specs.declared.client.Push.TheVariants.{Opened, Reply, View, Deliver}
+use Rattle.cast_message.specs.declared.client.Push.TheVariants.{Ejected, Denied, Closed}
 use Rattle.cast_message.specs.declared.client.ClientFrame.{ClientFrame}
 use Rattle.cast_message.specs.declared.client.ClientFrame.TheVariants as client
 use Rattle.cast_client.specs.declared.front.ClientRead.{ClientRead}
@@ -43,13 +45,16 @@ pub record Begins (bytes : List ℕ) (f : ClientFrame) (n : ℕ) : Type 0 where
   pub parts : bytes ≡ spelled_client f ++ rest
   pub length_is : n ≡ length (spelled_client f)
 
--- no whole frame stands there yet, and n bytes are wanting: up to the end of its length, or up to the length that it says
+-- no whole frame stands there yet, and n bytes are wanting: up to the end of its length, or up to
+-- the length that it says
 abbrev pub Wants : List ℕ → ℕ → Type 0
 Wants bytes n =
     (1 ≤ n)
-    × ((4 ≡ length bytes + n) ⊎ ((said : ℕ) × (length_at bytes ≡ Ok said) × (said ≡ length bytes + n)))
+    × ((4 ≡ length bytes + n)
+    ⊎ ((said : ℕ) × (length_at bytes ≡ Ok said) × (said ≡ length bytes + n)))
 
--- so many bytes the first k of a frame's spelling want: the rest of its length, and then the rest of itself
+-- so many bytes the first k of a frame's spelling want: the rest of its length, and then the rest
+-- of itself
 abbrev pub wanting : ClientFrame → ℕ → ℕ
 wanting f k = if nat_lt k 4 then 4 - k else length (spelled_client f) - k
 

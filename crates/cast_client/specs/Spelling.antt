@@ -7,7 +7,8 @@ use Rattle.cast_message.specs.declared.client.CastKind.TheVariants.{Causal, Atom
 use Rattle.cast_message.specs.declared.client.Request.{Request}
 use Rattle.cast_message.specs.declared.client.Request.TheVariants.{Join, Leave, Cast, Pass}
 use Rattle.cast_message.specs.declared.client.Push.{Push}
-use Rattle.cast_message.specs.declared.client.Push.TheVariants.{Opened, Reply, View, Deliver, Ejected, Denied, Closed}
+use Rattle.cast_message.specs.declared.client.Push.TheVariants.{Opened, Reply, View, Deliver}
+use Rattle.cast_message.specs.declared.client.Push.TheVariants.{Ejected, Denied, Closed}
 use Rattle.cast_message.specs.declared.client.ClientFrame.{ClientFrame}
 use Rattle.cast_message.specs.declared.client.ClientFrame.TheVariants as client
 use Rattle.cast_message.specs.Replies.{reply_code}
@@ -40,7 +41,8 @@ client_code (client.Push p) = push_code p
 unfoldable pub spelled_request : Request → List ℕ
 spelled_request (Join tag g) = word tag ++ short g.0
 spelled_request (Leave tag g) = word tag ++ short g.0
-spelled_request (Cast tag g kind payload) = word tag ++ (short g.0 ++ (byte (cast_code kind) ++ payload))
+spelled_request (Cast tag g kind payload) =
+    word tag ++ (short g.0 ++ (byte (cast_code kind) ++ payload))
 spelled_request (Pass tag g to) = word tag ++ (short g.0 ++ spelled_proc to)
 
 unfoldable pub spelled_push : Push → List ℕ

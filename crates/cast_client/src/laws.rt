@@ -1,4 +1,5 @@
-ghost use Rattle.cast_client.specs.Laws.{ClientFits, ClientIsRead, ClientSpellingsDiffer, FaultStays, FrameStays, PartWantsTheRest, WantingStays};
+ghost use Rattle.cast_client.specs.Laws.{ClientFits, ClientIsRead, ClientSpellingsDiffer};
+ghost use Rattle.cast_client.specs.Laws.{FaultStays, FrameStays, PartWantsTheRest, WantingStays};
 
 /// A frame whose numbers are in their ranges is read from its spelling, whatever comes behind it.
 pub fn client_is_read()
@@ -15,7 +16,8 @@ pub fn part_wants_the_rest()
     ensures { PartWantsTheRest }
 {}
 
-/// When more bytes come, a frame that was read stays read, a fault stays, and no less is wanted than what has not come.
+/// When more bytes come, a frame that was read stays read, a fault stays, and no less is wanted
+/// than what has not come.
 pub fn more_comes()
     ensures frame { FrameStays }
     ensures fault { FaultStays }

@@ -2,7 +2,11 @@ ghost use Rattle.std.specs.Prelude.{◌≡◌, ◌++◌, ◌≤◌, ◌<◌, ◌
 ghost use Rattle.cast_client.specs.declared.front.ClientRead.TheVariants.{Frame, More};
 ghost use Rattle.cast_message.specs.declared.client.ClientFrame.{ClientFrame};
 ghost use Rattle.cast_field.specs.Reading.{Gives, GivesField};
-ghost use Rattle.cast_client.specs.Reading.{cast_at, cast_kind_at, client_frame_of, client_of, closed_at, deliver_at, denied_at, ejected_at, end_at, frame_of_length, join_at, leave_at, length_at, length_of, opened_at, parts_at, pass_at, refusal_at, replied_at, reply_at, short_end_at, tag_at, view_at};
+ghost use Rattle.cast_client.specs.Reading.{cast_at, cast_kind_at, client_frame_of, client_of};
+ghost use Rattle.cast_client.specs.Reading.{closed_at, deliver_at, denied_at, ejected_at, end_at};
+ghost use Rattle.cast_client.specs.Reading.{frame_of_length, join_at, leave_at, length_at};
+ghost use Rattle.cast_client.specs.Reading.{length_of, opened_at, parts_at, pass_at, refusal_at};
+ghost use Rattle.cast_client.specs.Reading.{replied_at, reply_at, short_end_at, tag_at, view_at};
 ghost use Rattle.cast_client.specs.Spelled.{IsClient, IsFront, wanting};
 ghost use Rattle.cast_client.specs.Spelling.{spelled_client};
 
@@ -262,22 +266,26 @@ fn read_front(alloc: Global, bytes: &[u8]) -> Result<ClientRead, FrameFault>
     read_of_length(alloc, len, bytes)
 }
 
-/// Reads what stands at the front of the bytes of a stream between a program and its daemon: a frame and of how many bytes
-/// it is, or how many bytes are wanting. Bytes past the frame are not looked at.
+/// Reads what stands at the front of the bytes of a stream between a program and its daemon: a
+/// frame and of how many bytes it is, or how many bytes are wanting. Bytes past the frame are not
+/// looked at.
 ///
-/// Below 4 bytes the rest of these is wanting. With 4 bytes the length that they say is tested: outside 5 to 20,000 it is
-/// the fault `Length`. Then the rest of that length is wanting. Within the frame the fault is the first one from left to
-/// right. `NoMemory` comes where an allocation was refused, and says nothing of the bytes.
+/// Below 4 bytes the rest of these is wanting. With 4 bytes the length that they say is tested:
+/// outside 5 to 20,000 it is the fault `Length`. Then the rest of that length is wanting. Within
+/// the frame the fault is the first one from left to right. `NoMemory` comes where an allocation
+/// was refused, and says nothing of the bytes.
 pub fn decode_client(alloc: Global, bytes: &[u8]) -> Result<ClientRead, FrameFault>
     // Which frame, or how many bytes, or which fault.
     ensures exact { Gives result (client_of bytes.now) }
     // What is read stands at the front, and what is said to be wanting is.
     ensures found { IfOk result (IsFront bytes.now) }
     // What stands at the front in its spelling is read, unless memory runs out.
-    ensures only { (f : ClientFrame) (rest : List ℕ) → IsClient f → bytes.now ≡ spelled_client f ++ rest
+    ensures only { (f : ClientFrame) (rest : List ℕ) → IsClient f
+        → bytes.now ≡ spelled_client f ++ rest
         → Gives result (Ok (Frame f (length (spelled_client f)))) }
     // A part of a frame wants the rest of its length, and then the rest of itself.
-    ensures more { (f : ClientFrame) (k : ℕ) → IsClient f → k < length (spelled_client f) → bytes.now ≡ take k (spelled_client f)
+    ensures more { (f : ClientFrame) (k : ℕ) → IsClient f → k < length (spelled_client f)
+        → bytes.now ≡ take k (spelled_client f)
         → Gives result (Ok (More (wanting f k))) }
 {
     read_front(alloc, bytes)

@@ -2,7 +2,8 @@ ghost use Rattle.std.specs.Prelude.{◌≡◌, ◌++◌, ◌+◌, ◌≤◌, IfO
 ghost use Rattle.cast_message.specs.declared.client.ClientFrame.TheVariants as client;
 ghost use Rattle.cast_message.specs.Fitting.{client_fits, request_fits};
 ghost use Rattle.cast_message.specs.Replies.{reply_code};
-ghost use Rattle.cast_client.specs.Spelling.{cast_code, push_code, request_code, spelled_client, spelled_push, spelled_request};
+ghost use Rattle.cast_client.specs.Spelling.{cast_code, push_code, request_code};
+ghost use Rattle.cast_client.specs.Spelling.{spelled_client, spelled_push, spelled_request};
 ghost use Rattle.cast_field.specs.Spelling.{byte, short, spelled_members, spelled_uid, word};
 
 use crate::front::MIN_CLIENT_FRAME;
@@ -116,7 +117,8 @@ fn put_cast(
     kind: CastKind,
     payload: &Bytes,
 ) -> Result<(), NoMemory>
-    ensures { OnOk result (out.new.items ≡ out.old.items ++ (word tag ++ (short group.0 ++ (byte (cast_code kind) ++ payload.now)))) }
+    ensures { OnOk result (out.new.items ≡ out.old.items
+        ++ (word tag ++ (short group.0 ++ (byte (cast_code kind) ++ payload.now)))) }
 {
     out.put_u32(tag)?;
     out.put_u16(group.0)?;
@@ -157,7 +159,8 @@ fn put_deliver(
     kind: CastKind,
     payload: &Payload,
 ) -> Result<(), NoMemory>
-    ensures { OnOk result (out.new.items ≡ out.old.items ++ (spelled_uid id ++ (byte (cast_code kind) ++ payload.now))) }
+    ensures { OnOk result (out.new.items
+        ≡ out.old.items ++ (spelled_uid id ++ (byte (cast_code kind) ++ payload.now))) }
 {
     put_uid(out, id)?;
     out.put_u8(code_of_cast(kind))?;
@@ -193,7 +196,8 @@ fn put_push(out: &mut Vec<u8>, push: &Push) -> Result<(), NoMemory>
     }
 }
 
-/// The one spelling of a request, of 5 to 20,000 bytes. `NoMemory` comes where an allocation was refused.
+/// The one spelling of a request, of 5 to 20,000 bytes. `NoMemory` comes where an allocation was
+/// refused.
 #[tactic(auto, unfolding(crate::specs::Spelling::spelled_client))]
 pub fn encode_request(alloc: Global, request: &Request) -> Result<Bytes, NoMemory>
     requires { IsTrue (request_fits request.now) }
@@ -204,7 +208,8 @@ pub fn encode_request(alloc: Global, request: &Request) -> Result<Bytes, NoMemor
     Ok(Bytes::from_vec(out)?)
 }
 
-/// The one spelling of a push, of 5 to 20,000 bytes. `NoMemory` comes where an allocation was refused.
+/// The one spelling of a push, of 5 to 20,000 bytes. `NoMemory` comes where an allocation was
+/// refused.
 #[tactic(auto, unfolding(crate::specs::Spelling::spelled_client))]
 pub fn encode_push(alloc: Global, push: &Push) -> Result<Bytes, NoMemory>
     ensures { IfOk result (λ b. b ≡ spelled_client (client.Push push.now)) }
@@ -214,8 +219,8 @@ pub fn encode_push(alloc: Global, push: &Push) -> Result<Bytes, NoMemory>
     Ok(Bytes::from_vec(out)?)
 }
 
-/// Adds the one spelling of a push behind other bytes. `NoMemory` comes where an allocation was refused; then a beginning of
-/// the spelling may have been added.
+/// Adds the one spelling of a push behind other bytes. `NoMemory` comes where an allocation was
+/// refused; then a beginning of the spelling may have been added.
 #[tactic(auto, unfolding(crate::specs::Spelling::spelled_client, cast_field::specs::Spelling::byte, cast_field::specs::Spelling::word))]
 pub fn add_push(out: &mut Vec<u8>, push: &Push) -> Result<(), NoMemory>
     ensures { OnOk result (out.new.items ≡ out.old.items ++ spelled_client (client.Push push.now)) }
@@ -227,8 +232,9 @@ pub fn add_push(out: &mut Vec<u8>, push: &Push) -> Result<(), NoMemory>
     put_push(out, push)
 }
 
-/// The one spelling of a frame between a program and its daemon, of 5 to 20,000 bytes where its numbers are in their
-/// ranges. The frame is only read; `NoMemory` comes where an allocation was refused.
+/// The one spelling of a frame between a program and its daemon, of 5 to 20,000 bytes where its
+/// numbers are in their ranges. The frame is only read; `NoMemory` comes where an allocation was
+/// refused.
 pub fn encode_client(alloc: Global, frame: &ClientFrame) -> Result<Bytes, NoMemory>
     requires { IsTrue (client_fits frame.now) }
     ensures { IfOk result (λ b. b ≡ spelled_client frame.now) }

@@ -1,5 +1,6 @@
 -- How many counts a join has, and whether each of its clocks has room, with no join made.
-use Rattle.std.proofs.Common.{◌≡◌, ℕ, ◌+◌, Bool, true, false, not, cond, max, [], ◌∷◌, length, Option, Some, unwrap_or, Less, refl, sym, ap, subst, ◌∙◌, arith}
+use Rattle.std.proofs.Common.{◌≡◌, ℕ, ◌+◌, Bool, true, false, not, cond, max, [], ◌∷◌, length}
+use Rattle.std.proofs.Common.{Option, Some, unwrap_or, Less, refl, sym, ap, subst, ◌∙◌, arith}
 use Rattle.std.specs.Prelude.{T, IsTrue, is_some}
 use Rattle.std.specs.List.{count_by}
 use Rattle.std.specs.Ordering.{is_eq, eq_by_cmp, ordering_reverse}
@@ -21,12 +22,15 @@ abbrev pub lacks : CountList → Entry → Bool
 lacks c e = not (is_some (find proc_cmp e.0 c))
 
 -- a count of a process below all others changes nothing of what they lack
-lacks_below : (k : Proc) (v : ℕ) (c d : CountList) → T (below_all proc_cmp k d) → count_by (lacks (put proc_cmp k v c)) d ≡ count_by (lacks c) d
+lacks_below : (k : Proc) (v : ℕ) (c d : CountList) → T (below_all proc_cmp k d) →
+    count_by (lacks (put proc_cmp k v c)) d ≡ count_by (lacks c) d
 lacks_below k v c [] h = refl
 lacks_below k v c (e ∷ d) h =
     let below : proc_cmp k e.0 ≡ Less = less_is _ (both_parts _ _ h).0 in
     let other : eq_by_cmp proc_cmp e.0 k ≡ false = ap is_eq (proc_total.antisymm e.0 k ∙ ap ordering_reverse below) in
-    let same : lacks (put proc_cmp k v c) e ≡ lacks c e = ap (λ (o : Option ℕ). not (is_some o)) (find-put proc_cmp proc_total e.0 k v c ∙ ap (λ b. cond b (Some v) (find proc_cmp e.0 c)) other) in
+    let same : lacks (put proc_cmp k v c) e ≡ lacks c e =
+    ap (λ (o : Option ℕ). not (is_some o))
+    (find-put proc_cmp proc_total e.0 k v c ∙ ap (λ b. cond b (Some v) (find proc_cmp e.0 c)) other) in
     sum_by-cons (λ x. cond (lacks (put proc_cmp k v c) x) 1 0) e d
     ∙ ap (λ b. cond b 1 0 + count_by (lacks (put proc_cmp k v c)) d) same
     ∙ ap (λ n. cond (lacks c e) 1 0 + n) (lacks_below k v c d (both_parts _ _ h).1)
@@ -37,13 +41,16 @@ one_more true n = omega arith
 one_more false n = omega arith
 
 -- the counts of a join: those of the first, and those of the second that the first lack
-pub length-join_counts : (c d : CountList) → T (is_sorted proc_cmp c) → T (is_sorted proc_cmp d) → length (join_counts c d) ≡ length c + count_by (lacks c) d
+pub length-join_counts : (c d : CountList) → T (is_sorted proc_cmp c) → T (is_sorted proc_cmp d) →
+    length (join_counts c d) ≡ length c + count_by (lacks c) d
 length-join_counts c [] h g = omega arith
 length-join_counts c (e ∷ d) h g =
     let parts = both_parts (below_all proc_cmp e.0 d) (is_sorted proc_cmp d) g in
     let v : ℕ = max (count_of c e.0) e.1 in
-    let rest : length (join_counts (put proc_cmp e.0 v c) d) ≡ length (put proc_cmp e.0 v c) + count_by (lacks (put proc_cmp e.0 v c)) d = length-join_counts (put proc_cmp e.0 v c) d (is_sorted-put proc_cmp proc_total e.0 v c h) parts.1 in
-    let here : length (put proc_cmp e.0 v c) ≡ length c + cond (lacks c e) 1 0 = length-put proc_cmp proc_total e.0 v c h ∙ one_more (is_some (find proc_cmp e.0 c)) (length c) in
+    let rest : length (join_counts (put proc_cmp e.0 v c) d) ≡ length (put proc_cmp e.0 v c) + count_by (lacks (put proc_cmp e.0 v c)) d =
+    length-join_counts (put proc_cmp e.0 v c) d (is_sorted-put proc_cmp proc_total e.0 v c h) parts.1 in
+    let here : length (put proc_cmp e.0 v c) ≡ length c + cond (lacks c e) 1 0 =
+    length-put proc_cmp proc_total e.0 v c h ∙ one_more (is_some (find proc_cmp e.0 c)) (length c) in
     let same : count_by (lacks (put proc_cmp e.0 v c)) d ≡ count_by (lacks c) d = lacks_below e.0 v c d parts.0 in
     let split : count_by (lacks c) (e ∷ d) ≡ cond (lacks c e) 1 0 + count_by (lacks c) d = sum_by-cons (λ x. cond (lacks c x) 1 0) e d in
     let joined : length (join_counts c (e ∷ d)) ≡ length (join_counts (put proc_cmp e.0 v c) d) = refl in
@@ -56,11 +63,18 @@ fits s t g = clock_has_room (join_clocks (clock_of s g) (clock_of t g))
 
 pub is_sorted-join : (s t : ClockList) → T (is_sorted group_cmp s) → T (is_sorted group_cmp (join s t))
 is_sorted-join s [] h = h
-is_sorted-join s (e ∷ t) h = is_sorted-join (put group_cmp e.0 (join_clocks (clock_of s e.0) e.1) s) t (is_sorted-put group_cmp group_total e.0 (join_clocks (clock_of s e.0) e.1) s h)
+is_sorted-join s (e ∷ t) h =
+    is_sorted-join (put group_cmp e.0 (join_clocks (clock_of s e.0) e.1) s)
+    t (is_sorted-put group_cmp group_total e.0 (join_clocks (clock_of s e.0) e.1) s h)
 
 -- where each clock of a join has room, so has that of any group
 pub fits_from_room : (s t : ClockList) → IsTrue (is_sorted group_cmp t) → has_room (join s t) ≡ true → (g : GroupNo) → fits s t g ≡ true
-fits_from_room s t h room g = subst (λ c. clock_has_room c ≡ true) (clock_of-join s t g h) (found_or group_exact (λ _ c. clock_has_room c) (first_clock 0) (λ _. refl) (join s t) room g)
+fits_from_room s t h room g =
+    subst (λ c. clock_has_room c ≡ true) (clock_of-join s t g h)
+    (found_or group_exact (λ _ c. clock_has_room c) (first_clock 0) (λ _. refl) (join s t) room g)
 
-pub room_from_fits : (s t : ClockList) → T (is_sorted group_cmp s) → IsTrue (is_sorted group_cmp t) → ((g : GroupNo) → fits s t g ≡ true) → has_room (join s t) ≡ true
-room_from_fits s t hs ht all = each_found group_total (λ _ c. clock_has_room c) (join s t) (is_sorted-join s t hs) (λ g c is. subst (λ x. clock_has_room x ≡ true) (sym (clock_of-join s t g ht) ∙ ap (λ (o : Option Clock). unwrap_or o (first_clock 0)) is) (all g))
+pub room_from_fits : (s t : ClockList) → T (is_sorted group_cmp s) → IsTrue (is_sorted group_cmp t) → ((g : GroupNo) → fits s t g ≡ true) →
+    has_room (join s t) ≡ true
+room_from_fits s t hs ht all =
+    each_found group_total (λ _ c. clock_has_room c) (join s t) (is_sorted-join s t hs) (λ g c is. subst (λ x. clock_has_room x ≡ true)
+    (sym (clock_of-join s t g ht) ∙ ap (λ (o : Option Clock). unwrap_or o (first_clock 0)) is) (all g))

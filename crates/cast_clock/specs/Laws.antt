@@ -8,7 +8,9 @@ use Rattle.cast_types.specs.declared.names.Proc.{Proc}
 use Rattle.cast_types.specs.Names.{group_cmp, proc_cmp}
 use Rattle.cast_types.specs.Counts.{CountList, count_of}
 use Rattle.cast_types.specs.Stamps.{ClockList}
-use Rattle.cast_clock.specs.Times.{first_clock, clock_of, view_of, count_in, at_most, IsAtMost, join_counts, join_clocks, join, has_room, is_time, with_bump, entering}
+use Rattle.cast_clock.specs.Times.{first_clock, clock_of, view_of, count_in}
+use Rattle.cast_clock.specs.Times.{at_most, IsAtMost, join_counts, join_clocks}
+use Rattle.cast_clock.specs.Times.{join, has_room, is_time, with_bump, entering}
 
 -- groups in rising order, and the processes of each
 abbrev pub is_in_order : ClockList → Bool
@@ -48,7 +50,8 @@ JoinIsLeast = (s t u : ClockList) → IsTrue (is_in_order s) → IsTrue (is_in_o
 
 -- one count is one more
 abbrev pub BumpRaises : Type 0
-BumpRaises = (t : ClockList) (g : GroupNo) (p : Proc) → count_in (with_bump t g p) g p ≡ count_in t g p + 1
+BumpRaises =
+    (t : ClockList) (g : GroupNo) (p : Proc) → count_in (with_bump t g p) g p ≡ count_in t g p + 1
 
 -- and no other count changes, and no view
 abbrev pub BumpLeavesCounts : Type 0
@@ -56,24 +59,33 @@ BumpLeavesCounts = (t : ClockList) (g h : GroupNo) (p q : Proc) → (h ≢ g) �
     count_in (with_bump t g p) h q ≡ count_in t h q
 
 abbrev pub BumpLeavesViews : Type 0
-BumpLeavesViews = (t : ClockList) (g h : GroupNo) (p : Proc) → view_of (with_bump t g p) h ≡ view_of t h
+BumpLeavesViews =
+    (t : ClockList) (g h : GroupNo) (p : Proc) → view_of (with_bump t g p) h ≡ view_of t h
 
 -- the group is at the start of the view
 abbrev pub EnterBegins : Type 0
-EnterBegins = (t : ClockList) (g : GroupNo) (view : ℕ) → clock_of (entering t g view) g ≡ first_clock view
+EnterBegins =
+    (t : ClockList) (g : GroupNo) (view : ℕ) → clock_of (entering t g view) g ≡ first_clock view
 
 -- and no other group changes
 abbrev pub EnterLeaves : Type 0
-EnterLeaves = (t : ClockList) (g h : GroupNo) (view : ℕ) → h ≢ g → clock_of (entering t g view) h ≡ clock_of t h
+EnterLeaves =
+    (t : ClockList) (g h : GroupNo) (view : ℕ) → h ≢ g →
+    clock_of (entering t g view) h ≡ clock_of t h
 
 -- what is made of times is a time
 abbrev pub JoinIsTime : Type 0
-JoinIsTime = (s t : ClockList) → IsTrue (is_time s) → IsTrue (is_time t) → IsTrue (has_room (join s t)) →
+JoinIsTime =
+    (s t : ClockList) → IsTrue (is_time s) → IsTrue (is_time t) → IsTrue (has_room (join s t)) →
     IsTrue (is_time (join s t))
 
 abbrev pub BumpIsTime : Type 0
-BumpIsTime = (t : ClockList) (g : GroupNo) (p : Proc) → IsTrue (is_time t) → IsTrue (has_room (with_bump t g p)) →
+BumpIsTime =
+    (t : ClockList) (g : GroupNo) (p : Proc) → IsTrue (is_time t) →
+    IsTrue (has_room (with_bump t g p)) →
     IsTrue (is_time (with_bump t g p))
 
 abbrev pub EnterIsTime : Type 0
-EnterIsTime = (t : ClockList) (g : GroupNo) (view : ℕ) → IsTrue (is_time t) → IsTrue (is_time (entering t g view))
+EnterIsTime =
+    (t : ClockList) (g : GroupNo) (view : ℕ) → IsTrue (is_time t) →
+    IsTrue (is_time (entering t g view))

@@ -1,5 +1,6 @@
 -- What of a time is new to another: the joined clocks of the groups whose clocks a join changes.
-use Rattle.std.specs.Prelude.{Bool, false, ◌&&◌, ◌||◌, ◌==◌, nat_lt, nat_le, is_some, if◌then◌else◌, Option, Some, None, [], ◌∷◌}
+use Rattle.std.specs.Prelude.{Bool, false, ◌&&◌, ◌||◌, ◌==◌, nat_lt, nat_le}
+use Rattle.std.specs.Prelude.{is_some, if◌then◌else◌, Option, Some, None, [], ◌∷◌}
 use Rattle.std.specs.List.{list_all}
 use Rattle.std.specs.FinMap.Entries.{find, put}
 use Rattle.cast_types.specs.declared.clock.Clock.{Clock}
@@ -24,7 +25,9 @@ is_known (Some a) b = outranks a b
 -- the joined clocks of the groups whose clock is not known
 abbrev pub news : ClockList → ClockList → ClockList
 news s [] = []
-news s (e ∷ t) = if is_known (find group_cmp e.0 s) e.1 then news s t else (e.0, join_clocks (clock_of s e.0) e.1) ∷ news s t
+news s (e ∷ t) =
+    if is_known (find group_cmp e.0 s) e.1 then news s t
+    else (e.0, join_clocks (clock_of s e.0) e.1) ∷ news s t
 
 -- a time with these clocks put in, one after the other
 abbrev pub put_all : ClockList → ClockList → ClockList

@@ -1,5 +1,6 @@
 -- Vector times with a view beside the counts of each group: their order and their join.
-use Rattle.std.specs.Prelude.{◌≡◌, ℕ, ◌+◌, max, Bool, ◌&&◌, ◌||◌, ◌==◌, nat_lt, nat_le, ◌<◌, ◌≤◌, ◌⊎◌, [], ◌∷◌, length, unwrap_or}
+use Rattle.std.specs.Prelude.{◌≡◌, ℕ, ◌+◌, max, Bool, ◌&&◌, ◌||◌, ◌==◌, nat_lt}
+use Rattle.std.specs.Prelude.{nat_le, ◌<◌, ◌≤◌, ◌⊎◌, [], ◌∷◌, length, unwrap_or}
 use Rattle.std.specs.List.{list_all}
 use Rattle.std.specs.FinMap.Entries.{find, put, is_sorted}
 use Rattle.std.specs.Ordering.{nat_cmp}
@@ -11,7 +12,8 @@ use Rattle.cast_types.specs.Sets.{at_order}
 use Rattle.cast_types.specs.Counts.{CountList, count_of, is_counts}
 use Rattle.cast_types.specs.Stamps.{ClockList}
 
--- the time of one that has heard of no view. A group that is absent from a time has view 0 and no counts
+-- the time of one that has heard of no view. A group that is absent from a time has view 0 and no
+-- counts
 abbrev pub no_time : ClockList
 no_time = []
 
@@ -42,7 +44,9 @@ at_most s t = list_all (λ e. clock_at_most e.1 (clock_of t e.0)) s
 
 -- the order of clocks as a relation: an older view, or the same and no count is greater
 abbrev pub IsAtMost : Clock → Clock → Type 0
-IsAtMost a b = (a.view < b.view) ⊎ ((a.view ≡ b.view) × ((p : Proc) → count_of a.counts p ≤ count_of b.counts p))
+IsAtMost a b =
+    (a.view < b.view)
+    ⊎ ((a.view ≡ b.view) × ((p : Proc) → count_of a.counts p ≤ count_of b.counts p))
 
 -- the maximum of each count
 abbrev pub join_counts : CountList → CountList → CountList
@@ -51,7 +55,9 @@ join_counts c (e ∷ d) = join_counts (put proc_cmp e.0 (max (count_of c e.0) e.
 
 -- the clock of the greater view, or of equal views the maximum of each count
 abbrev pub join_clocks : Clock → Clock → Clock
-join_clocks a b = at_order (nat_cmp a.view b.view) b (record { view = a.view; counts = join_counts a.counts b.counts }) a
+join_clocks a b =
+    at_order (nat_cmp a.view b.view)
+    b (record { view = a.view; counts = join_counts a.counts b.counts }) a
 
 abbrev pub join : ClockList → ClockList → ClockList
 join s [] = s
@@ -65,14 +71,19 @@ clock_has_room c = nat_le (length c.counts) 64
 abbrev pub has_room : ClockList → Bool
 has_room t = list_all (λ e. clock_has_room e.1) t
 
--- clocks in rising order of their groups, each with at most 64 counts of at least 1 in rising order of their processes
+-- clocks in rising order of their groups, each with at most 64 counts of at least 1 in rising order
+-- of their processes
 abbrev pub is_time : ClockList → Bool
 is_time t = is_sorted group_cmp t && list_all (λ e. is_counts e.1.counts) t
 
 -- the time with p's count in g raised by one
 abbrev pub with_bump : ClockList → GroupNo → Proc → ClockList
 with_bump t g p =
-    put group_cmp g (record { view = view_of t g; counts = put proc_cmp p (count_in t g p + 1) (clock_of t g).counts }) t
+    put group_cmp g (record {
+      view = view_of t g;
+      counts = put proc_cmp p (count_in t g p + 1)
+          (clock_of t g).counts;
+    }) t
 
 -- the time of one that enters a view
 abbrev pub entering : ClockList → GroupNo → ℕ → ClockList

@@ -1,10 +1,12 @@
-ghost use Rattle.std.specs.Prelude.{◌≡◌, ◌<◌, ◌≤◌, ◌+◌, IfOk, IsOk, OnOk, OnErr, IsTrue, true, false, nat_lt, unwrap_or, vec_len, vec_capacity};
+ghost use Rattle.std.specs.Prelude.{◌≡◌, ◌<◌, ◌≤◌, ◌+◌, IfOk, IsOk, OnOk, OnErr, IsTrue};
+ghost use Rattle.std.specs.Prelude.{true, false, nat_lt, unwrap_or, vec_len, vec_capacity};
 ghost use Rattle.std.specs.Option.{option_copied};
 ghost use Rattle.std.specs.List.{list_all};
 ghost use Rattle.std.specs.FinMap.Entries.{put, is_sorted};
 ghost use Rattle.cast_types.specs.Names.{group_cmp};
 ghost use Rattle.cast_types.specs.Counts.{is_counts};
-ghost use Rattle.cast_clock.specs.Times.{first_clock, clock_of, view_of, clock_at_most, at_most, join_clocks, clock_has_room, is_time};
+ghost use Rattle.cast_clock.specs.Times.{first_clock, clock_of, view_of, clock_at_most};
+ghost use Rattle.cast_clock.specs.Times.{at_most, join_clocks, clock_has_room, is_time};
 ghost use Rattle.cast_clock.specs.News.{is_known, news, put_all};
 
 use crate::counts::{counts_at_most, covers, join_counts, joins_within};
@@ -84,7 +86,8 @@ fn parts(clock: Option<&Clock>) -> (u32, &[(Proc, u32)])
 
 /// Whether the joined clock has at most 64 counts. Takes no memory.
 pub fn fits_joined(mine: Option<&Clock>, theirs: &Clock) -> bool
-    ensures { result ≡ clock_has_room (join_clocks (unwrap_or (option_copied mine.entry) (first_clock 0)) theirs.now) }
+    ensures { result ≡ clock_has_room
+        (join_clocks (unwrap_or (option_copied mine.entry) (first_clock 0)) theirs.now) }
 {
     let (view, here) = parts(mine);
     let there = theirs.counts.entries();
@@ -98,7 +101,8 @@ pub fn fits_joined(mine: Option<&Clock>, theirs: &Clock) -> bool
 /// Whether each clock, joined with that of its group, has at most 64 counts. Takes no memory.
 pub fn all_fit(mine: &[(GroupNo, Clock)], theirs: &[(GroupNo, Clock)]) -> bool
     requires { is_sorted group_cmp mine.now ≡ true }
-    ensures { result ≡ list_all (λ e. clock_has_room (join_clocks (clock_of mine.now e.0) e.1)) theirs.now }
+    ensures { result
+        ≡ list_all (λ e. clock_has_room (join_clocks (clock_of mine.now e.0) e.1)) theirs.now }
 {
     let mut place = 0;
     for (group, clock) in theirs {
@@ -135,8 +139,10 @@ fn is_known(mine: Option<&Clock>, theirs: &Clock) -> bool
 /// The clock of the greater view, or of equal views the maximum of each count.
 #[tactic(auto, using(crate::proofs::Valid::joined_clock_valid))]
 pub fn join_clock(alloc: Global, mine: Option<&Clock>, theirs: &Clock) -> Result<Clock, NoMemory>
-    requires room { clock_has_room (join_clocks (unwrap_or (option_copied mine) (first_clock 0)) theirs.now) ≡ true }
-    ensures value { IfOk result (λ c. c ≡ join_clocks (unwrap_or (option_copied mine.entry) (first_clock 0)) theirs.now) }
+    requires room { clock_has_room
+        (join_clocks (unwrap_or (option_copied mine) (first_clock 0)) theirs.now) ≡ true }
+    ensures value { IfOk result
+        (λ c. c ≡ join_clocks (unwrap_or (option_copied mine.entry) (first_clock 0)) theirs.now) }
     ensures valid { IfOk result (λ c. IsTrue (is_counts c.counts)) }
 {
     let (view, here) = parts(mine);
@@ -154,7 +160,8 @@ pub fn join_clock(alloc: Global, mine: Option<&Clock>, theirs: &Clock) -> Result
     }
 }
 
-/// The joined clocks of the groups whose clock the join changes. `TooMany`: one of them has more than 64 counts.
+/// The joined clocks of the groups whose clock the join changes. `TooMany`: one of them has more
+/// than 64 counts.
 pub fn news(
     alloc: Global,
     mine: &[(GroupNo, Clock)],
@@ -163,8 +170,12 @@ pub fn news(
     requires { IsTrue (is_time mine.now) }
     ensures value { IfOk result (λ v. v.items ≡ news mine.now theirs.now) }
     ensures valid { IfOk result (λ v. list_all (λ e. is_counts e.1.counts) v.items ≡ true) }
-    ensures fits { OnOk result (list_all (λ e. clock_has_room (join_clocks (clock_of mine.now e.0) e.1)) theirs.now ≡ true) }
-    ensures too_many { result ≡ Err ClockFault.TooMany → list_all (λ e. clock_has_room (join_clocks (clock_of mine.now e.0) e.1)) theirs.now ≡ false }
+    ensures fits { OnOk result
+        (list_all (λ e. clock_has_room (join_clocks (clock_of mine.now e.0) e.1)) theirs.now
+        ≡ true) }
+    ensures too_many { result ≡ Err ClockFault.TooMany
+        → list_all (λ e. clock_has_room (join_clocks (clock_of mine.now e.0) e.1))
+        theirs.now ≡ false }
 {
     let mut news = Vec::new(alloc);
     let mut place = 0;
@@ -198,7 +209,8 @@ pub fn put_all(
     Ok(())
 }
 
-// Sets the clock of a group. Answers the place behind it. The place that is given is looked at first.
+// Sets the clock of a group. Answers the place behind it. The place that is given is looked at
+// first.
 fn put_near(
     clocks: &mut Vec<(GroupNo, Clock)>,
     place: usize,

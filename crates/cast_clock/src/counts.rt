@@ -1,4 +1,5 @@
-ghost use Rattle.std.specs.Prelude.{◌≡◌, ◌≤◌, length, IfOk, IsTrue, OnOk, max, true, nat_le, not, is_some, count_by};
+ghost use Rattle.std.specs.Prelude.{◌≡◌, ◌≤◌, length, IfOk, IsTrue, OnOk, max};
+ghost use Rattle.std.specs.Prelude.{true, nat_le, not, is_some, count_by};
 ghost use Rattle.std.specs.FinMap.Entries.{find, put, is_sorted};
 ghost use Rattle.cast_types.specs.Names.{proc_cmp};
 ghost use Rattle.cast_types.specs.Counts.{count_of, is_counts};
@@ -43,7 +44,8 @@ pub fn covers(mine: &[(Proc, u32)], theirs: &[(Proc, u32)]) -> bool
     true
 }
 
-/// Whether the join of two has at most 64 counts, as it always has where both together have no more. Takes no memory.
+/// Whether the join of two has at most 64 counts, as it always has where both together have no
+/// more. Takes no memory.
 pub fn joins_within(mine: &[(Proc, u32)], theirs: &[(Proc, u32)]) -> bool
     requires mine { IsTrue (is_counts mine.now) }
     requires theirs { IsTrue (is_counts theirs.now) }
@@ -108,8 +110,8 @@ pub fn join_counts(
     Ok(Counts::from_entries(joined))
 }
 
-// Raises the count of a process to this one, where that is greater. Answers the place behind it. The place that is given
-// is looked at first.
+// Raises the count of a process to this one, where that is greater. Answers the place behind it.
+// The place that is given is looked at first.
 fn raise_near(
     counts: &mut Vec<(Proc, u32)>,
     place: usize,
@@ -117,7 +119,8 @@ fn raise_near(
     count: u32,
 ) -> Result<usize, NoMemory>
     requires { is_sorted proc_cmp counts.old.items ≡ true }
-    ensures { OnOk result (counts.new.items ≡ put proc_cmp process (max (count_of counts.old.items process) count) counts.old.items) }
+    ensures { OnOk result (counts.new.items
+        ≡ put proc_cmp process (max (count_of counts.old.items process) count) counts.old.items) }
 {
     match place_near(counts, place, &process) {
         Ok(at) => {

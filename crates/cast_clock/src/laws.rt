@@ -1,6 +1,10 @@
-ghost use Rattle.cast_clock.specs.Laws.{CountsJoin, ClocksJoin, OrderIsPointwise, OrderIsReflexive, OrderIsTransitive, JoinIsAbove, JoinIsLeast, BumpRaises, BumpLeavesCounts, BumpLeavesViews, EnterBegins, EnterLeaves, JoinIsTime, BumpIsTime, EnterIsTime};
+ghost use Rattle.cast_clock.specs.Laws.{CountsJoin, ClocksJoin, OrderIsPointwise, OrderIsReflexive};
+ghost use Rattle.cast_clock.specs.Laws.{OrderIsTransitive, JoinIsAbove, JoinIsLeast, BumpRaises};
+ghost use Rattle.cast_clock.specs.Laws.{BumpLeavesCounts, BumpLeavesViews, EnterBegins};
+ghost use Rattle.cast_clock.specs.Laws.{EnterLeaves, JoinIsTime, BumpIsTime, EnterIsTime};
 
-/// Each clock of a join is the join of the two clocks, and each of its counts in a view the greater of the two.
+/// Each clock of a join is the join of the two clocks, and each of its counts in a view the greater
+/// of the two.
 pub fn join_is_pointwise()
     ensures counts { CountsJoin }
     ensures clocks { ClocksJoin }
@@ -32,7 +36,8 @@ pub fn enter_begins_one()
     ensures others { EnterLeaves }
 {}
 
-/// What is joined, bumped or entered of times is a time again, where no group has more than 64 counts.
+/// What is joined, bumped or entered of times is a time again, where no group has more than 64
+/// counts.
 pub fn times_stay_times()
     ensures joined { JoinIsTime }
     ensures bumped { BumpIsTime }

@@ -3,8 +3,9 @@ ghost use Rattle.std.specs.Option.{option_copied};
 ghost use Rattle.std.specs.List.Sorted.{IsSearchInRange, IsBinarySearchResult};
 ghost use Rattle.std.specs.FinMap.Entries.{find, is_sorted};
 
-/// The place of a key among entries in rising order of their keys, or the place where it would stand. The place that is
-/// given is looked at first: where keys are asked for in rising order, each mostly stands behind the one before.
+/// The place of a key among entries in rising order of their keys, or the place where it would
+/// stand. The place that is given is looked at first: where keys are asked for in rising order,
+/// each mostly stands behind the one before.
 pub fn place_near<K: Ord + Copy, V>(
     entries: &[(K, V)],
     place: usize,
@@ -19,7 +20,8 @@ pub fn place_near<K: Ord + Copy, V>(
     place_by_halving(entries, key)
 }
 
-// The same, found by halving. It stays out of line, so that loops in which the given place is mostly right are small.
+// The same, found by halving. It stays out of line, so that loops in which the given place is
+// mostly right are small.
 #[inline(never)]
 fn place_by_halving<K: Ord + Copy, V>(entries: &[(K, V)], key: &K) -> Result<usize, usize>
     ensures bound { IsSearchInRange result (length entries.now) }

@@ -1,10 +1,12 @@
-ghost use Rattle.std.specs.Prelude.{◌≡◌, ◌<◌, ◌↔◌, true, false, IfOk, OnOk, OnErr, IsTrue, Some, None, if◌then◌else◌};
+ghost use Rattle.std.specs.Prelude.{◌≡◌, ◌<◌, ◌↔◌, true, false, IfOk, OnOk};
+ghost use Rattle.std.specs.Prelude.{OnErr, IsTrue, Some, None, if◌then◌else◌};
 ghost use Rattle.std.specs.Option.{option_copied};
 ghost use Rattle.std.specs.FinMap.Entries.{find, is_sorted};
 ghost use Rattle.cast_types.specs.declared.names.GroupNo.{GroupNo};
 ghost use Rattle.cast_types.specs.Names.{group_cmp};
 ghost use Rattle.cast_types.specs.Stamps.{is_stamp};
-ghost use Rattle.cast_clock.specs.Times.{no_time, view_of, count_in, with_bump, entering, join, has_room, at_most, is_time, clock_of, IsAtMost};
+ghost use Rattle.cast_clock.specs.Times.{no_time, view_of, count_in, with_bump, entering};
+ghost use Rattle.cast_clock.specs.Times.{join, has_room, at_most, is_time, clock_of, IsAtMost};
 
 use crate::clocks::{
     all_at_most, all_fit, all_viewed, clock_among, counts_among, news, put_all, view_among,
@@ -17,8 +19,8 @@ use cast_types::{Clock, Counts, GroupNo, NoMemory, Proc, Stamp, sorted};
 use std::alloc::Global;
 use std::marker::Model;
 
-/// A vector time: for each group a view and the counts of its processes, view 0 and no counts where none is kept.
-/// Contracts see the list of clocks in rising order of their groups.
+/// A vector time: for each group a view and the counts of its processes, view 0 and no counts where
+/// none is kept. Contracts see the list of clocks in rising order of their groups.
 #[derive(Drop)]
 pub struct Times {
     clocks: Vec<(GroupNo, Clock)>,
@@ -77,13 +79,14 @@ impl Times {
         count_among(counts_among(&self.clocks, group), process)
     }
 
-    /// Raises the count of a process in a group by one. `TooMany`: the group has 64 counts of other processes.
-    /// An error changes nothing.
+    /// Raises the count of a process in a group by one. `TooMany`: the group has 64 counts of other
+    /// processes. An error changes nothing.
     pub fn bump(&mut self, group: GroupNo, process: Proc) -> Result<(), ClockFault>
         requires { count_in self.old group process < 4294967295 }
         ensures ok { OnOk result (self.new ≡ with_bump self.old group process) }
         ensures fits { OnOk result (has_room (with_bump self.old group process) ≡ true) }
-        ensures too_many { result ≡ Err ClockFault.TooMany → has_room (with_bump self.old group process) ≡ false }
+        ensures too_many { result ≡ Err ClockFault.TooMany
+            → has_room (with_bump self.old group process) ≡ false }
         ensures err { OnErr result (self.new ≡ self.old) }
     {
         let mut clock = clock_among(*self.clocks.allocator(), &self.clocks, group)?;
@@ -116,11 +119,13 @@ impl Times {
         all_fit(&self.clocks, stamp.clocks())
     }
 
-    /// Joins the time with a stamp. `TooMany`: a group of the join has more than 64 counts. An error changes nothing.
+    /// Joins the time with a stamp. `TooMany`: a group of the join has more than 64 counts. An
+    /// error changes nothing.
     pub fn merge(&mut self, stamp: &Stamp) -> Result<(), ClockFault>
         ensures ok { OnOk result (self.new ≡ join self.old stamp.now) }
         ensures fits { OnOk result (has_room (join self.old stamp.now) ≡ true) }
-        ensures too_many { result ≡ Err ClockFault.TooMany → has_room (join self.old stamp.now) ≡ false }
+        ensures too_many { result ≡ Err ClockFault.TooMany
+            → has_room (join self.old stamp.now) ≡ false }
         ensures err { OnErr result (self.new ≡ self.old) }
     {
         let news = news(*self.clocks.allocator(), &self.clocks, stamp.clocks())?;
@@ -128,16 +133,18 @@ impl Times {
         Ok(())
     }
 
-    /// Whether each clock is at most the other time's: an older view, or the same view with no count greater.
-    /// Takes no memory.
+    /// Whether each clock is at most the other time's: an older view, or the same view with no
+    /// count greater. Takes no memory.
     pub fn at_most(&self, other: &Times) -> bool
         ensures value { result ≡ at_most self.now other.now }
-        ensures order { IsTrue result ↔ ((g : GroupNo) → IsAtMost (clock_of self.now g) (clock_of other.now g)) }
+        ensures order { IsTrue result
+            ↔ ((g : GroupNo) → IsAtMost (clock_of self.now g) (clock_of other.now g)) }
     {
         all_at_most(&self.clocks, &other.clocks)
     }
 
-    /// The time as a message's stamp, `None` where it has no spelling: no clock, more than 32, or one of view 0.
+    /// The time as a message's stamp, `None` where it has no spelling: no clock, more than 32, or
+    /// one of view 0.
     pub fn stamp(&self) -> Result<Option<Stamp>, NoMemory>
         ensures { IfOk result (λ o. o ≡ (if is_stamp self.now then Some self.now else None)) }
     {

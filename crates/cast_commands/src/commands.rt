@@ -1,6 +1,9 @@
-ghost use Rattle.std.specs.Prelude.{◌≡◌, ◌<◌, IfOk, length, ◌≤◌, None, OnOk, vec_len, ◌||◌, ◌==◌, not, ◌+◌, Some};
-ghost use Rattle.cast_rules.specs.Rules.Commands.{body_of, cast, leave, cast_at, commanded, join, join_at, pass_at, pass_token, requested};
-ghost use Rattle.cast_domain.specs.Records.{number_of, KeepsBeside, records_in, Makes, own_records, Attempts};
+ghost use Rattle.std.specs.Prelude.{◌≡◌, ◌<◌, IfOk, length, ◌≤◌, None, OnOk};
+ghost use Rattle.std.specs.Prelude.{vec_len, ◌||◌, ◌==◌, not, ◌+◌, Some};
+ghost use Rattle.cast_rules.specs.Rules.Commands.{body_of, cast, leave, cast_at, commanded};
+ghost use Rattle.cast_rules.specs.Rules.Commands.{join, join_at, pass_at, pass_token, requested};
+ghost use Rattle.cast_domain.specs.Records.{number_of, KeepsBeside, records_in};
+ghost use Rattle.cast_domain.specs.Records.{Makes, own_records, Attempts};
 ghost use Rattle.cast_domain.specs.PartCalls.{time_of};
 ghost use Rattle.cast_domain.specs.ReleaseCalls.{place_to_pass_of};
 ghost use Rattle.cast_domain.specs.Calls.{records, answered_in};
@@ -32,9 +35,11 @@ pub fn command(
     command: &Command,
     lent: &mut Lent<'_>,
 ) -> Result<Taken, NoMemory>
-    ensures answer { IfOk result (λ t. t ≡ answered_in (records_in domain.old lent.old) (event.Command (number_of domain.old) serial command.now)) }
+    ensures answer { IfOk result (λ t. t ≡ answered_in (records_in domain.old lent.old)
+        (event.Command (number_of domain.old) serial command.now)) }
     ensures stays { KeepsBeside domain.old lent.old domain.new lent.new }
-    ensures made { OnOk result (Makes (λ r. commanded records r serial command.now) domain.old lent.old domain.new lent.new) }
+    ensures made { OnOk result (Makes (λ r. commanded records r serial command.now)
+        domain.old lent.old domain.new lent.new) }
 {
     if !domain.is_open(serial) {
         return Ok(Taken::Refused(Refusal::NotOpen));
@@ -54,7 +59,8 @@ fn serve_request(
     lent: &mut Lent<'_>,
 ) -> Result<(), NoMemory>
     ensures stays { KeepsBeside domain.old lent.old domain.new lent.new }
-    ensures made { OnOk result (Makes (λ r. requested records r serial request.now) domain.old lent.old domain.new lent.new) }
+    ensures made { OnOk result (Makes (λ r. requested records r serial request.now)
+        domain.old lent.old domain.new lent.new) }
 {
     match request {
         Request::Join { group, .. } => {
@@ -89,7 +95,8 @@ fn join(
     lent: &mut Lent<'_>,
 ) -> Result<Option<Refusal>, NoMemory>
     ensures stays { KeepsBeside domain.old lent.old domain.new lent.new }
-    ensures made { IfOk result (Attempts (λ r. join records r serial group) domain.old lent.old domain.new lent.new) }
+    ensures made { IfOk result
+        (Attempts (λ r. join records r serial group) domain.old lent.old domain.new lent.new) }
 {
     match domain.place_of(group) {
         Some(place) => join_at(domain, place, serial, group, lent),
@@ -107,7 +114,8 @@ fn join_at(
 ) -> Result<Option<Refusal>, NoMemory>
     requires { place < vec_len domain.old.groups }
     ensures stays { KeepsBeside domain.old lent.old domain.new lent.new }
-    ensures made { IfOk result (Attempts (λ r. join_at records r serial group place) domain.old lent.old domain.new lent.new) }
+    ensures made { IfOk result (Attempts (λ r. join_at records r serial group place)
+        domain.old lent.old domain.new lent.new) }
 {
     let process = domain.process(serial);
     match domain.delay.standing(process, group) {
@@ -147,7 +155,8 @@ fn leave(
     lent: &mut Lent<'_>,
 ) -> Result<Option<Refusal>, NoMemory>
     ensures stays { KeepsBeside domain.old lent.old domain.new lent.new }
-    ensures made { IfOk result (Attempts (λ r. leave records r serial group) domain.old lent.old domain.new lent.new) }
+    ensures made { IfOk result
+        (Attempts (λ r. leave records r serial group) domain.old lent.old domain.new lent.new) }
 {
     match domain.place_of(group) {
         Some(place) => domain.leave_at(place, serial, group, lent),
@@ -165,7 +174,8 @@ fn cast(
     lent: &mut Lent<'_>,
 ) -> Result<Option<Refusal>, NoMemory>
     ensures stays { KeepsBeside domain.old lent.old domain.new lent.new }
-    ensures made { IfOk result (Attempts (λ r. cast records r serial group kind payload.now) domain.old lent.old domain.new lent.new) }
+    ensures made { IfOk result (Attempts (λ r. cast records r serial group kind payload.now)
+        domain.old lent.old domain.new lent.new) }
 {
     match domain.place_of(group) {
         Some(place) => cast_at(domain, place, serial, group, kind, payload, lent),
@@ -185,7 +195,8 @@ fn cast_at(
 ) -> Result<Option<Refusal>, NoMemory>
     requires { at < vec_len domain.old.groups }
     ensures stays { KeepsBeside domain.old lent.old domain.new lent.new }
-    ensures made { IfOk result (Attempts (λ r. cast_at records r serial group kind payload.now at) domain.old lent.old domain.new lent.new) }
+    ensures made { IfOk result (Attempts (λ r. cast_at records r serial group kind payload.now at)
+        domain.old lent.old domain.new lent.new) }
 {
     let process = domain.process(serial);
     if payload.len() > MAX_PAYLOAD {
@@ -235,7 +246,8 @@ fn pass_token(
     lent: &mut Lent<'_>,
 ) -> Result<Option<Refusal>, NoMemory>
     ensures stays { KeepsBeside domain.old lent.old domain.new lent.new }
-    ensures made { IfOk result (Attempts (λ r. pass_token records r serial group «to») domain.old lent.old domain.new lent.new) }
+    ensures made { IfOk result (Attempts (λ r. pass_token records r serial group «to»)
+        domain.old lent.old domain.new lent.new) }
 {
     match domain.place_of(group) {
         Some(place) => pass_at(domain, place, serial, group, to, lent),
@@ -254,7 +266,8 @@ fn pass_at(
 ) -> Result<Option<Refusal>, NoMemory>
     requires { at < vec_len domain.old.groups }
     ensures stays { KeepsBeside domain.old lent.old domain.new lent.new }
-    ensures made { IfOk result (Attempts (λ r. pass_at records r serial group «to» at) domain.old lent.old domain.new lent.new) }
+    ensures made { IfOk result (Attempts (λ r. pass_at records r serial group «to» at)
+        domain.old lent.old domain.new lent.new) }
 {
     let process = domain.process(serial);
     match domain.delay.standing(process, group) {

@@ -1,6 +1,8 @@
 ghost use Rattle.std.specs.Prelude.{◌≡◌, ◌<◌, IfOk, OnOk, ◌&&◌, ◌||◌, ◌==◌, take, ◌+◌};
-ghost use Rattle.cast_domain.specs.Records.{number_of, GivesBack, Keeps, KeepsBeside, records_in, Makes, MakesAlone, own_records, TellsAlone};
-ghost use Rattle.cast_domain.specs.Calls.{acted_in, records, answered_in, open_in, records_sessions};
+ghost use Rattle.cast_domain.specs.Records.{number_of, GivesBack, Keeps, KeepsBeside, records_in};
+ghost use Rattle.cast_domain.specs.Records.{Makes, MakesAlone, own_records, TellsAlone};
+ghost use Rattle.cast_domain.specs.Calls.{acted_in, records, answered_in};
+ghost use Rattle.cast_domain.specs.Calls.{open_in, records_sessions};
 ghost use Rattle.cast_rules.specs.Rules.Events.{may_open, opened, took};
 ghost use Rattle.cast_events.specs.declared.event.Event.TheVariants as event;
 
@@ -15,10 +17,14 @@ use cast_types::{NoMemory, Refusal};
 
 // A program connects.
 pub fn open(domain: &mut Domain, lent: &mut Lent<'_>) -> Result<Taken, NoMemory>
-    ensures answer { IfOk result (λ t. t ≡ answered_in (records_in domain.old lent.old) (event.Open (number_of domain.old))) }
-    ensures same { (domain.new.site ≡ domain.old.site) × (domain.new.config ≡ domain.old.config) × (domain.new.halted ≡ domain.old.halted) }
+    ensures answer { IfOk result (λ t.
+        t ≡ answered_in (records_in domain.old lent.old) (event.Open (number_of domain.old))) }
+    ensures same { (domain.new.site ≡ domain.old.site)
+        × (domain.new.config ≡ domain.old.config)
+        × (domain.new.halted ≡ domain.old.halted) }
     ensures back { GivesBack domain.old.config.domain lent.old lent.new }
-    ensures made { OnOk result (Makes (opened records records_sessions) domain.old lent.old domain.new lent.new) }
+    ensures made { OnOk result
+        (Makes (opened records records_sessions) domain.old lent.old domain.new lent.new) }
 {
     if !may_open(domain) {
         return Ok(Taken::Refused(Refusal::TooManySessions));
@@ -38,7 +44,9 @@ fn may_open(domain: &Domain) -> bool
 // Opens the session of the next serial: its outbox begins with the name of its process.
 fn open_next(domain: &mut Domain, serial: u32, lent: &mut Lent<'_>) -> Result<(), NoMemory>
     requires { serial ≡ domain.old.sessions.used + 1 }
-    ensures same { (domain.new.site ≡ domain.old.site) × (domain.new.config ≡ domain.old.config) × (domain.new.halted ≡ domain.old.halted) }
+    ensures same { (domain.new.site ≡ domain.old.site)
+        × (domain.new.config ≡ domain.old.config)
+        × (domain.new.halted ≡ domain.old.halted) }
     ensures back { GivesBack domain.old.config.domain lent.old lent.new }
     ensures made { OnOk result (Makes open_in domain.old lent.old domain.new lent.new) }
 {
@@ -59,9 +67,11 @@ pub fn take(
     most: u32,
     lent: &mut Lent<'_>,
 ) -> Result<Taken, NoMemory>
-    ensures answer { IfOk result (λ t. t ≡ answered_in (records_in domain.old lent.old) (event.Take (number_of domain.old) serial most)) }
+    ensures answer { IfOk result (λ t. t ≡ answered_in (records_in domain.old lent.old)
+        (event.Take (number_of domain.old) serial most)) }
     ensures stays { KeepsBeside domain.old lent.old domain.new lent.new }
-    ensures made { OnOk result (Makes (λ r. took records records_sessions r serial most) domain.old lent.old domain.new lent.new) }
+    ensures made { OnOk result (Makes (λ r. took records records_sessions r serial most)
+        domain.old lent.old domain.new lent.new) }
 {
     if is_gone(domain, serial) {
         return Ok(Taken::Refused(Refusal::NotOpen));
@@ -75,9 +85,11 @@ pub fn take(
 
 // Gives a quota another value, if that is in its range.
 pub fn set_quota(domain: &mut Domain, name: QuotaName, value: u32) -> Taken
-    ensures answer { result ≡ answered_in (own_records domain.old) (event.Quota (number_of domain.old) name value) }
+    ensures answer { result
+        ≡ answered_in (own_records domain.old) (event.Quota (number_of domain.old) name value) }
     ensures kept { Keeps domain.old domain.new }
-    ensures made { MakesAlone (λ r. acted_in r (event.Quota (number_of domain.old) name value)) domain.old domain.new }
+    ensures made { MakesAlone (λ r. acted_in r (event.Quota (number_of domain.old) name value))
+        domain.old domain.new }
 {
     match domain.quotas.set(name, value) {
         Ok(()) => Taken::Nothing,

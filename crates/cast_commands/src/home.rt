@@ -1,6 +1,7 @@
 ghost use Rattle.std.specs.Prelude.{◌≡◌, ◌<◌, ◌&&◌, ◌==◌, OnOk, vec_len, not};
 ghost use Rattle.cast_types.specs.Sets.{is_among};
-ghost use Rattle.cast_rules.specs.Rules.Home.{want_eq, wants, drop_want, drop_wants, release_site, suspect, suspect_in};
+ghost use Rattle.cast_rules.specs.Rules.Home.{want_eq, wants, drop_want, drop_wants};
+ghost use Rattle.cast_rules.specs.Rules.Home.{release_site, suspect, suspect_in};
 ghost use Rattle.cast_domain.specs.Records.{GivesBack, KeepsBeside, Makes};
 ghost use Rattle.cast_domain.specs.Calls.{records};
 ghost use Rattle.std.specs.List.{fold};
@@ -17,7 +18,8 @@ use cast_view::is_among;
 // A site is suspected: at the home nothing is awaited from it any more.
 pub fn suspect(domain: &mut Domain, site: SiteNo, lent: &mut Lent<'_>) -> Result<(), NoMemory>
     ensures stays { KeepsBeside domain.old lent.old domain.new lent.new }
-    ensures made { OnOk result (Makes (λ r. suspect records r site) domain.old lent.old domain.new lent.new) }
+    ensures made { OnOk result
+        (Makes (λ r. suspect records r site) domain.old lent.old domain.new lent.new) }
 {
     if domain.is_home() {
         for place in 0..domain.groups.len() {
@@ -27,7 +29,8 @@ pub fn suspect(domain: &mut Domain, site: SiteNo, lent: &mut Lent<'_>) -> Result
     Ok(())
 }
 
-// At the home of the group at a place a site is suspected, and what is not wanted without it is owed no more.
+// At the home of the group at a place a site is suspected, and what is not wanted without it is
+// owed no more.
 fn suspect_in(
     domain: &mut Domain,
     place: usize,
@@ -36,7 +39,8 @@ fn suspect_in(
 ) -> Result<(), NoMemory>
     requires { place < vec_len domain.old.groups }
     ensures stays { KeepsBeside domain.old lent.old domain.new lent.new }
-    ensures made { OnOk result (Makes (λ r. suspect_in records site r place) domain.old lent.old domain.new lent.new) }
+    ensures made { OnOk result
+        (Makes (λ r. suspect_in records site r place) domain.old lent.old domain.new lent.new) }
     ensures len { vec_len domain.new.groups ≡ vec_len domain.old.groups }
 {
     let wanted = domain.wants(place)?;
@@ -50,7 +54,8 @@ fn suspect_in(
 fn release_site(domain: &Domain, place: usize, site: SiteNo, lent: &mut Lent<'_>)
     requires { place < vec_len domain.now.groups }
     ensures back { GivesBack domain.now.config.domain lent.old lent.new }
-    ensures made { Makes (λ r. release_site records r place site) domain.now lent.old domain.now lent.new }
+    ensures made { Makes (λ r. release_site records r place site)
+        domain.now lent.old domain.now lent.new }
 {
     let group = domain.record(place).name;
     domain.pay(&home_key(OwedKind::Prepare, group, site), lent);
@@ -66,7 +71,8 @@ fn drop_wants(
 ) -> Result<(), NoMemory>
     requires { place < vec_len domain.now.groups }
     ensures back { GivesBack domain.now.config.domain lent.old lent.new }
-    ensures made { OnOk result (Makes (λ r. drop_wants records r place before.now) domain.now lent.old domain.now lent.new) }
+    ensures made { OnOk result (Makes (λ r. drop_wants records r place before.now)
+        domain.now lent.old domain.now lent.new) }
 {
     let still = domain.wants(place)?;
     drop_all(domain, place, still.as_slice(), before, lent);
@@ -83,7 +89,8 @@ fn drop_all(
 )
     requires { place < vec_len domain.now.groups }
     ensures back { GivesBack domain.now.config.domain lent.old lent.new }
-    ensures made { Makes (λ r. fold (drop_want records place still.now) r before.now) domain.now lent.old domain.now lent.new }
+    ensures made { Makes (λ r. fold (drop_want records place still.now) r before.now)
+        domain.now lent.old domain.now lent.new }
 {
     for wanted in before {
         drop_want(domain, place, still, *wanted, lent);
@@ -100,7 +107,8 @@ fn drop_want(
 )
     requires { place < vec_len domain.now.groups }
     ensures back { GivesBack domain.now.config.domain lent.old lent.new }
-    ensures made { Makes (λ r. drop_want records place still.now r wanted) domain.now lent.old domain.now lent.new }
+    ensures made { Makes (λ r. drop_want records place still.now r wanted)
+        domain.now lent.old domain.now lent.new }
 {
     if !is_wanted(wanted, still) {
         domain.pay(&want_key(domain.record(place).name, wanted), lent);

@@ -11,11 +11,14 @@ use cast_domain::lent::Lent;
 use cast_events::Taken;
 use cast_types::{NoMemory, Refusal};
 
-// The program of a session is gone: its process leaves all its groups, and is dismissed, and its outbox is dropped.
+// The program of a session is gone: its process leaves all its groups, and is dismissed, and its
+// outbox is dropped.
 pub fn end_session(domain: &mut Domain, serial: u32, lent: &mut Lent<'_>) -> Result<Taken, NoMemory>
-    ensures answer { IfOk result (λ t. t ≡ answered_in (records_in domain.old lent.old) (event.Gone (number_of domain.old) serial)) }
+    ensures answer { IfOk result (λ t. t
+        ≡ answered_in (records_in domain.old lent.old) (event.Gone (number_of domain.old) serial)) }
     ensures stays { KeepsBeside domain.old lent.old domain.new lent.new }
-    ensures made { OnOk result (Makes (λ r. end_in r serial) domain.old lent.old domain.new lent.new) }
+    ensures made { OnOk result
+        (Makes (λ r. end_in r serial) domain.old lent.old domain.new lent.new) }
 {
     if is_gone(domain, serial) {
         return Ok(Taken::Refused(Refusal::NotOpen));

@@ -17,17 +17,19 @@ use cast_types::{NoMemory, SiteNo};
 // Time passes: the moment is at least this one, and what is due is sent again.
 pub fn tick(domain: &mut Domain, millis: u64, lent: &mut Lent<'_>) -> Result<(), NoMemory>
     ensures stays { KeepsBeside domain.old lent.old domain.new lent.new }
-    ensures made { OnOk result (Makes (λ r. tick records r millis) domain.old lent.old domain.new lent.new) }
+    ensures made { OnOk result
+        (Makes (λ r. tick records r millis) domain.old lent.old domain.new lent.new) }
 {
     domain.moment.reach(millis);
     resend_due(domain, lent)
 }
 
-// Sends all frames that are due again, in their order, and then owes them all for the next moment: what is sent does not
-// hang on what is owed.
+// Sends all frames that are due again, in their order, and then owes them all for the next moment:
+// what is sent does not hang on what is owed.
 fn resend_due(domain: &Domain, lent: &mut Lent<'_>) -> Result<(), NoMemory>
     ensures back { GivesBack domain.now.config.domain lent.old lent.new }
-    ensures made { OnOk result (Makes (resend_due records) domain.now lent.old domain.now lent.new) }
+    ensures made { OnOk result
+        (Makes (resend_due records) domain.now lent.old domain.now lent.new) }
 {
     let now = domain.moment.millis();
     let keys = lent.shared.timers.due(domain.config.domain, now)?;
@@ -39,7 +41,8 @@ fn resend_due(domain: &Domain, lent: &mut Lent<'_>) -> Result<(), NoMemory>
 // Sends the frames that keys stand for, in their order.
 fn send_all(domain: &Domain, keys: Vec<OwedKey>, lent: &mut Lent<'_>) -> Result<(), NoMemory>
     ensures back { GivesBack domain.now.config.domain lent.old lent.new }
-    ensures made { OnOk result (Makes (λ r. fold (send_for records) r keys.items) domain.now lent.old domain.now lent.new) }
+    ensures made { OnOk result (Makes (λ r. fold (send_for records) r keys.items)
+        domain.now lent.old domain.now lent.new) }
 {
     let mut last = None;
     for key in keys {
@@ -48,8 +51,9 @@ fn send_all(domain: &Domain, keys: Vec<OwedKey>, lent: &mut Lent<'_>) -> Result<
     Ok(())
 }
 
-// Sends the frame that a key stands for, behind the one that was sent last, and gives it with its key. The keys of a message
-// that goes to many sites stand next to each other, so that it is looked for once.
+// Sends the frame that a key stands for, behind the one that was sent last, and gives it with its
+// key. The keys of a message that goes to many sites stand next to each other, so that it is looked
+// for once.
 fn send_behind(
     domain: &Domain,
     key: OwedKey,
@@ -58,7 +62,8 @@ fn send_behind(
 ) -> Result<Option<(OwedKey, SiteFrame)>, NoMemory>
     requires stands { IsFrameOf (records_in domain.now lent.old) last }
     ensures back { GivesBack domain.now.config.domain lent.old lent.new }
-    ensures made { OnOk result (Makes (λ r. send_for records r key) domain.now lent.old domain.now lent.new) }
+    ensures made { OnOk result
+        (Makes (λ r. send_for records r key) domain.now lent.old domain.now lent.new) }
     ensures stands { IfOk result (IsFrameOf (records_in domain.now lent.new)) }
 {
     let found = frame_behind(domain, key, last, lent)?;
@@ -75,7 +80,8 @@ fn frame_behind(
 ) -> Result<Option<(OwedKey, SiteFrame)>, NoMemory>
     requires stands { IsFrameOf (records_in domain.now lent.now) last }
     ensures stands { IfOk result (IsFrameOf (records_in domain.now lent.now)) }
-    ensures frame { IfOk result (λ f. option_map (λ l. l.1) f ≡ frame_for records (records_in domain.now lent.now) key) }
+    ensures frame { IfOk result
+        (λ f. option_map (λ l. l.1) f ≡ frame_for records (records_in domain.now lent.now) key) }
 {
     match last {
         Some((other, frame)) if key.is_same_message(&other) => Ok(Some((other, frame))),
@@ -91,7 +97,8 @@ fn send_found(
     lent: &mut Lent<'_>,
 ) -> Result<(), NoMemory>
     ensures back { GivesBack domain.now.config.domain lent.old lent.new }
-    ensures made { OnOk result (Makes (λ r. option_map_or (λ l. send_in r to l.1) found.now r) domain.now lent.old domain.now lent.new) }
+    ensures made { OnOk result (Makes (λ r. option_map_or (λ l. send_in r to l.1) found.now r)
+        domain.now lent.old domain.now lent.new) }
 {
     match found {
         Some((_, frame)) => domain.send(lent.outs, to, frame.copy()?),
@@ -105,7 +112,8 @@ fn frame_with_key(
     key: OwedKey,
     lent: &Lent<'_>,
 ) -> Result<Option<(OwedKey, SiteFrame)>, NoMemory>
-    ensures { IfOk result (λ f. f ≡ option_map (λ x. (key, x)) (frame_for records (records_in domain.now lent.now) key)) }
+    ensures { IfOk result (λ f.
+        f ≡ option_map (λ x. (key, x)) (frame_for records (records_in domain.now lent.now) key)) }
 {
     match domain.frame_for(&key, lent)? {
         Some(frame) => Ok(Some((key, frame))),

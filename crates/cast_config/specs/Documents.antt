@@ -1,5 +1,6 @@
 -- What a document gives a site: its tests in order, and the set-up where it passes them.
-use Rattle.std.specs.Prelude.{ℕ, Bool, true, not, ◌&&◌, ◌==◌, if◌then◌else◌, List, [], ◌∷◌, filter, length, map, Option, Some, None, Result, Ok, Err}
+use Rattle.std.specs.Prelude.{ℕ, Bool, true, not, ◌&&◌, ◌==◌, if◌then◌else◌, List, [], ◌∷◌}
+use Rattle.std.specs.Prelude.{filter, length, map, Option, Some, None, Result, Ok, Err}
 use Rattle.std.specs.List.{list_all, list_any}
 use Rattle.toml.specs.Data.{Data, Members}
 use Rattle.toml.specs.Parse.{parse_document}
@@ -75,7 +76,8 @@ placed sites d =
     else Err (fault field.Home NotListed)
 
 -- the numbers of the domains are all different, and each is placed
-unfoldable pub checked_domains : List SiteAddress → List DomainEntry → Result (List DomainEntry) ConfigFault
+unfoldable pub checked_domains : List SiteAddress → List DomainEntry
+    → Result (List DomainEntry) ConfigFault
 checked_domains sites domains =
     if not (are_distinct (domain_numbers domains)) then Err (fault field.Number Repeated)
     else do
@@ -111,8 +113,10 @@ network_found (Some d) = do
 unfoldable pub network_at : Members → Result Network ConfigFault
 network_at members = network_found (at_field field.Network members)
 
--- the set-up of a site with these domains, of which there have to be some, and then with the network of the document
-unfoldable pub given : SiteNo → Members → List SiteAddress → List DomainEntry → Result Setup ConfigFault
+-- the set-up of a site with these domains, of which there have to be some, and then with the
+-- network of the document
+unfoldable pub given : SiteNo → Members → List SiteAddress → List DomainEntry
+    → Result Setup ConfigFault
 given own document sites [] = Err (fault field.Domain Range)
 given own document sites (d ∷ ds) = do
   network ← network_at document
@@ -124,8 +128,10 @@ given own document sites (d ∷ ds) = do
     delay = network.delay;
   })
 
--- from the tables of sites and domains: first the sites, then how many domains there are, then the domains, then the network
-unfoldable pub tables_give : SiteNo → Members → List Members → List Members → Result Setup ConfigFault
+-- from the tables of sites and domains: first the sites, then how many domains there are, then the
+-- domains, then the network
+unfoldable pub tables_give : SiteNo → Members → List Members → List Members
+    → Result Setup ConfigFault
 tables_give own members site_tables domain_tables = do
   sites ← sites_of own site_tables
   few ← counted field.Domain 16 (length domain_tables)

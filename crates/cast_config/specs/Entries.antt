@@ -8,7 +8,9 @@ use Rattle.cast_script.specs.WordReadings.{◌>>=◌}
 use Rattle.cast_config.specs.declared.domains.DomainEntry.{DomainEntry}
 use Rattle.cast_config.specs.declared.network.Network.{Network}
 use Rattle.cast_config.specs.declared.sites.SiteAddress.{SiteAddress}
-use Rattle.cast_config.specs.declared.fault.Field.TheVariants.{Number, Address, Home, Sites, Groups, Socket, Sessions, Held, Outbox, Resend, Bundle, Datagram, Delay}
+use Rattle.cast_config.specs.declared.fault.Field.TheVariants.{Number, Address, Home, Sites, Groups}
+use Rattle.cast_config.specs.declared.fault.Field.TheVariants.{Socket, Sessions, Held, Outbox}
+use Rattle.cast_config.specs.declared.fault.Field.TheVariants.{Resend, Bundle, Datagram, Delay}
 use Rattle.cast_config.specs.declared.fault.ConfigFault.{ConfigFault}
 use Rattle.cast_config.specs.Fields.{boolean_at, number_at, number_at_or, numbers_at, text_at}
 
@@ -44,11 +46,18 @@ domain_of members = do
   path ← text_at Socket members
   quotas ← quotas_of members
   Ok (record {
-    config = record { domain = record { 0 = n }; home = record { 0 = home }; sites = sites_from sites; groups = groups_from groups; quotas = quotas };
+    config = record {
+      domain = record { 0 = n };
+      home = record { 0 = home };
+      sites = sites_from sites;
+      groups = groups_from groups;
+      quotas = quotas;
+    };
     socket = path;
   })
 
--- the most bytes of a bundle, if frames are to share datagrams, and the delay; each number is tested in any case
+-- the most bytes of a bundle, if frames are to share datagrams, and the delay; each number is
+-- tested in any case
 unfoldable pub network_of : Members → Result Network ConfigFault
 network_of members = do
   bundle ← boolean_at Bundle members

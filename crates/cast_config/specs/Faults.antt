@@ -1,6 +1,7 @@
 -- Faults of a document: the name of the field, what is said of the cause.
 -- Also how an answer is what reading gives.
-use Rattle.std.specs.Prelude.{◌≡◌, ℕ, Bool, true, false, if◌then◌else◌, List, ◌++◌, codes, Result, Ok, Err}
+use Rattle.std.specs.Prelude.{◌≡◌, ℕ, Bool, true, false, if◌then◌else◌}
+use Rattle.std.specs.Prelude.{List, ◌++◌, codes, Result, Ok, Err}
 use Rattle.cast_config.specs.declared.fault.Field.{Field}
 use Rattle.cast_config.specs.declared.fault.Field.TheVariants as field
 use Rattle.cast_config.specs.declared.fault.Cause.{Cause}
@@ -51,7 +52,8 @@ is_memory f = is_memory_cause f.cause
 abbrev pub fault_text : ConfigFault → List ℕ
 fault_text f =
     if is_memory f then codes "castd: no memory\n"
-    else codes "castd: config: " ++ (field_text f.field ++ (codes ": " ++ (cause_text f.cause ++ codes "\n")))
+    else codes "castd: config: "
+    ++ (field_text f.field ++ (codes ": " ++ (cause_text f.cause ++ codes "\n")))
 
 -- the status of the program
 abbrev pub status_of : ConfigFault → ℕ

@@ -1,8 +1,11 @@
 -- What a field of a table says.
 -- It says a boolean, a number within limits, a text, a table, a list of numbers.
-use Rattle.std.specs.Prelude.{ℕ, ℤ, pos, negsuc, Bool, false, ◌&&◌, ◌==◌, nat_lt, nat_le, if◌then◌else◌, List, [], ◌∷◌, length, option_map, Option, Some, None, Result, Ok, Err}
+use Rattle.std.specs.Prelude.{ℕ, ℤ, pos, negsuc, Bool, false, ◌&&◌, ◌==◌, nat_lt}
+use Rattle.std.specs.Prelude.{nat_le, if◌then◌else◌, List, [], ◌∷◌, length}
+use Rattle.std.specs.Prelude.{option_map, Option, Some, None, Result, Ok, Err}
 use Rattle.std.specs.Ordering.{nat_cmp}
-use Rattle.toml.specs.Data.{Data, Items, no_items, item, Members, as_array, as_bool, as_integer, as_str, as_table, get_member}
+use Rattle.toml.specs.Data.{Data, Items, no_items, item, Members, as_array}
+use Rattle.toml.specs.Data.{as_bool, as_integer, as_str, as_table, get_member}
 use Rattle.cast_types.specs.Sets.{set_of}
 use Rattle.cast_script.specs.WordReadings.{◌>>=◌, each}
 use Rattle.cast_config.specs.declared.fault.Field.{Field}
@@ -59,7 +62,8 @@ unfoldable pub items_of_array : Field → Data → Result (List Data) ConfigFaul
 items_of_array f d = of_kind f (option_map list_of (as_array d))
 
 -- each in turn passes, up to the first that is refused
-abbrev pub all_pass : {A B : Type 0} → (A → Result B ConfigFault) → List A → Result (Unit {0}) ConfigFault
+abbrev pub all_pass : {A B : Type 0} → (A → Result B ConfigFault) → List A
+    → Result (Unit {0}) ConfigFault
 all_pass read [] = Ok tt
 all_pass read (x ∷ xs) = do
   y ← read x
@@ -71,7 +75,9 @@ counted f most n = if nat_lt 0 n && nat_le n most then Ok tt else Err (fault f R
 
 -- in rising order, where no two are alike
 unfoldable pub rising : Field → List ℕ → Result (List ℕ) ConfigFault
-rising f numbers = if length (set_of nat_cmp numbers) == length numbers then Ok (set_of nat_cmp numbers) else Err (fault f Repeated)
+rising f numbers =
+    if length (set_of nat_cmp numbers) == length numbers then Ok (set_of nat_cmp numbers)
+    else Err (fault f Repeated)
 
 -- 1 to so many numbers of sites or of groups, all different, in rising order
 unfoldable pub numbers_of : Field → ℕ → Data → Result (List ℕ) ConfigFault

@@ -4,7 +4,8 @@ ghost use Rattle.cast_script.specs.WordReadings.{each};
 ghost use Rattle.cast_config.specs.Faults.{Gives};
 ghost use Rattle.cast_config.specs.Fields.{all_pass};
 ghost use Rattle.cast_config.specs.Entries.{domain_of, groups_from, quotas_of, sites_from};
-ghost use Rattle.cast_config.specs.Documents.{are_listed, checked_domains, domain_numbers, domains_of, is_at, own_domains, placed};
+ghost use Rattle.cast_config.specs.Documents.{are_listed, checked_domains, domain_numbers};
+ghost use Rattle.cast_config.specs.Documents.{domains_of, is_at, own_domains, placed};
 
 use crate::fault::{Cause, ConfigFault, Field};
 use crate::fields::{are_distinct, fault, number_at, number_at_or, numbers_at, text_at};

@@ -1,7 +1,8 @@
 ghost use Rattle.std.specs.Prelude.{◌≡◌, true};
 ghost use Rattle.cast_device.specs.Watching.{HasFailedOrStalled};
 ghost use Rattle.cast_device.specs.Writing.{IsTold};
-ghost use Rattle.cast_config.specs.Faults.{cause_text, fault_text, field_text, is_memory, status_of};
+ghost use Rattle.cast_config.specs.Faults.{cause_text, fault_text};
+ghost use Rattle.cast_config.specs.Faults.{field_text, is_memory, status_of};
 
 use cast_device::{Watched, tell};
 use std::alloc::{AllocError, AllocFailed};
@@ -69,7 +70,8 @@ pub enum Cause {
     NotToml,
     /// The field is not there.
     Missing,
-    /// It is not of the kind that is asked for: a text, a whole number, an array of these, an array of tables.
+    /// It is not of the kind that is asked for: a text, a whole number, an array of these, an array
+    /// of tables.
     WrongKind,
     /// A number is outside its range, or there are too few or too many of them.
     Range,
@@ -128,11 +130,12 @@ const NO_MEMORY: ConfigFault = ConfigFault {
     cause: Cause::NoMemory,
 };
 
-/// Says what a fault is, and answers the status of the program for it: 5 where memory ran out, and else 6. A write that fails is
-/// passed over. Takes no memory.
+/// Says what a fault is, and answers the status of the program for it: 5 where memory ran out, and
+/// else 6. A write that fails is passed over. Takes no memory.
 pub fn complain<E: Write>(fault: ConfigFault, err: &mut Watched<E>) -> u8
     ensures status { result ≡ status_of fault }
-    ensures told { IsTold (E.contents err.old.device) (E.contents err.new.device) (fault_text fault) (HasFailedOrStalled err.new) }
+    ensures told { IsTold (E.contents err.old.device) (E.contents err.new.device) (fault_text fault)
+        (HasFailedOrStalled err.new) }
 {
     match fault.cause {
         Cause::NoMemory => {

@@ -5,7 +5,10 @@ ghost use Rattle.toml.specs.View.{items_view, table_view, view};
 ghost use Rattle.cast_types.specs.Sets.{set_of};
 ghost use Rattle.cast_script.specs.WordReadings.{each};
 ghost use Rattle.cast_config.specs.Faults.{Gives, GivesAs, IsSeen, fault};
-ghost use Rattle.cast_config.specs.Fields.{all_pass, at_field, boolean_at, boolean_of, counted, integer_of, items_of_array, list_of, needed, number_at, number_at_or, number_of, numbers_at, numbers_of, rising, table_of, text_at, text_of, within};
+ghost use Rattle.cast_config.specs.Fields.{all_pass, at_field, boolean_at, boolean_of, counted};
+ghost use Rattle.cast_config.specs.Fields.{integer_of, items_of_array, list_of, needed, number_at};
+ghost use Rattle.cast_config.specs.Fields.{number_at_or, number_of, numbers_at, numbers_of};
+ghost use Rattle.cast_config.specs.Fields.{rising, table_of, text_at, text_of, within};
 ghost use Rattle.cast_config.specs.Documents.{are_distinct};
 
 use crate::fault::{Cause, ConfigFault, Field};
@@ -178,7 +181,8 @@ fn short_number_of(value: &Value, field: Field) -> Result<u16, ConfigFault>
 
 // The numbers that these are, if each may be that of a site or of a group.
 fn all_within(alloc: Global, items: &[Value], field: Field) -> Result<Vec<u16>, ConfigFault>
-    ensures { GivesAs (λ numbers. numbers.items) result (each (number_of field 1 65535) (map view items.now)) }
+    ensures { GivesAs (λ numbers. numbers.items)
+        result (each (number_of field 1 65535) (map view items.now)) }
 {
     let mut numbers = Vec::new(alloc);
     for item in items {
@@ -258,7 +262,8 @@ fn numbers_of(
     read_rising(alloc, &numbers, field)
 }
 
-/// The numbers of sites or groups at a field of a table: 1 to so many, all different, in rising order.
+/// The numbers of sites or groups at a field of a table: 1 to so many, all different, in rising
+/// order.
 #[tactic(auto, unfolding(crate::specs::Fields::numbers_at))]
 pub fn numbers_at(
     alloc: Global,
@@ -266,7 +271,8 @@ pub fn numbers_at(
     field: Field,
     most: usize,
 ) -> Result<Vec<u16>, ConfigFault>
-    ensures { GivesAs (λ numbers. numbers.items) result (numbers_at field most (table_view table.now)) }
+    ensures { GivesAs (λ numbers. numbers.items)
+        result (numbers_at field most (table_view table.now)) }
 {
     numbers_of(alloc, require(table, field)?, field, most)
 }

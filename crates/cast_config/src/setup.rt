@@ -4,7 +4,8 @@ ghost use Rattle.toml.specs.Parse.{parse_document};
 ghost use Rattle.cast_script.specs.WordReadings.{each};
 ghost use Rattle.cast_config.specs.Faults.{Gives, GivesAs};
 ghost use Rattle.cast_config.specs.Fields.{table_of};
-ghost use Rattle.cast_config.specs.Documents.{configs_of, document_gives, given, document_or_fault, setup_of, sockets_of, tables_at, tables_give};
+ghost use Rattle.cast_config.specs.Documents.{configs_of, document_gives, given, document_or_fault};
+ghost use Rattle.cast_config.specs.Documents.{setup_of, sockets_of, tables_at, tables_give};
 
 use crate::domains::{DomainEntry, domains_of, own_domains};
 use crate::fault::{Cause, ConfigFault, Field};
@@ -37,8 +38,8 @@ pub struct Setup {
     pub sockets: List<DomainSocket>,
     /// The most bytes of a bundle, if frames are to share datagrams.
     pub bundle: Option<u32>,
-    /// For how many microseconds messages may queue on their way to other sites before the programs of a domain wait. 0 if that
-    /// is not looked at.
+    /// For how many microseconds messages may queue on their way to other sites before the programs
+    /// of a domain wait. 0 if that is not looked at.
     pub delay: u32,
 }
 
@@ -48,7 +49,8 @@ fn all_tables<'a>(
     items: &'a [Value],
     field: Field,
 ) -> Result<Vec<&'a Table>, ConfigFault>
-    ensures { GivesAs (λ tables. map (λ t. table_view t.now) tables.items) result (each (table_of field) (map view items.now)) }
+    ensures { GivesAs (λ tables. map (λ t. table_view t.now) tables.items)
+        result (each (table_of field) (map view items.now)) }
 {
     let mut tables = Vec::new(alloc);
     for item in items {
@@ -64,14 +66,16 @@ fn tables_at<'a>(
     document: &'a Table,
     field: Field,
 ) -> Result<Vec<&'a Table>, ConfigFault>
-    ensures { GivesAs (λ tables. map (λ t. table_view t.now) tables.items) result (tables_at field (table_view document.now)) }
+    ensures { GivesAs (λ tables. map (λ t. table_view t.now) tables.items)
+        result (tables_at field (table_view document.now)) }
 {
     all_tables(alloc, items_of(require(document, field)?, field)?, field)
 }
 
 // The document that a text is.
 fn document(alloc: Global, text: &str) -> Result<Table, ConfigFault>
-    ensures { GivesAs (λ table. table_view table) result (document_or_fault (parse_document text.now)) }
+    ensures { GivesAs (λ table. table_view table)
+        result (document_or_fault (parse_document text.now)) }
 {
     match toml::table_from_str(alloc, text) {
         Ok(table) => Ok(table),
@@ -105,7 +109,8 @@ fn sockets_of(alloc: Global, domains: &[DomainEntry]) -> Result<List<DomainSocke
     Ok(sockets)
 }
 
-// The set-up of a site with these domains, of which there have to be some, and with the network of the document.
+// The set-up of a site with these domains, of which there have to be some, and with the network of
+// the document.
 #[tactic(auto, unfolding(crate::specs::Documents::given))]
 fn build_setup(
     alloc: Global,
@@ -132,7 +137,8 @@ fn build_setup(
     })
 }
 
-// The set-up that these tables of sites and of domains, and the network of their document, give a site.
+// The set-up that these tables of sites and of domains, and the network of their document, give a
+// site.
 #[tactic(auto, unfolding(crate::specs::Documents::tables_give))]
 fn tables_give(
     alloc: Global,
@@ -141,7 +147,9 @@ fn tables_give(
     site_tables: &[&Table],
     domain_tables: &[&Table],
 ) -> Result<Setup, ConfigFault>
-    ensures { Gives result (tables_give own (table_view document.now) (map (λ t. table_view t.now) site_tables.now) (map (λ t. table_view t.now) domain_tables.now)) }
+    ensures { Gives result
+        (tables_give own (table_view document.now) (map (λ t. table_view t.now) site_tables.now)
+        (map (λ t. table_view t.now) domain_tables.now)) }
 {
     let sites = sites_of(alloc, site_tables, own)?;
     check_count(domain_tables.len(), Field::Domain, MAX_DOMAINS)?;
@@ -162,12 +170,14 @@ fn document_gives(alloc: Global, own: SiteNo, document: &Table) -> Result<Setup,
 
 /// Reads the configuration of a daemon at a site from the text of a TOML document.
 ///
-/// The fault is the first of the tests in this order: the text; `site` and then `domain`, each an array of tables; of each
-/// `site` its `number` and `address`; that their numbers are all different, and the given site is among them; that there are
-/// 1 to 16 domains; of each `domain` its `number`, `home`, `sites`, `groups` and `socket`, and `sessions`, `held`, `outbox` and
-/// `resend` where it has them; that their numbers are all different; of each domain that its sites are in the document and its
-/// home is one of them; that the given site has a domain; that `network`, where the document has it, is a table, and of it
-/// `bundle`, `datagram` and `delay` where it has them. A domain that the site has not is left out. `NoMemory` comes where an
+/// The fault is the first of the tests in this order: the text; `site` and then `domain`, each an
+/// array of tables; of each `site` its `number` and `address`; that their numbers are all
+/// different, and the given site is among them; that there are 1 to 16 domains; of each `domain`
+/// its `number`, `home`, `sites`, `groups` and `socket`, and `sessions`, `held`, `outbox` and
+/// `resend` where it has them; that their numbers are all different; of each domain that its sites
+/// are in the document and its home is one of them; that the given site has a domain; that
+/// `network`, where the document has it, is a table, and of it `bundle`, `datagram` and `delay`
+/// where it has them. A domain that the site has not is left out. `NoMemory` comes where an
 /// allocation was refused, and says nothing of the text.
 #[tactic(auto, unfolding(crate::specs::Documents::setup_of))]
 pub fn read(alloc: Global, text: &str, site: SiteNo) -> Result<Setup, ConfigFault>

@@ -12,7 +12,8 @@ none_after [] = refl
 none_after (c ∷ cs) = append-nil (c ∷ cs)
 
 -- a line that is not empty, and then others
-one_more : (text : List ℕ) (c : ℕ) (cs : List ℕ) (lines : List (List ℕ)) → lines_after (line_begun text ++ c ∷ cs) lines ≡ lines_after text ((c ∷ cs) ∷ lines)
+one_more : (text : List ℕ) (c : ℕ) (cs : List ℕ) (lines : List (List ℕ)) →
+    lines_after (line_begun text ++ c ∷ cs) lines ≡ lines_after text ((c ∷ cs) ∷ lines)
 one_more [] c cs lines = refl
 one_more (t ∷ ts) c cs lines =
     let others : List ℕ = flat_map (λ l. line_feed ++ l) lines in
@@ -22,6 +23,8 @@ alone : (text : List ℕ) (c : ℕ) (cs : List ℕ) → lines_after text ((c ∷
 alone text c cs = sym (one_more text c cs []) ∙ none_after (line_begun text ++ c ∷ cs)
 
 -- the line of a domain, where there is one, and then others
-pub domain_then : (text : List ℕ) (d : DomainNo) (shown : Option Shown) (lines : List (List ℕ)) → lines_after (lines_after text (option_to_list (option_map (domain_line d) shown))) lines ≡ lines_after text (cons_option (option_map (domain_line d) shown) lines)
+pub domain_then : (text : List ℕ) (d : DomainNo) (shown : Option Shown) (lines : List (List ℕ)) →
+    lines_after (lines_after text (option_to_list (option_map (domain_line d) shown))) lines
+    ≡ lines_after text (cons_option (option_map (domain_line d) shown) lines)
 domain_then text d None lines = ap (λ t. lines_after t lines) (none_after text)
 domain_then text d (Some s) lines = ap (λ t. lines_after t lines) (alone text _ _) ∙ one_more text _ _ lines

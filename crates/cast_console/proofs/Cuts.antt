@@ -7,7 +7,8 @@ use Rattle.cast_script.specs.Words.{parts_at}
 use Rattle.cast_console.specs.declared.line.LineFault.TheVariants.{WrongCount}
 use Rattle.cast_console.specs.Lines.{none_of}
 
-pub cut_at : (bs : List ℕ) (word rest : Bor (List ℕ)) → IsSplitOnceResult 32 bs (Some (word, rest)) → parts_at 32 bs ≡ word.now ∷ parts_at 32 rest.now
+pub cut_at : (bs : List ℕ) (word rest : Bor (List ℕ)) → IsSplitOnceResult 32 bs (Some (word, rest)) →
+    parts_at 32 bs ≡ word.now ∷ parts_at 32 rest.now
 cut_at bs word rest split =
     let parts = split_once_first 32 bs (Some (word, rest)) split (lit< tt) in
     rw (parts.1, parts.2) (slice_split_first (λ b. eqb b 32) bs 0 parts.0)

@@ -16,7 +16,8 @@ unfolding numbers_from
 numbers_over n le = let e : 256 - n ≡ 0 = omega arith in rw e refl
 
 -- the line of one number, and then those of the numbers above
-pub lines_on : (table : Table) (text : List ℕ) (n : ℕ) → n < 256 → lines_after (lines_after text (option_to_list (line_at table n))) (filter_map (line_at table) (numbers_from (n + 1))) ≡ lines_after text (filter_map (line_at table) (numbers_from n))
+pub lines_on : (table : Table) (text : List ℕ) (n : ℕ) → n < 256 → lines_after (lines_after text (option_to_list (line_at table n)))
+    (filter_map (line_at table) (numbers_from (n + 1))) ≡ lines_after text (filter_map (line_at table) (numbers_from n))
 lines_on table text n lt =
     domain_then text (domain_numbered n) (shown_at (domain_numbered n) table) (filter_map (line_at table) (numbers_from (n + 1)))
     ∙ ap (λ ns. lines_after text (filter_map (line_at table) ns)) (sym (numbers_on n lt))

@@ -12,7 +12,8 @@ use Rattle.cast_console.specs.declared.line.Line.TheVariants as line
 use Rattle.cast_console.specs.declared.line.LineFault.{LineFault}
 use Rattle.cast_events.specs.declared.told.Told.{Told}
 use Rattle.cast_console.specs.Lines.{fault_number}
-use Rattle.cast_console.specs.Texts.{datagrams_text, domains_text, group_lines, outcome_text, record_text, retire_text, show_text, trace_text}
+use Rattle.cast_console.specs.Texts.{datagrams_text, domains_text, group_lines, outcome_text}
+use Rattle.cast_console.specs.Texts.{record_text, retire_text, show_text, trace_text}
 
 -- the event that a line asks for
 abbrev pub event_of : Line → Option Event
@@ -38,7 +39,8 @@ abbrev pub done_text : Option Done → List ℕ
 done_text None = []
 done_text (Some d) = outcome_text d.outcome
 
--- what a line shows of a kept table, of what the daemon tells beside it, or of what came of its event
+-- what a line shows of a kept table, of what the daemon tells beside it, or of what came of its
+-- event
 abbrev pub line_text : Line → Told → Seen → Option Done → List ℕ
 line_text line.Domains t s came = domains_text s.table
 line_text (line.Show d) t s came = show_text d s.table

@@ -2,7 +2,8 @@
 use Rattle.std.specs.Prelude.{◌≡◌, ℕ, List, [], ◌∷◌, codes, Option, Some, None, Result, Ok, Err}
 use Rattle.cast_types.specs.declared.names.DomainNo.{DomainNo}
 use Rattle.cast_script.specs.Words.{parts_at}
-use Rattle.cast_script.specs.WordReadings.{◌>>=◌, domain_of, named_among, number_within, quota_name_of, site_of}
+use Rattle.cast_script.specs.WordReadings.{◌>>=◌, domain_of, named_among}
+use Rattle.cast_script.specs.WordReadings.{number_within, quota_name_of, site_of}
 use Rattle.cast_script.specs.declared.words.Reason.{Reason}
 use Rattle.cast_script.specs.declared.words.Reason.TheVariants as reason
 use Rattle.cast_console.specs.declared.line.Line.{Line}
@@ -10,7 +11,8 @@ use Rattle.cast_console.specs.declared.line.Line.TheVariants as line
 use Rattle.cast_console.specs.declared.line.Head.{Head}
 use Rattle.cast_console.specs.declared.line.Head.TheVariants as head
 use Rattle.cast_console.specs.declared.line.LineFault.{LineFault}
-use Rattle.cast_console.specs.declared.line.LineFault.TheVariants.{Empty, UnknownWord, WrongCount, BadNumber}
+use Rattle.cast_console.specs.declared.line.LineFault.TheVariants.{Empty, UnknownWord}
+use Rattle.cast_console.specs.declared.line.LineFault.TheVariants.{WrongCount, BadNumber}
 
 abbrev pub fault_number : LineFault → ℕ
 fault_number Empty = 1
@@ -74,7 +76,9 @@ head_text head.Record = codes "record"
 head_text head.Stop = codes "stop"
 
 abbrev pub heads : List Head
-heads = head.Domains ∷ head.Show ∷ head.Groups ∷ head.Suspect ∷ head.Quota ∷ head.Retire ∷ head.Trace ∷ head.Datagrams ∷ head.Record ∷ head.Stop ∷ []
+heads =
+    head.Domains ∷ head.Show ∷ head.Groups ∷ head.Suspect ∷ head.Quota ∷ head.Retire ∷ head.Trace
+    ∷ head.Datagrams ∷ head.Record ∷ head.Stop ∷ []
 
 unfoldable pub head_of : List ℕ → Result Head LineFault
 head_of word = or_line_fault (named_among head_text heads word)

@@ -1,6 +1,7 @@
 -- The texts of the console's answers: of a table, of a trace, of what came of an event.
 -- Lines are parted by line feeds, without a last one.
-use Rattle.std.specs.Prelude.{ℕ, ◌-◌, List, [], ◌∷◌, ◌++◌, codes, Bool, if◌then◌else◌, length, map, Option, Some, None, unwrap_or, Result, Ok, Err}
+use Rattle.std.specs.Prelude.{ℕ, ◌-◌, List, [], ◌∷◌, ◌++◌, codes, Bool, if◌then◌else◌}
+use Rattle.std.specs.Prelude.{length, map, Option, Some, None, unwrap_or, Result, Ok, Err}
 use Rattle.std.specs.List.{filter_map, flat_map, join_by, range_with_len}
 use Rattle.std.specs.Option.{option_map}
 use Rattle.std.specs.Fmt.{decimal}
@@ -55,7 +56,8 @@ abbrev pub shown_text : DomainNo → Shown → List ℕ
 shown_text d s =
     codes "domain " ++ (decimal d.0
     ++ (codes " sessions " ++ (decimal s.sessions
-    ++ (codes " held " ++ (decimal s.held ++ (codes " casts " ++ (decimal s.casts ++ (codes " moment " ++ decimal s.moment))))))))
+    ++ (codes " held " ++ (decimal s.held
+    ++ (codes " casts " ++ (decimal s.casts ++ (codes " moment " ++ decimal s.moment))))))))
 
 -- as in `1.1`
 abbrev pub proc_text : Proc → List ℕ
@@ -71,12 +73,14 @@ frozen_text frozen = if frozen then codes " frozen" else codes " open"
 abbrev pub view_text : Option Proc → List Proc → Bool → List ℕ
 view_text None members frozen = codes " none"
 view_text (Some p) members frozen =
-    codes " holder " ++ (proc_text p ++ (codes " members" ++ (flat_map member_text members ++ frozen_text frozen)))
+    codes " holder "
+    ++ (proc_text p ++ (codes " members" ++ (flat_map member_text members ++ frozen_text frozen)))
 
 -- as in `group 1 view 1 holder 1.1 members 1.1 2.1 open`
 abbrev pub group_line : GroupShown → List ℕ
 group_line g =
-    codes "group " ++ (decimal g.group.0 ++ (codes " view " ++ (decimal g.number ++ view_text g.holder g.members g.frozen)))
+    codes "group " ++ (decimal g.group.0
+    ++ (codes " view " ++ (decimal g.number ++ view_text g.holder g.members g.frozen)))
 
 -- a line for each group
 abbrev pub groups_text : List GroupShown → List ℕ
@@ -116,7 +120,8 @@ retire_text d table = of_domain_text (option_map (λ s. codes "ok") (shown_at d 
 -- How many events were taken, and how many of them are in the trace
 
 abbrev pub trace_text : Seen → List ℕ
-trace_text s = codes "events " ++ (decimal (events_of s) ++ (codes " kept " ++ decimal (length s.trace)))
+trace_text s =
+    codes "events " ++ (decimal (events_of s) ++ (codes " kept " ++ decimal (length s.trace)))
 
 -- What came of an event
 
@@ -146,10 +151,12 @@ outcome_text (outcome.Undecoded fault) = codes "ok"
 abbrev pub datagrams_text : Datagrams → List ℕ
 datagrams_text d =
     codes "datagrams sent " ++ (decimal d.sent
-    ++ (codes " received " ++ (decimal d.received ++ (codes " lost " ++ (decimal d.lost ++ (codes " undecoded " ++ decimal d.undecoded))))))
+    ++ (codes " received " ++ (decimal d.received
+    ++ (codes " lost " ++ (decimal d.lost ++ (codes " undecoded " ++ decimal d.undecoded))))))
 
 -- as in `record running waiting 0 lost 0`
 abbrev pub record_text : Recording → List ℕ
 record_text Off = codes "record off"
-record_text (Running waiting lost) = codes "record running waiting " ++ (decimal waiting ++ (codes " lost " ++ decimal lost))
+record_text (Running waiting lost) =
+    codes "record running waiting " ++ (decimal waiting ++ (codes " lost " ++ decimal lost))
 record_text Ended = codes "record ended"

@@ -3,8 +3,10 @@ ghost use Rattle.std.specs.Fmt.{decimal};
 ghost use Rattle.std.specs.Option.{option_to_list};
 ghost use Rattle.std.specs.String.{string_bytes};
 ghost use Rattle.cast_console.specs.Lines.{fault_number, line_of};
-ghost use Rattle.cast_console.specs.Texts.{domains_text, group_lines, line_at, lines_after, retire_text, show_text, trace_text};
-ghost use Rattle.cast_console.specs.Answers.{HandsOn, IsServed, LeavesAll, answer_text, asked_event, done_text, event_of, line_text};
+ghost use Rattle.cast_console.specs.Texts.{domains_text, group_lines, line_at, lines_after};
+ghost use Rattle.cast_console.specs.Texts.{retire_text, show_text, trace_text};
+ghost use Rattle.cast_console.specs.Answers.{HandsOn, IsServed, LeavesAll, answer_text};
+ghost use Rattle.cast_console.specs.Answers.{asked_event, done_text, event_of, line_text};
 
 use crate::line::{Line, LineFault, parse};
 use crate::said::Answer;
@@ -29,7 +31,8 @@ fn text_answer(text: Result<String, NoMemory>) -> Answer
 
 // Adds the line of a domain, where one has the number.
 fn put_line_at(text: &mut String, table: &Table, number: u8) -> Result<(), NoMemory>
-    ensures { OnOk result (string_bytes text.new ≡ lines_after (string_bytes text.old) (option_to_list (line_at table.now number))) }
+    ensures { OnOk result (string_bytes text.new
+        ≡ lines_after (string_bytes text.old) (option_to_list (line_at table.now number))) }
 {
     let Some(shown) = table.show(DomainNo(number)) else {
         return Ok(());
@@ -90,7 +93,8 @@ fn trace_text<L: Ledger>(alloc: Global, kept: &Kept<L>) -> Result<String, NoMemo
 
 // Why a line is none.
 fn fault_text(alloc: Global, fault: LineFault) -> Result<String, NoMemory>
-    ensures { IfOk result (λ text. string_bytes text ≡ codes "fault " ++ decimal (fault_number fault)) }
+    ensures { IfOk result
+        (λ text. string_bytes text ≡ codes "fault " ++ decimal (fault_number fault)) }
 {
     let number = fault.number();
     format!(in alloc; "fault {number}")
@@ -121,7 +125,8 @@ fn serve_event<L: Ledger>(
 ) -> Answer
     requires { 0 < mine.old.parts }
     ensures text { IfOk result.text (λ text. string_bytes text ≡ done_text result.done) }
-    ensures done { HandsOn (Some event) result.done kept.old kept.new mine.old.taken mine.new.taken }
+    ensures done { HandsOn (Some event)
+        result.done kept.old kept.new mine.old.taken mine.new.taken }
     ensures parts { mine.new.parts ≡ mine.old.parts }
 {
     let done = serve(alloc, kept, mine, event);
@@ -141,8 +146,10 @@ fn answer_line<L: Ledger>(
     line: Line,
 ) -> Answer
     requires { 0 < mine.old.parts }
-    ensures text { IfOk result.text (λ text. string_bytes text ≡ line_text line told.now kept.old result.done) }
-    ensures done { HandsOn (event_of line) result.done kept.old kept.new mine.old.taken mine.new.taken }
+    ensures text { IfOk result.text
+        (λ text. string_bytes text ≡ line_text line told.now kept.old result.done) }
+    ensures done { HandsOn (event_of line)
+        result.done kept.old kept.new mine.old.taken mine.new.taken }
     ensures same { LeavesAll (event_of line) kept.old kept.new mine.old.taken mine.new.taken }
     ensures parts { mine.new.parts ≡ mine.old.parts }
 {
@@ -170,9 +177,10 @@ fn answer_line<L: Ledger>(
     }
 }
 
-/// Answers a line. A line that asks for an event has it served, under the number 0, and what came of it is handed on; any
-/// other, and a text that is no line, changes nothing. The text is that of what the table shows, of the trace, of what the daemon
-/// tells beside these, or of what came of the event.
+/// Answers a line. A line that asks for an event has it served, under the number 0, and what came
+/// of it is handed on; any other, and a text that is no line, changes nothing. The text is that of
+/// what the table shows, of the trace, of what the daemon tells beside these, or of what came of
+/// the event.
 pub fn answer<L: Ledger>(
     alloc: Global,
     kept: &mut Kept<L>,
@@ -181,9 +189,12 @@ pub fn answer<L: Ledger>(
     line: &str,
 ) -> Answer
     requires { 0 < mine.old.parts }
-    ensures text { IfOk result.text (λ text. string_bytes text ≡ answer_text (line_of line.now) told.now kept.old result.done) }
-    ensures done { HandsOn (asked_event (line_of line.now)) result.done kept.old kept.new mine.old.taken mine.new.taken }
-    ensures same { LeavesAll (asked_event (line_of line.now)) kept.old kept.new mine.old.taken mine.new.taken }
+    ensures text { IfOk result.text
+        (λ text. string_bytes text ≡ answer_text (line_of line.now) told.now kept.old result.done) }
+    ensures done { HandsOn (asked_event (line_of line.now))
+        result.done kept.old kept.new mine.old.taken mine.new.taken }
+    ensures same { LeavesAll (asked_event (line_of line.now))
+        kept.old kept.new mine.old.taken mine.new.taken }
     ensures parts { mine.new.parts ≡ mine.old.parts }
 {
     match parse(line) {

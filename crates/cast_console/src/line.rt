@@ -1,7 +1,9 @@
 ghost use Rattle.std.specs.Prelude.{◌≡◌, ◌∷◌};
 ghost use Rattle.std.specs.Option.{option_copied};
 ghost use Rattle.cast_script.specs.Words.{parts_at};
-ghost use Rattle.cast_console.specs.Lines.{IsSeen, bare, behind, fault_number, fault_of, head_of, line_of, none_of, of_domain, one_of, quota, suspect, three_of, two_of, words_of};
+ghost use Rattle.cast_console.specs.Lines.{IsSeen, bare, behind, fault_number, fault_of};
+ghost use Rattle.cast_console.specs.Lines.{head_of, line_of, none_of, of_domain, one_of};
+ghost use Rattle.cast_console.specs.Lines.{quota, suspect, three_of, two_of, words_of};
 
 use cast_events::QuotaName;
 use cast_script::{Reason, domain_word, number, quota_name_word, site_word};
@@ -141,7 +143,8 @@ fn one_word(rest: Option<&str>) -> Result<&str, LineFault>
 
 // Two words.
 fn two_words(rest: Option<&str>) -> Result<(&str, &str), LineFault>
-    ensures { IsSeen (λ w. (w.0.now, w.1.now)) result (two_of (words_of (option_copied rest.entry))) }
+    ensures { IsSeen (λ w. (w.0.now, w.1.now))
+        result (two_of (words_of (option_copied rest.entry))) }
 {
     let Some(text) = rest else {
         return Err(LineFault::WrongCount);
@@ -152,7 +155,8 @@ fn two_words(rest: Option<&str>) -> Result<(&str, &str), LineFault>
 
 // Three words.
 fn three_words(rest: Option<&str>) -> Result<(&str, &str, &str), LineFault>
-    ensures { IsSeen (λ w. (w.0.now, w.1.now, w.2.now)) result (three_of (words_of (option_copied rest.entry))) }
+    ensures { IsSeen (λ w. (w.0.now, w.1.now, w.2.now))
+        result (three_of (words_of (option_copied rest.entry))) }
 {
     let Some(text) = rest else {
         return Err(LineFault::WrongCount);
@@ -231,8 +235,9 @@ fn behind(head: Head, rest: Option<&str>) -> Result<Line, LineFault>
     }
 }
 
-/// What a line is: its words are parted by one space each. Its fault is the first of: that it is empty, that its first word is
-/// unknown, that it has another count of words, and then that of its words from left to right. Takes no memory.
+/// What a line is: its words are parted by one space each. Its fault is the first of: that it is
+/// empty, that its first word is unknown, that it has another count of words, and then that of its
+/// words from left to right. Takes no memory.
 #[tactic(auto, unfolding(crate::specs::Lines::line_of))]
 pub fn parse(line: &str) -> Result<Line, LineFault>
     ensures { result ≡ line_of line.now }

@@ -1,7 +1,10 @@
 ghost use Rattle.std.specs.Prelude.{◌≡◌, ◌++◌, IfOk, OnOk};
 ghost use Rattle.std.specs.List.{flat_map};
 ghost use Rattle.std.specs.String.{string_bytes};
-ghost use Rattle.cast_console.specs.Texts.{answered_text, datagrams_text, domain_line, frozen_text, group_line, groups_text, line_begun, member_text, outcome_text, proc_text, record_text, shown_text, state_text, view_text};
+ghost use Rattle.cast_console.specs.Texts.{answered_text, datagrams_text, domain_line};
+ghost use Rattle.cast_console.specs.Texts.{frozen_text, group_line, groups_text, line_begun};
+ghost use Rattle.cast_console.specs.Texts.{member_text, outcome_text, proc_text};
+ghost use Rattle.cast_console.specs.Texts.{record_text, shown_text, state_text, view_text};
 
 use cast_events::{Datagrams, Fault, Recording, Taken};
 use cast_pool::Outcome;
@@ -27,7 +30,8 @@ fn state_word(halted: bool) -> &'static str
 
 /// `domain D running` or `domain D halted`.
 pub fn put_domain(text: &mut String, number: DomainNo, shown: &Shown) -> Result<(), NoMemory>
-    ensures { OnOk result (string_bytes text.new ≡ string_bytes text.old ++ domain_line number shown.now) }
+    ensures { OnOk result
+        (string_bytes text.new ≡ string_bytes text.old ++ domain_line number shown.now) }
 {
     let domain = number.0;
     let state = state_word(shown.halted);
@@ -62,7 +66,8 @@ fn put_process(text: &mut String, process: Proc) -> Result<(), NoMemory>
 
 // As in ` 1.1 2.1`.
 fn put_members(text: &mut String, members: &[Proc]) -> Result<(), NoMemory>
-    ensures { OnOk result (string_bytes text.new ≡ string_bytes text.old ++ flat_map member_text members.now) }
+    ensures { OnOk result
+        (string_bytes text.new ≡ string_bytes text.old ++ flat_map member_text members.now) }
 {
     for member in members {
         text.push_str(" ")?;
@@ -80,7 +85,8 @@ fn frozen_word(frozen: bool) -> &'static str
 
 // The view of a group, or that there is none.
 fn put_view(text: &mut String, group: &GroupShown) -> Result<(), NoMemory>
-    ensures { OnOk result (string_bytes text.new ≡ string_bytes text.old ++ view_text group.now.holder group.now.members group.now.frozen) }
+    ensures { OnOk result (string_bytes text.new
+        ≡ string_bytes text.old ++ view_text group.now.holder group.now.members group.now.frozen) }
 {
     let Some(holder) = group.holder else {
         return text.push_str(" none");

@@ -69,13 +69,15 @@ where
     )
 }
 
-/// Runs a daemon until the console says `stop`, and answers the status of the program. `ready` is written once it serves.
-/// Why it does not run is written to `err`, and what an operator has to know while it does to `log`. If there is
-/// something to write a record to, each event that is served is written there, as a script that replays.
+/// Runs a daemon until the console says `stop`, and answers the status of the program. `ready` is
+/// written once it serves. Why it does not run is written to `err`, and what an operator has to
+/// know while it does to `log`. If there is something to write a record to, each event that is
+/// served is written there, as a script that replays.
 ///
-/// The status is 0 after `stop`; 3 if the first lines of the record cannot be written; 7 if an address cannot be resolved or bound, or a path cannot be bound, which is named; 5 if
-/// there is no memory for the daemon or its threads; and 6 if two domains of the set-up have one number, or a domain's groups do
-/// not rise, which no set-up has that was read.
+/// The status is 0 after `stop`; 3 if the first lines of the record cannot be written; 7 if an
+/// address cannot be resolved or bound, or a path cannot be bound, which is named; 5 if there is no
+/// memory for the daemon or its threads; and 6 if two domains of the set-up have one number, or a
+/// domain's groups do not rise, which no set-up has that was read.
 pub fn serve<R, B, W, E, G, K>(
     rt: &R,
     alloc: Global,

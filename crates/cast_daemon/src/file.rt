@@ -17,7 +17,8 @@ const UNREADABLE: u8 = 3;
 
 const NO_MEMORY: u8 = 5;
 
-// Reads the configuration in a file for a site, or says why there is none and answers the status of the program.
+// Reads the configuration in a file for a site, or says why there is none and answers the status of
+// the program.
 fn setup_of<R: Files + AllocGlobal, E: Write>(
     rt: &R,
     alloc: Global,
@@ -42,9 +43,10 @@ fn setup_of<R: Files + AllocGlobal, E: Write>(
     }
 }
 
-/// Runs the daemon of a site by the configuration in the file of this name, with so many workers, as `serve` does, and
-/// answers the status of the program: also 3 where the file cannot be read or is not UTF-8, 6 where its configuration has a fault, which
-/// is named with its field, and 5 where memory ran out.
+/// Runs the daemon of a site by the configuration in the file of this name, with so many workers,
+/// as `serve` does, and answers the status of the program: also 3 where the file cannot be read or
+/// is not UTF-8, 6 where its configuration has a fault, which is named with its field, and 5 where
+/// memory ran out.
 pub fn serve_file<R, B, W, E, G, K>(
     rt: &R,
     name: &str,
@@ -71,7 +73,8 @@ where
     }
 }
 
-// The lines of a set-up: those of its configuration, and as comments the addresses, the sockets, and what it says of the network.
+// The lines of a set-up: those of its configuration, and as comments the addresses, the sockets,
+// and what it says of the network.
 fn text_of(alloc: Global, setup: &Setup) -> Result<String, NoMemory> {
     let mut text = String::new(alloc);
     add_head(alloc, &mut text, &setup.config)?;
@@ -95,8 +98,9 @@ fn text_of(alloc: Global, setup: &Setup) -> Result<String, NoMemory> {
     Ok(text)
 }
 
-/// Writes what the daemon of a site would serve by the configuration in the file of this name, as the first lines of a script, and answers
-/// the status of the program: 0, or 3, 5 or 6 as `serve_file` does. Nothing is resolved or bound.
+/// Writes what the daemon of a site would serve by the configuration in the file of this name, as
+/// the first lines of a script, and answers the status of the program: 0, or 3, 5 or 6 as
+/// `serve_file` does. Nothing is resolved or bound.
 pub fn check_file<R, W, E>(
     rt: &R,
     name: &str,

@@ -1,4 +1,5 @@
-//! Lanes: of the threads that serve one domain, one at a time waits for the table, and of the lanes, one at a time is next.
+//! Lanes: of the threads that serve one domain, one at a time waits for the table, and of the
+//! lanes, one at a time is next.
 use cast_events::DomainConfig;
 use cast_types::{DomainNo, NoMemory};
 use std::alloc::Global;
@@ -11,9 +12,10 @@ struct Lane {
     lock: Mutex<()>,
 }
 
-/// A lock for each domain, which a thread takes before that of the table. So of the threads that serve a domain, however many, one is
-/// among those that wait for the table. Of those one is next: it alone waits at the table's lock, which may be taken again by whoever
-/// is first, and so again and again by the threads of one domain.
+/// A lock for each domain, which a thread takes before that of the table. So of the threads that
+/// serve a domain, however many, one is among those that wait for the table. Of those one is next:
+/// it alone waits at the table's lock, which may be taken again by whoever is first, and so again
+/// and again by the threads of one domain.
 #[derive(Drop)]
 pub struct Lanes {
     list: Vec<Lane>,
@@ -41,7 +43,8 @@ impl Lanes {
         self.next.lock(rt)
     }
 
-    /// Waits until nobody is in the lane of a domain, and enters it. `None` if no domain is named, or there is none of this number.
+    /// Waits until nobody is in the lane of a domain, and enters it. `None` if no domain is named,
+    /// or there is none of this number.
     pub fn enter<R: Wait>(&self, rt: &R, domain: Option<DomainNo>) -> Option<MutexGuard<'_, ()>> {
         for lane in self.list.as_slice() {
             if Some(lane.domain) == domain {

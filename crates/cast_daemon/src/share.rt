@@ -24,7 +24,8 @@ impl<L: Ledger> CountShare<L> {
     /// Does a job, and lets go of what a domain kept that it halted, if the trace may be trimmed.
     pub fn serve(&mut self, kept: &mut Kept<L>, job: Job, may_trim: bool) -> Done
         ensures number { result.number ≡ job.number }
-        ensures done { Completes job.task may_trim result.outcome kept.old kept.new self.old.worked.taken self.new.worked.taken }
+        ensures done { Completes job.task may_trim result.outcome kept.old kept.new
+            self.old.worked.taken self.new.worked.taken }
     {
         kept.complete(&mut self.worked, job, may_trim)
     }

@@ -14,8 +14,8 @@ use std::rt::Clock;
 use std::sync::ledger::Ledger;
 use std::sync::{Mutex, MutexGuard, Wait};
 
-/// The table of a daemon behind its lock, with the lanes of its domains, the part of the count that no thread has, and what trims the
-/// trace.
+/// The table of a daemon behind its lock, with the lanes of its domains, the part of the count that
+/// no thread has, and what trims the trace.
 #[derive(Drop)]
 pub struct LockedTable<'a, L: Ledger, C> {
     alloc: Global,
@@ -152,7 +152,8 @@ fn came_of(alloc: Global, done: Done) -> Came {
     }
 }
 
-// Has a worker go by the lanes. Cuts the trace after what it served, if it is recorded and has many events.
+// Has a worker go by the lanes. Cuts the trace after what it served, if it is recorded and has many
+// events.
 #[derive(Drop)]
 struct WorkerGate<'a, R, L: Ledger, C> {
     rt: &'a R,
@@ -182,7 +183,8 @@ impl<'a, R: Wait, L: Ledger, C: Clock> Gate for WorkerGate<'a, R, L, C> {
 }
 
 impl<'a, L: Ledger, C: Clock> LockedTable<'a, L, C> {
-    /// A table with the whole count, of which no thread has a share yet, the lanes of its domains, and what trims its trace.
+    /// A table with the whole count, of which no thread has a share yet, the lanes of its domains,
+    /// and what trims its trace.
     pub fn new(
         alloc: Global,
         kept: Kept<L>,

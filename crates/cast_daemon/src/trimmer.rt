@@ -1,4 +1,5 @@
-//! When events leave the trace: when there are many, when their payloads are many bytes, and when a domain was halted.
+//! When events leave the trace: when there are many, when their payloads are many bytes, and when a
+//! domain was halted.
 use cast_events::Event;
 use cast_message::{Body, Command, Request, SiteFrame};
 use cast_pool::{Done, Job, Kept, Task};
@@ -8,13 +9,16 @@ use std::sync::Wait;
 use std::sync::atomic::{AtomicU64, Ordering};
 use std::sync::ledger::Ledger;
 
-// So many bytes of payloads the trace holds before it is trimmed. If it holds more, the processor finds none of them at hand.
+// So many bytes of payloads the trace holds before it is trimmed. If it holds more, the processor
+// finds none of them at hand.
 const MOST_BYTES: u64 = 1_048_576;
 
-// A trim copies the table. So many times as long as it took, no trim follows on account of payloads.
+// A trim copies the table. So many times as long as it took, no trim follows on account of
+// payloads.
 const REST: u64 = 16;
 
-/// Trims the trace, or, if a daemon is recorded, cuts its events off and gives them to the tape. Its calls are made under the table's lock.
+/// Trims the trace, or, if a daemon is recorded, cuts its events off and gives them to the tape.
+/// Its calls are made under the table's lock.
 #[derive(Drop)]
 pub struct Trimmer<'a, C> {
     tape: Option<&'a Tape>,
@@ -106,7 +110,8 @@ impl<'a, C: Clock> Trimmer<'a, C> {
         }
     }
 
-    /// After a job with so many bytes of payload: no event stays in the trace if there are many, or many bytes of payloads.
+    /// After a job with so many bytes of payload: no event stays in the trace if there are many, or
+    /// many bytes of payloads.
     pub fn served<L: Ledger, R: Wait>(&self, rt: &R, kept: &mut Kept<L>, len: u64) {
         self.cut_many(rt, kept);
         let held = self.held.load(Ordering::SeqCst).saturating_add(len);

@@ -1,11 +1,13 @@
 -- Rows that rise by their processes: one is found by halving, and they rise still once some are changed, added or taken out.
-use Rattle.std.proofs.Common.{◌≡◌, ℕ, zero, suc, ◌<◌, ◌≤◌, Bool, true, false, cond, List, [], ◌∷◌, ◌++◌, length, map, get_or, slice_set, Option, Some, None, Ok, Err, Ordering, Less, Equal, Greater, refl, sym, ap, subst, ◌∙◌, inl, inr, arith}
+use Rattle.std.proofs.Common.{◌≡◌, ℕ, zero, suc, ◌<◌, ◌≤◌, Bool, true, false, cond, List, [], ◌∷◌, ◌++◌, length, map, get_or, slice_set}
+use Rattle.std.proofs.Common.{Option, Some, None, Ok, Err, Ordering, Less, Equal, Greater, refl, sym, ap, subst, ◌∙◌, inl, inr, arith}
 use Rattle.std.specs.Prelude.{◌&&◌, ◌==◌, not, nat_lt, unwrap_or, if◌then◌else◌}
 use Rattle.std.specs.List.{list_all, find}
 use Rattle.std.specs.List.Sorted.{IsBinarySearchResult, IsNonDecreasingBy}
 use Rattle.std.specs.Ordering.{is_lt, ordering_index}
 use Rattle.std.specs.Option.{option_map_or, option_and_then}
-use Rattle.std.proofs.lemmas.Bool.{cases_Bool, cases_eq, eqb-true, and_parts, not-true, and_from, false≢true, true≢false, false_from_ne_true}
+use Rattle.std.proofs.lemmas.Bool.{cases_Bool, cases_eq, eqb-true, and_parts, not-true}
+use Rattle.std.proofs.lemmas.Bool.{and_from, false≢true, true≢false, false_from_ne_true}
 use Rattle.std.proofs.lemmas.Option.{none-some}
 use Rattle.std.proofs.lemmas.Cmp.{tied_itself}
 use Rattle.std.proofs.lemmas.List.{take_all}
@@ -46,16 +48,19 @@ not_eq p q o is other = elim (cases_Bool (proc_eq p q)) [
 
 -- Two places
 
-above_at : (p : Proc) (rows : List Row) (i : ℕ) (d : Row) → list_all (λ r. is_lt (proc_cmp p r.process)) rows ≡ true → i < length rows → proc_cmp p (get_or rows i d).process ≡ Less
+above_at : (p : Proc) (rows : List Row) (i : ℕ) (d : Row) → list_all (λ r. is_lt (proc_cmp p r.process)) rows ≡ true → i < length rows →
+    proc_cmp p (get_or rows i d).process ≡ Less
 above_at p rows i d all within = elim (cases_Bool (is_lt (proc_cmp p (get_or rows i d).process))) [
   | inl less ↦ less_is (proc_cmp p (get_or rows i d).process) less
   | inr not_so ↦ absurd (true≢false (sym all ∙ list_all_at (λ (r : Row). is_lt (proc_cmp p r.process)) rows i d within not_so))
 ]
 
-parts_of : (x : Row) (rows : List Row) → rise (x ∷ rows) ≡ true → (list_all (λ r. is_lt (proc_cmp x.process r.process)) rows ≡ true) × (rise rows ≡ true)
+parts_of : (x : Row) (rows : List Row) → rise (x ∷ rows) ≡ true →
+    (list_all (λ r. is_lt (proc_cmp x.process r.process)) rows ≡ true) × (rise rows ≡ true)
 parts_of x rows up = and_parts (list_all (λ r. is_lt (proc_cmp x.process r.process)) rows) (rise rows) up
 
-at_two : (rows : List Row) (i j : ℕ) (d : Row) → rise rows ≡ true → i < j → j < length rows → proc_cmp (get_or rows i d).process (get_or rows j d).process ≡ Less
+at_two : (rows : List Row) (i j : ℕ) (d : Row) → rise rows ≡ true → i < j → j < length rows →
+    proc_cmp (get_or rows i d).process (get_or rows j d).process ≡ Less
 at_two [] i j d up lt within = absurd (omega arith)
 at_two (x ∷ rows) i zero d up lt within = absurd (omega arith)
 at_two (x ∷ rows) zero (suc j) d up lt within = above_at x.process rows j d (parts_of x rows up).0 (omega arith)
@@ -65,11 +70,14 @@ module _ (p : Proc) where
   comparisons_rise : (rows : List Row) → rise rows ≡ true → IsNonDecreasingBy (λ r. ordering_index (proc_cmp r.process p)) rows
   comparisons_rise rows up i j d le within = elim (cases_eq i j) [
     | inl same ↦ omega (arith, ap (λ n. ordering_index (proc_cmp (get_or rows n d).process p)) same)
-    | inr differ ↦ lower proc_cmp proc_total (get_or rows i d).process (get_or rows j d).process p (at_two rows i j d up (omega arith) within) (proc_cmp (get_or rows j d).process p) refl
+    | inr differ ↦
+        lower proc_cmp proc_total (get_or rows i d).process (get_or rows j d).process p (at_two rows i j d up (omega arith) within)
+        (proc_cmp (get_or rows j d).process p) refl
   ]
 
   -- the row at a place is found, where it is of the process
-  pub found_at : (rows : List Row) (i : ℕ) (d : Row) → rise rows ≡ true → i < length rows → proc_eq (get_or rows i d).process p ≡ true → row_of rows p ≡ Some (get_or rows i d)
+  pub found_at : (rows : List Row) (i : ℕ) (d : Row) → rise rows ≡ true → i < length rows → proc_eq (get_or rows i d).process p ≡ true →
+      row_of rows p ≡ Some (get_or rows i d)
   found_at [] i d up within same = absurd (omega arith)
   found_at (x ∷ rows) zero d up within same = ap (λ b. cond b (Some x) (row_of rows p)) same
   found_at (x ∷ rows) (suc i) d up within same =
@@ -79,19 +87,23 @@ module _ (p : Proc) where
       ap (λ b. cond b (Some x) (row_of rows p)) (not_eq x.process p Less less (λ e. cc e))
       ∙ found_at rows i d parts.1 (omega arith) same
 
-  pub search_found : (rows : List Row) (i : ℕ) (d : Row) → rise rows ≡ true → i < length rows → IsBinarySearchResult (λ r. proc_cmp r.process p) rows (Ok i) → row_of rows p ≡ Some (get_or rows i d)
+  pub search_found : (rows : List Row) (i : ℕ) (d : Row) → rise rows ≡ true → i < length rows →
+      IsBinarySearchResult (λ r. proc_cmp r.process p) rows (Ok i) → row_of rows p ≡ Some (get_or rows i d)
   search_found rows i d up within is = found_at rows i d up within (eq_of (get_or rows i d).process p (is d))
 
-  absent : (rows : List Row) (i : ℕ) → ((j : ℕ) (d : Row) → j < i → j < length rows → proc_cmp (get_or rows j d).process p ≡ Less) → ((j : ℕ) (d : Row) → i ≤ j → j < length rows → proc_cmp (get_or rows j d).process p ≡ Greater) → row_of rows p ≡ None
+  absent : (rows : List Row) (i : ℕ) → ((j : ℕ) (d : Row) → j < i → j < length rows → proc_cmp (get_or rows j d).process p ≡ Less) →
+      ((j : ℕ) (d : Row) → i ≤ j → j < length rows → proc_cmp (get_or rows j d).process p ≡ Greater) → row_of rows p ≡ None
   absent [] i less more = refl
   absent (x ∷ rows) zero less more =
       ap (λ b. cond b (Some x) (row_of rows p)) (not_eq x.process p Greater (more 0 x (omega arith) (omega arith)) (λ e. cc e))
       ∙ absent rows zero (λ j d lt. absurd (omega (arith, lt))) (λ j d le lt. more (suc j) d (omega arith) (omega (arith, lt)))
   absent (x ∷ rows) (suc i) less more =
       ap (λ b. cond b (Some x) (row_of rows p)) (not_eq x.process p Less (less 0 x (omega arith) (omega arith)) (λ e. cc e))
-      ∙ absent rows i (λ j d lt within. less (suc j) d (omega (arith, lt)) (omega (arith, within))) (λ j d le lt. more (suc j) d (omega (arith, le)) (omega (arith, lt)))
+      ∙ absent rows i (λ j d lt within. less (suc j) d (omega (arith, lt)) (omega (arith, within)))
+      (λ j d le lt. more (suc j) d (omega (arith, le)) (omega (arith, lt)))
 
-  pub search_absent : (rows : List Row) (i : ℕ) → rise rows ≡ true → IsBinarySearchResult (λ r. proc_cmp r.process p) rows (Err i) → row_of rows p ≡ None
+  pub search_absent : (rows : List Row) (i : ℕ) → rise rows ≡ true → IsBinarySearchResult (λ r. proc_cmp r.process p) rows (Err i) →
+      row_of rows p ≡ None
   search_absent rows i up parted =
       let parts = parted (comparisons_rise rows up) in
       absent rows i (λ j d lt within. parts.0 j d (omega arith) lt) parts.1
@@ -116,10 +128,13 @@ module _ (p : Proc) where
       false≢true (sym (ap is_lt (ap (proc_cmp p) (same_proc x.process p same) ∙ tied_itself proc_total p)) ∙ parts.0)) in
       ap (λ b. cond b (Some x) (row_of rows p)) differ ∙ beyond rows parts.1
 
-  changed_at : (f : Row → Row) (rows : List Row) (i : ℕ) (d : Row) → rise rows ≡ true → i < length rows → proc_eq (get_or rows i d).process p ≡ true → change_row p f rows ≡ slice_set rows i (f (get_or rows i d))
+  changed_at : (f : Row → Row) (rows : List Row) (i : ℕ) (d : Row) → rise rows ≡ true → i < length rows →
+      proc_eq (get_or rows i d).process p ≡ true → change_row p f rows ≡ slice_set rows i (f (get_or rows i d))
   changed_at f [] i d up within same = absurd (omega arith)
   changed_at f (x ∷ rows) zero d up within same =
-      let none : row_of rows p ≡ None = beyond rows (subst (λ q. list_all (λ r. is_lt (proc_cmp q r.process)) rows ≡ true) (same_proc x.process p same) (parts_of x rows up).0) in
+      let none : row_of rows p ≡ None =
+      beyond rows
+      (subst (λ q. list_all (λ r. is_lt (proc_cmp q r.process)) rows ≡ true) (same_proc x.process p same) (parts_of x rows up).0) in
       λ j. cond (same j) (f x) x ∷ none_changed f rows none j
   changed_at f (x ∷ rows) (suc i) d up within same =
       let parts = parts_of x rows up in
@@ -128,17 +143,22 @@ module _ (p : Proc) where
       let later = changed_at f rows i d parts.1 (omega arith) same in
       λ j. cond (not_eq x.process p Less less (λ e. cc e) j) (f x) x ∷ later j
 
-  pub search_changed : (f : Row → Row) (rows : List Row) (i : ℕ) (d : Row) → rise rows ≡ true → i < length rows → IsBinarySearchResult (λ r. proc_cmp r.process p) rows (Ok i) → change_row p f rows ≡ slice_set rows i (f (get_or rows i d))
+  pub search_changed : (f : Row → Row) (rows : List Row) (i : ℕ) (d : Row) → rise rows ≡ true → i < length rows →
+      IsBinarySearchResult (λ r. proc_cmp r.process p) rows (Ok i) → change_row p f rows ≡ slice_set rows i (f (get_or rows i d))
   search_changed f rows i d up within is = changed_at f rows i d up within (eq_of (get_or rows i d).process p (is d))
 
 -- Changes
 
 -- one more, above all
-below_more : (x : Row) (p : Proc) (y : Row) (rows : List Row) → y.process ≡ p → proc_cmp x.process p ≡ Less → list_all (λ r. is_lt (proc_cmp x.process r.process)) rows ≡ true → list_all (λ r. is_lt (proc_cmp x.process r.process)) (rows ++ y ∷ []) ≡ true
-below_more x p y [] is less all = and_from (is_lt (proc_cmp x.process y.process)) true (ap (λ q. is_lt (proc_cmp x.process q)) is ∙ ap is_lt less) refl
+below_more : (x : Row) (p : Proc) (y : Row) (rows : List Row) → y.process ≡ p → proc_cmp x.process p ≡ Less →
+    list_all (λ r. is_lt (proc_cmp x.process r.process)) rows ≡ true →
+    list_all (λ r. is_lt (proc_cmp x.process r.process)) (rows ++ y ∷ []) ≡ true
+below_more x p y [] is less all =
+    and_from (is_lt (proc_cmp x.process y.process)) true (ap (λ q. is_lt (proc_cmp x.process q)) is ∙ ap is_lt less) refl
 below_more x p y (z ∷ rows) is less all =
     let parts = and_parts (is_lt (proc_cmp x.process z.process)) (list_all (λ r. is_lt (proc_cmp x.process r.process)) rows) all in
-    and_from (is_lt (proc_cmp x.process z.process)) (list_all (λ r. is_lt (proc_cmp x.process r.process)) (rows ++ y ∷ [])) parts.0 (below_more x p y rows is less parts.1)
+    and_from (is_lt (proc_cmp x.process z.process)) (list_all (λ r. is_lt (proc_cmp x.process r.process)) (rows ++ y ∷ []))
+    parts.0 (below_more x p y rows is less parts.1)
 
 pub rise_more : (y : Row) (rows : List Row) → rise rows ≡ true → all_below y.process rows ≡ true → rise (rows ++ y ∷ []) ≡ true
 rise_more y [] up below = refl
@@ -151,7 +171,8 @@ rise_more y (x ∷ rows) up below =
 
 -- each changed, but for its process
 module _ (f : Row → Row) (same : (r : Row) → (f r).process ≡ r.process) where
-  below_each : (p : Proc) (rows : List Row) → list_all (λ r. is_lt (proc_cmp p r.process)) (map f rows) ≡ list_all (λ r. is_lt (proc_cmp p r.process)) rows
+  below_each : (p : Proc) (rows : List Row) →
+      list_all (λ r. is_lt (proc_cmp p r.process)) (map f rows) ≡ list_all (λ r. is_lt (proc_cmp p r.process)) rows
   below_each p [] = refl
   below_each p (x ∷ rows) = λ i. is_lt (proc_cmp p (same x i)) && below_each p rows i
 
@@ -162,18 +183,24 @@ module _ (f : Row → Row) (same : (r : Row) → (f r).process ≡ r.process) wh
       ∙ (λ i. below_each x.process rows i && rise_each rows i)
 
 -- the rows of one process changed, but for the process
-pub rise_changed : (f : Row → Row) → ((r : Row) → (f r).process ≡ r.process) → (p : Proc) (rows : List Row) → rise (change_row p f rows) ≡ rise rows
-rise_changed f same p rows = rise_each (λ r. if proc_eq r.process p then f r else r) (λ r. elim (proc_eq r.process p) as (λ b. (if b then f r else r).process ≡ r.process) [ true ↦ same r | false ↦ refl ]) rows
+pub rise_changed : (f : Row → Row) → ((r : Row) → (f r).process ≡ r.process) → (p : Proc) (rows : List Row) →
+    rise (change_row p f rows) ≡ rise rows
+rise_changed f same p rows =
+    rise_each (λ r. if proc_eq r.process p then f r else r)
+    (λ r. elim (proc_eq r.process p) as (λ b. (if b then f r else r).process ≡ r.process) [ true ↦ same r | false ↦ refl ]) rows
 
 pub told_process : (fact : ProcessUpdate) (r : Row) → (told_row fact r).process ≡ r.process
 told_process (fact.Standing g standing) r = refl
 told_process (fact.Time time) r = refl
 
-pub rise_delivered : (offered : List Offered) (p : Proc) (key : Key) (rows : List Row) → rise (after_delivery offered p key rows) ≡ rise rows
-rise_delivered offered p key rows = elim (offered_under offered key) as (λ o. rise (elim o [ Some x ↦ change_row p (delivered_row x.id x.times) rows | None ↦ rows ]) ≡ rise rows) [
-  | Some x ↦ rise_changed (delivered_row x.id x.times) (λ r. refl) p rows
-  | None ↦ refl
-]
+pub rise_delivered : (offered : List Offered) (p : Proc) (key : Key) (rows : List Row) →
+    rise (after_delivery offered p key rows) ≡ rise rows
+rise_delivered offered p key rows =
+    elim (offered_under offered key)
+    as (λ o. rise (elim o [ Some x ↦ change_row p (delivered_row x.id x.times) rows | None ↦ rows ]) ≡ rise rows) [
+      | Some x ↦ rise_changed (delivered_row x.id x.times) (λ r. refl) p rows
+      | None ↦ refl
+    ]
 
 -- A process that was told nothing
 
@@ -185,16 +212,23 @@ none_at row g none = ap (λ es. unwrap_or (entries.find group_cmp g es) Outside)
     no_entries (e ∷ es) is = absurd (omega (arith, eqb-true (length (e ∷ es)) 0 is))
 
 -- takes no message
-none_ready : (gates : List (GroupNo × Gate)) (row : Row) → (length row.standings == 0) ≡ true → (offered : List Offered) → candidate_for gates offered row ≡ None
+none_ready : (gates : List (GroupNo × Gate)) (row : Row) → (length row.standings == 0) ≡ true → (offered : List Offered) →
+    candidate_for gates offered row ≡ None
 none_ready gates row none [] = refl
 none_ready gates row none (o ∷ offered) =
-    ap (λ b. cond (b && ((o.id.view == (gate_in gates o.id.group).number) && (is_open_to (gate_in gates o.id.group) (entry_of o.id) && (nat_lt (done_in row o.id.group o.id.view o.id.proc) o.id.count && (all_allow gates row o.id o.times && has_room (join row.time o.times)))))) (Some o) (candidate_for gates offered row)) (ap is_member (none_at row o.id.group none))
+    ap (λ b. cond (b
+    && ((o.id.view == (gate_in gates o.id.group).number)
+    && (is_open_to (gate_in gates o.id.group) (entry_of o.id)
+    && (nat_lt (done_in row o.id.group o.id.view o.id.proc) o.id.count
+    && (all_allow gates row o.id o.times
+    && has_room (join row.time o.times)))))) (Some o) (candidate_for gates offered row)) (ap is_member (none_at row o.id.group none))
     ∙ none_ready gates row none offered
 
 pub idle_may_not : (q : Queue) (p : Proc) → is_idle q.rows p ≡ true → candidate_in q p ≡ None
 idle_may_not q p idle = at (row_of q.rows p) idle
   where
-    at : (o : Option Row) → option_map_or (λ r. length r.standings == 0) o false ≡ true → option_and_then (candidate_for q.gates q.offered) o ≡ None
+    at : (o : Option Row) → option_map_or (λ r. length r.standings == 0) o false ≡ true →
+        option_and_then (candidate_for q.gates q.offered) o ≡ None
     at None is = refl
     at (Some row) is = none_ready q.gates row is q.offered
 
@@ -205,11 +239,13 @@ none_passes f (o ∷ offered) all =
     let parts = and_parts (not (f o)) (list_all (λ x. not (f x)) offered) all in
     ap (λ b. cond b (Some o) (find f offered)) (not-true (f o) parts.0) ∙ none_passes f offered parts.1
 
-pub settled_may_not : (q : Queue) (n : ℕ) (p : Proc) → AreSettled q.gates q.rows q.offered n → length q.offered ≤ n → candidate_in q p ≡ None
+pub settled_may_not : (q : Queue) (n : ℕ) (p : Proc) → AreSettled q.gates q.rows q.offered n → length q.offered ≤ n →
+    candidate_in q p ≡ None
 settled_may_not q n p settled all = at (row_of q.rows p) refl
   where
     at : (o : Option Row) → row_of q.rows p ≡ o → option_and_then (candidate_for q.gates q.offered) o ≡ None
     at None is = refl
     at (Some row) is =
         none_passes (λ o. is_causally_ready_row q.gates row o.id o.times) q.offered
-        (ap (list_all (λ o. not (is_causally_ready_row q.gates row o.id o.times))) (sym (take_all n q.offered all)) ∙ none_settled_ready q.gates q.rows p row is q.offered n settled)
+        (ap (list_all (λ o. not (is_causally_ready_row q.gates row o.id o.times))) (sym (take_all n q.offered all))
+        ∙ none_settled_ready q.gates q.rows p row is q.offered n settled)

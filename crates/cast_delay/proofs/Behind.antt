@@ -14,8 +14,10 @@ use Rattle.cast_delay.specs.Offers.{none_of}
 use Rattle.cast_delay.proofs.ListLemmas.{find_past}
 
 -- what is ready is causally ready
-pub only_causally : (turns : List (GroupNo × Turn)) (gates : List (GroupNo × Gate)) (row : Row) (o : Offered) → is_ready_row turns gates row o ≡ true → is_causally_ready_row gates row o.id o.times ≡ true
-only_causally turns gates row o ready = (and_parts (is_causally_ready_row gates row o.id o.times) (not o.atomic || has_turn (turn_in turns o.id.group) (entry_of o.id)) ready).0
+pub only_causally : (turns : List (GroupNo × Turn)) (gates : List (GroupNo × Gate)) (row : Row) (o : Offered) →
+    is_ready_row turns gates row o ≡ true → is_causally_ready_row gates row o.id o.times ≡ true
+only_causally turns gates row o ready =
+    (and_parts (is_causally_ready_row gates row o.id o.times) (not o.atomic || has_turn (turn_in turns o.id.group) (entry_of o.id)) ready).0
 
 -- messages from a place on tell as much as all, where none before them passes
 module _ (t : Offered → Bool) (offered : List Offered) (n : ℕ) (none : none_of t n offered ≡ true) where

@@ -23,11 +23,16 @@ pub needed_other : (id : Uid) (h : GroupNo) (v : ℕ) (e : Entry) → uid_eq (ui
 needed_other id h v e other = ap (λ b. cond b (e.1 - 1) e.1) other
 
 -- each id of the entry but the message's own is among those needed
-needed_reaches : (id : Uid) (h : GroupNo) (v : ℕ) (e : Entry) (k : ℕ) → k ≤ e.1 → uid_eq id (uid_in h v (e.0, k)) ≡ false → k ≤ needed_count id h v e
+needed_reaches : (id : Uid) (h : GroupNo) (v : ℕ) (e : Entry) (k : ℕ) → k ≤ e.1 → uid_eq id (uid_in h v (e.0, k)) ≡ false →
+    k ≤ needed_count id h v e
 needed_reaches id h v e k le other = elim (cases_Bool (uid_eq (uid_in h v e) id)) [
   | inl own ↦
       let less = needed_own id h v e own in
-      let apart : k ≡ e.1 → ⊥ = λ same. false≢true (sym other ∙ ap (λ n. uid_eq id (uid_in h v (e.0, n))) same ∙ ap (λ u. uid_eq id u) (same_uid (uid_in h v e) id own) ∙ uid_itself id) in
+      let apart : k ≡ e.1 → ⊥ = λ same.
+      false≢true (sym other
+      ∙ ap (λ n. uid_eq id (uid_in h v (e.0, n))) same
+      ∙ ap (λ u. uid_eq id u) (same_uid (uid_in h v e) id own)
+      ∙ uid_itself id) in
       rw less (omega arith)
   | inr all ↦ rw (needed_other id h v e all) le
 ]
@@ -40,7 +45,8 @@ within_entry id h v e = elim (cases_Bool (uid_eq (uid_in h v e) id)) [
 ]
 
 -- and the last one needed is not the message's own
-needed_apart : (id : Uid) (h : GroupNo) (v : ℕ) (e : Entry) → 0 < needed_count id h v e → uid_eq id (uid_in h v (e.0, needed_count id h v e)) ≡ true → ⊥
+needed_apart : (id : Uid) (h : GroupNo) (v : ℕ) (e : Entry) → 0 < needed_count id h v e →
+    uid_eq id (uid_in h v (e.0, needed_count id h v e)) ≡ true → ⊥
 needed_apart id h v e some own = elim (cases_Bool (uid_eq (uid_in h v e) id)) [
   | inl here ↦
       let less = needed_own id h v e here in
@@ -49,7 +55,8 @@ needed_apart id h v e some own = elim (cases_Bool (uid_eq (uid_in h v e) id)) [
       omega (arith, less, one, other, some)
   | inr there ↦
       let all = needed_other id h v e there in
-      let same : uid_in h v e ≡ id = ap (λ n. uid_in h v (e.0, n)) (sym all) ∙ sym (same_uid id (uid_in h v (e.0, needed_count id h v e)) own) in
+      let same : uid_in h v e ≡ id =
+      ap (λ n. uid_in h v (e.0, n)) (sym all) ∙ sym (same_uid id (uid_in h v (e.0, needed_count id h v e)) own) in
       false≢true (sym there ∙ ap (λ u. uid_eq u id) same ∙ uid_itself id)
 ]
 
@@ -59,20 +66,27 @@ module _ (p : Process) (id : Uid) (h : GroupNo) (v : ℕ) where
   passes u = uid_eq id u || has_delivered p u
 
   -- all ids but the message's own are delivered exactly if all pass, entry by entry
-  pub past_spelled : (c : List Entry) → list_all (has_delivered p) (filter (λ u. not (uid_eq id u)) (map (uid_in h v) (covered_entries c))) ≡ list_all (λ e. list_all (λ k. passes (uid_in h v (e.0, k))) (range_with_len 1 e.1)) c
+  pub past_spelled : (c : List Entry) → list_all (has_delivered p) (filter (λ u. not (uid_eq id u)) (map (uid_in h v) (covered_entries c)))
+      ≡ list_all (λ e. list_all (λ k. passes (uid_in h v (e.0, k))) (range_with_len 1 e.1)) c
   past_spelled c =
       list_all-filter (has_delivered p) (uid_eq id) (map (uid_in h v) (covered_entries c))
       ∙ list_all-map passes (uid_in h v) (covered_entries c)
       ∙ list_all-flat_map (λ f. passes (uid_in h v f)) first_of c
-      ∙ list_all_agree (λ e. list_all (λ f. passes (uid_in h v f)) (first_of e)) (λ e. list_all (λ k. passes (uid_in h v (e.0, k))) (range_with_len 1 e.1))
+      ∙ list_all_agree (λ e. list_all (λ f. passes (uid_in h v f)) (first_of e))
+      (λ e. list_all (λ k. passes (uid_in h v (e.0, k))) (range_with_len 1 e.1))
       (λ e. list_all-map (λ f. passes (uid_in h v f)) (λ k. (e.0, k)) (range_with_len 1 e.1)) c
 
-module _ (gate : GroupNo → Gate) (p : Process) (row : Row) (fits : RowFits gate p row) (id : Uid) (h : GroupNo) (v : ℕ) (stands : HasNotEnded gate h v) where
+module _ (gate : GroupNo → Gate) (p : Process) (row : Row) (fits : RowFits gate p row) (id : Uid) (h : GroupNo) (v : ℕ)
+    (stands : HasNotEnded gate h v) where
   -- what is needed of an entry is delivered exactly if all of its ids pass
-  entry_counted : (e : Entry) → nat_le (needed_count id h v e) (done_in row h v e.0) ≡ list_all (λ k. passes p id h v (uid_in h v (e.0, k))) (range_with_len 1 e.1)
-  entry_counted e = same_bools (nat_le (needed_count id h v e) (done_in row h v e.0)) (list_all (λ k. passes p id h v (uid_in h v (e.0, k))) (range_with_len 1 e.1)) there back
+  entry_counted : (e : Entry) →
+      nat_le (needed_count id h v e) (done_in row h v e.0) ≡ list_all (λ k. passes p id h v (uid_in h v (e.0, k))) (range_with_len 1 e.1)
+  entry_counted e =
+      same_bools (nat_le (needed_count id h v e) (done_in row h v e.0))
+      (list_all (λ k. passes p id h v (uid_in h v (e.0, k))) (range_with_len 1 e.1)) there back
     where
-      there : nat_le (needed_count id h v e) (done_in row h v e.0) ≡ true → list_all (λ k. passes p id h v (uid_in h v (e.0, k))) (range_with_len 1 e.1) ≡ true
+      there : nat_le (needed_count id h v e) (done_in row h v e.0) ≡ true →
+          list_all (λ k. passes p id h v (uid_in h v (e.0, k))) (range_with_len 1 e.1) ≡ true
       there counted = holds_range (λ k. passes p id h v (uid_in h v (e.0, k))) e.1 1 (λ k low high.
           let u = uid_in h v (e.0, k) in
           elim (cases_Bool (uid_eq id u)) [
@@ -83,12 +97,14 @@ module _ (gate : GroupNo → Gate) (p : Process) (row : Row) (fits : RowFits gat
                 or_right (uid_eq id u) (has_delivered p u) ((fits.counts u stands).1 (omega arith, omega (arith, reaches, enough)))
           ])
 
-      back : list_all (λ k. passes p id h v (uid_in h v (e.0, k))) (range_with_len 1 e.1) ≡ true → nat_le (needed_count id h v e) (done_in row h v e.0) ≡ true
+      back : list_all (λ k. passes p id h v (uid_in h v (e.0, k))) (range_with_len 1 e.1) ≡ true →
+          nat_le (needed_count id h v e) (done_in row h v e.0) ≡ true
       back all = le-leb (needed_count id h v e) (done_in row h v e.0) (elim (cases_lt 0 (needed_count id h v e)) [
         | inl some ↦
             let u = uid_in h v (e.0, needed_count id h v e) in
             let within : needed_count id h v e ≤ e.1 = within_entry id h v e in
-            elim (or_cases (uid_eq id u) (has_delivered p u) (range_holds (λ k. passes p id h v (uid_in h v (e.0, k))) e.1 1 all (needed_count id h v e) (omega arith) (omega (arith, within)))) [
+            elim (or_cases (uid_eq id u) (has_delivered p u) (range_holds (λ k. passes p id h v (uid_in h v (e.0, k)))
+            e.1 1 all (needed_count id h v e) (omega arith) (omega (arith, within)))) [
               | inl own ↦ absurd (needed_apart id h v e some own)
               | inr done ↦ ((fits.counts u stands).0 done).1
             ]
@@ -96,7 +112,9 @@ module _ (gate : GroupNo → Gate) (p : Process) (row : Row) (fits : RowFits gat
       ])
 
   -- and so for all entries
-  pub past_counted : (c : List Entry) → has_past row id h v c ≡ list_all (has_delivered p) (filter (λ u. not (uid_eq id u)) (map (uid_in h v) (covered_entries c)))
+  pub past_counted : (c : List Entry) →
+      has_past row id h v c ≡ list_all (has_delivered p) (filter (λ u. not (uid_eq id u)) (map (uid_in h v) (covered_entries c)))
   past_counted c =
-      list_all_agree (λ e. nat_le (needed_count id h v e) (done_in row h v e.0)) (λ e. list_all (λ k. passes p id h v (uid_in h v (e.0, k))) (range_with_len 1 e.1)) entry_counted c
+      list_all_agree (λ e. nat_le (needed_count id h v e) (done_in row h v e.0))
+      (λ e. list_all (λ k. passes p id h v (uid_in h v (e.0, k))) (range_with_len 1 e.1)) entry_counted c
       ∙ sym (past_spelled p id h v c)

@@ -1,9 +1,11 @@
 -- What is told of a process, and what it delivers, its row takes in.
-use Rattle.std.proofs.Common.{◌≡◌, ◌↔◌, ◌⊎◌, ℕ, ◌-◌, ◌<◌, ◌≤◌, true, false, cond, ◌&&◌, ◌||◌, List, [], ◌∷◌, Option, Some, unwrap_or, refl, sym, ap, subst, ◌∙◌, inl, inr, arith}
+use Rattle.std.proofs.Common.{◌≡◌, ◌↔◌, ◌⊎◌, ℕ, ◌-◌, ◌<◌, ◌≤◌, true, false, cond, ◌&&◌, ◌||◌, List, []}
+use Rattle.std.proofs.Common.{◌∷◌, Option, Some, unwrap_or, refl, sym, ap, subst, ◌∙◌, inl, inr, arith}
 use Rattle.std.specs.Prelude.{nat_lt, nat_le, ◌==◌, if◌then◌else◌}
 use Rattle.std.specs.Ordering.{eq_by_cmp}
 use Rattle.std.specs.FinMap.Entries.{find, find-put}
-use Rattle.std.proofs.lemmas.Bool.{cases_Bool, cases_eq, false≢true, ltb-true, leb-true, le-leb, eqb-true, and_parts, or_cases, or_left, or_right}
+use Rattle.std.proofs.lemmas.Bool.{cases_Bool, cases_eq, false≢true, ltb-true, leb-true}
+use Rattle.std.proofs.lemmas.Bool.{le-leb, eqb-true, and_parts, or_cases, or_left, or_right}
 use Rattle.cast_types.specs.declared.names.GroupNo.{GroupNo}
 use Rattle.cast_types.specs.declared.names.Uid.{Uid}
 use Rattle.cast_types.specs.declared.names.Standing.{Standing}
@@ -22,7 +24,8 @@ use Rattle.cast_ready.specs.declared.row.ProcessUpdate.TheVariants as fact
 use Rattle.cast_ready.specs.declared.gate.Gate.{Gate}
 use Rattle.cast_ready.specs.Ready.{Process, is_open_to, is_member, has_delivered}
 use Rattle.cast_types.specs.Sources.{source_cmp, source_of}
-use Rattle.cast_ready.specs.Rows.{gate_in, standing_in, done_in, needed_count, has_past, row_allows, all_allow, is_causally_ready_row, delivered_row, told_row}
+use Rattle.cast_ready.specs.Rows.{gate_in, standing_in, done_in, needed_count, has_past, row_allows}
+use Rattle.cast_ready.specs.Rows.{all_allow, is_causally_ready_row, delivered_row, told_row}
 use Rattle.cast_delay.specs.Fits.{HasNotEnded, RowFits, IsSound, tell_process, delivering}
 use Rattle.cast_delay.proofs.ListLemmas.{list_any-append}
 use Rattle.cast_delay.proofs.Counted.{needed_own, within_entry}
@@ -30,7 +33,8 @@ use Rattle.cast_delay.proofs.Finds.{put_at_group}
 use Rattle.cast_types.proofs.Sources.{source_total, source_exact}
 
 -- a row takes in a fact as the process does
-pub told_fits : (gate : GroupNo → Gate) (p : Process) (row : Row) → RowFits gate p row → (f : ProcessUpdate) → RowFits gate (tell_process f p) (told_row f row)
+pub told_fits : (gate : GroupNo → Gate) (p : Process) (row : Row) → RowFits gate p row → (f : ProcessUpdate) →
+    RowFits gate (tell_process f p) (told_row f row)
 told_fits gate p row fits (fact.Standing g s) = record {
   standing = λ h. put_at_group row.standings g h s Outside ∙ ap (λ old. if group_eq g h then s else old) (fits.standing h);
   in_order = sorted-put group_cmp group_total g s row.standings fits.in_order;
@@ -57,12 +61,14 @@ pub record RowReady (gates : List (GroupNo × Gate)) (row : Row) (id : Uid) (tim
   pub allowed : all_allow gates row id times ≡ true
   pub room : has_room (join row.time times) ≡ true
 
-pub ready_parts : (gates : List (GroupNo × Gate)) (row : Row) (id : Uid) (times : ClockList) → is_causally_ready_row gates row id times ≡ true → RowReady gates row id times
+pub ready_parts : (gates : List (GroupNo × Gate)) (row : Row) (id : Uid) (times : ClockList) →
+    is_causally_ready_row gates row id times ≡ true → RowReady gates row id times
 ready_parts gates row id times ready =
     let open_to = is_open_to (gate_in gates id.group) (entry_of id) in
     let fresh = nat_lt (done_in row id.group id.view id.proc) id.count in
     let rest = all_allow gates row id times && has_room (join row.time times) in
-    let a = and_parts (is_member (standing_in row id.group)) ((id.view == (gate_in gates id.group).number) && (open_to && (fresh && rest))) ready in
+    let a =
+    and_parts (is_member (standing_in row id.group)) ((id.view == (gate_in gates id.group).number) && (open_to && (fresh && rest))) ready in
     let b = and_parts (id.view == (gate_in gates id.group).number) (open_to && (fresh && rest)) a.1 in
     let c = and_parts fresh rest (and_parts open_to (fresh && rest) b.1).1 in
     let d = and_parts (all_allow gates row id times) (has_room (join row.time times)) c.1 in
@@ -75,14 +81,16 @@ ready_parts gates row id times ready =
     }
 
 -- a message that names itself in its time, ready by a row
-module _ (gates : List (GroupNo × Gate)) (row : Row) (id : Uid) (times : ClockList) (view : view_of times id.group ≡ id.view) (count : count_in times id.group id.proc ≡ id.count) (ready : RowReady gates row id times) where
+module _ (gates : List (GroupNo × Gate)) (row : Row) (id : Uid) (times : ClockList) (view : view_of times id.group ≡ id.view)
+    (count : count_in times id.group id.proc ≡ id.count) (ready : RowReady gates row id times) where
   own_past : has_past row id id.group (view_of times id.group) (clock_of times id.group).counts ≡ true
   own_past =
       let v = view_of times id.group in
       let n = (gate_in gates id.group).number in
       let past = has_past row id id.group v (clock_of times id.group).counts in
       let here : row_allows row n id times id.group Member ≡ true =
-      subst (λ s. row_allows row n id times id.group s ≡ true) ready.member (found_or group_exact (λ h s. row_allows row (gate_in gates h).number id times h s) Outside (λ q. refl) row.standings ready.allowed id.group) in
+      subst (λ s. row_allows row n id times id.group s ≡ true) ready.member (found_or group_exact
+      (λ h s. row_allows row (gate_in gates h).number id times h s) Outside (λ q. refl) row.standings ready.allowed id.group) in
       elim (or_cases (nat_lt v n) ((v == n) && past) here) [
         | inl lower ↦ absurd (omega (arith, ltb-true v n lower, view, ready.current))
         | inr rest ↦ (and_parts (v == n) past rest).1
@@ -99,9 +107,14 @@ module _ (gates : List (GroupNo × Gate)) (row : Row) (id : Uid) (times : ClockL
       let own : nat_le (needed_count id g id.view (id.proc, id.count)) (done_in row g id.view id.proc) ≡ true =
       subst (λ w. nat_le (needed_count id g w (id.proc, id.count)) (done_in row g w id.proc) ≡ true) view
       (subst (λ n. nat_le (needed_count id g v (id.proc, n)) (done_in row g v id.proc) ≡ true) count found) in
-      omega (arith, leb-true (needed_count id g id.view (id.proc, id.count)) (done_in row g id.view id.proc) own, needed_own id g id.view (id.proc, id.count) (uid_itself id))
+      omega (
+        arith,
+        leb-true (needed_count id g id.view (id.proc, id.count)) (done_in row g id.view id.proc) own,
+        needed_own id g id.view (id.proc, id.count) (uid_itself id),
+      )
 
-module _ (gate : GroupNo → Gate) (p : Process) (row : Row) (fits : RowFits gate p row) (m : Message) (sound : IsSound m) (gates : List (GroupNo × Gate)) (ready : RowReady gates row m.id m.times) where
+module _ (gate : GroupNo → Gate) (p : Process) (row : Row) (fits : RowFits gate p row) (m : Message) (sound : IsSound m)
+    (gates : List (GroupNo × Gate)) (ready : RowReady gates row m.id m.times) where
   -- what was delivered of the message's sender
   abbrev before : ℕ
   before = done_in row m.id.group m.id.view m.id.proc
@@ -118,7 +131,8 @@ module _ (gate : GroupNo → Gate) (p : Process) (row : Row) (fits : RowFits gat
       ap (λ (o : Option ℕ). unwrap_or o 0) (find-put source_cmp source_total (source_of u) (source_of m.id) m.id.count row.done)
       ∙ ap (λ b. unwrap_or (cond b (Some m.id.count) (find source_cmp (source_of u) row.done)) 0) tie
 
-  after_other : (u : Uid) → eq_by_cmp source_cmp (source_of u) (source_of m.id) ≡ false → done_in after u.group u.view u.proc ≡ done_in row u.group u.view u.proc
+  after_other : (u : Uid) → eq_by_cmp source_cmp (source_of u) (source_of m.id) ≡ false →
+      done_in after u.group u.view u.proc ≡ done_in row u.group u.view u.proc
   after_other u apart =
       ap (λ (o : Option ℕ). unwrap_or o 0) (find-put source_cmp source_total (source_of u) (source_of m.id) m.id.count row.done)
       ∙ ap (λ b. unwrap_or (cond b (Some m.id.count) (find source_cmp (source_of u) row.done)) 0) apart
@@ -129,16 +143,22 @@ module _ (gate : GroupNo → Gate) (p : Process) (row : Row) (fits : RowFits gat
   old_or_own : (u : Uid) → has_delivered (delivering m p) u ≡ true → (has_delivered p u ≡ true) ⊎ (u ≡ m.id)
   old_or_own u has = elim (or_cases (has_delivered p u) (uid_eq u m.id || false) (sym (has_now u) ∙ has)) [
     | inl old ↦ inl old
-    | inr own ↦ elim (or_cases (uid_eq u m.id) false own) [ inl same ↦ inr (same_uid u m.id same) | inr neither ↦ absurd (false≢true neither) ]
+    | inr own ↦ elim (or_cases (uid_eq u m.id) false own) [
+      | inl same ↦ inr (same_uid u m.id same)
+      | inr neither ↦ absurd (false≢true neither)
+    ]
   ]
 
   still : (u : Uid) → has_delivered p u ≡ true → has_delivered (delivering m p) u ≡ true
   still u old = has_now u ∙ or_left (has_delivered p u) (uid_eq u m.id || false) old
 
   own_now : (u : Uid) → u ≡ m.id → has_delivered (delivering m p) u ≡ true
-  own_now u same = has_now u ∙ or_right (has_delivered p u) (uid_eq u m.id || false) (or_left (uid_eq u m.id) false (ap (λ w. uid_eq u w) (sym same) ∙ uid_itself u))
+  own_now u same =
+      has_now u ∙ or_right (has_delivered p u) (uid_eq u m.id || false)
+      (or_left (uid_eq u m.id) false (ap (λ w. uid_eq u w) (sym same) ∙ uid_itself u))
 
-  counts_now : (u : Uid) → HasNotEnded gate u.group u.view → (has_delivered (delivering m p) u ≡ true) ↔ ((0 < u.count) × (u.count ≤ done_in after u.group u.view u.proc))
+  counts_now : (u : Uid) → HasNotEnded gate u.group u.view →
+      (has_delivered (delivering m p) u ≡ true) ↔ ((0 < u.count) × (u.count ≤ done_in after u.group u.view u.proc))
   counts_now u stands = elim (cases_Bool (eq_by_cmp source_cmp (source_of u) (source_of m.id))) [
     | inl tie ↦
         let same : source_of u ≡ source_of m.id = tie_same source_exact (source_of u) (source_of m.id) tie in

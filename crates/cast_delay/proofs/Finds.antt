@@ -1,5 +1,6 @@
 -- The first item of a list that passes a test, and what is found at a key after it was put there.
-use Rattle.std.proofs.Common.{◌≡◌, ℕ, zero, suc, ◌+◌, Bool, true, false, cond, not, List, [], ◌∷◌, ◌++◌, take, map, filter, Contains, Option, Some, None, unwrap_or, refl, sym, ap, subst, ◌∙◌, inl, inr, arith}
+use Rattle.std.proofs.Common.{◌≡◌, ℕ, zero, suc, ◌+◌, Bool, true, false, cond, not, List, [], ◌∷◌, ◌++◌, take, map}
+use Rattle.std.proofs.Common.{filter, Contains, Option, Some, None, unwrap_or, refl, sym, ap, subst, ◌∙◌, inl, inr, arith}
 use Rattle.std.specs.Prelude.{if◌then◌else◌}
 use Rattle.std.specs.List as list
 use Rattle.std.specs.Option.{option_map}
@@ -29,10 +30,12 @@ find_agree s t (x ∷ xs) same =
     let later = find_agree s t xs (λ y in_xs. same y (contains_later y x xs in_xs)) in
     λ i. cond (here i) (Some x) (later i)
 
-pub find_mapped : {A B : Type 0} (f : A → B) (t : B → Bool) (xs : List A) → list.find t (map f xs) ≡ option_map f (list.find (λ x. t (f x)) xs)
+pub find_mapped : {A B : Type 0} (f : A → B) (t : B → Bool) (xs : List A) →
+    list.find t (map f xs) ≡ option_map f (list.find (λ x. t (f x)) xs)
 find_mapped f t [] = refl
 find_mapped f t (x ∷ xs) =
-    elim (t (f x)) as (λ b. cond b (Some (f x)) (list.find t (map f xs)) ≡ option_map f (cond b (Some x) (list.find (λ y. t (f y)) xs))) [ true ↦ refl | false ↦ find_mapped f t xs ]
+    elim (t (f x)) as (λ b. cond b (Some (f x)) (list.find t (map f xs))
+    ≡ option_map f (cond b (Some x) (list.find (λ y. t (f y)) xs))) [ true ↦ refl | false ↦ find_mapped f t xs ]
 
 pub never_found : {A : Type 0} (t : A → Bool) (xs : List A) → ((x : A) → t x ≡ false) → list.find t xs ≡ None
 never_found t [] none = refl
@@ -42,15 +45,24 @@ never_found t (x ∷ xs) none = ap (λ b. cond b (Some x) (list.find t xs)) (non
 pub find-append_some : {A : Type 0} (t : A → Bool) (xs ys : List A) (x : A) → list.find t xs ≡ Some x → list.find t (xs ++ ys) ≡ Some x
 find-append_some t [] ys x is = cc
 find-append_some t (y ∷ xs) ys x is =
-    elim (t y) as (λ b. cond b (Some y) (list.find t xs) ≡ Some x → cond b (Some y) (list.find t (xs ++ ys)) ≡ Some x) [ true ↦ λ here. here | false ↦ λ later. find-append_some t xs ys x later ] is
+    elim (t y) as (λ b. cond b (Some y) (list.find t xs) ≡ Some x → cond b (Some y) (list.find t (xs ++ ys)) ≡ Some x) [
+      | true ↦
+          λ here. here
+      | false ↦ λ later. find-append_some t xs ys x later
+    ] is
 
 pub find-append_none : {A : Type 0} (t : A → Bool) (xs ys : List A) → list.find t xs ≡ None → list.find t (xs ++ ys) ≡ list.find t ys
 find-append_none t [] ys is = refl
 find-append_none t (y ∷ xs) ys is =
-    elim (t y) as (λ b. cond b (Some y) (list.find t xs) ≡ None → cond b (Some y) (list.find t (xs ++ ys)) ≡ list.find t ys) [ true ↦ λ here. cc here | false ↦ λ later. find-append_none t xs ys later ] is
+    elim (t y) as (λ b. cond b (Some y) (list.find t xs) ≡ None → cond b (Some y) (list.find t (xs ++ ys)) ≡ list.find t ys) [
+      | true ↦
+          λ here. cc here
+      | false ↦ λ later. find-append_none t xs ys later
+    ] is
 
 -- nothing before the first place that passes does
-find_taken : {A : Type 0} (t : A → Bool) (x : A) (xs : List A) (n k : ℕ) → k ≡ 1 + n → t x ≡ false → list.find t (take n xs) ≡ None → list.find t (take k (x ∷ xs)) ≡ None
+find_taken : {A : Type 0} (t : A → Bool) (x : A) (xs : List A) (n k : ℕ) → k ≡ 1 + n → t x ≡ false → list.find t (take n xs) ≡ None →
+    list.find t (take k (x ∷ xs)) ≡ None
 find_taken t x xs n zero is fails rest = absurd (omega (arith, is))
 find_taken t x xs n (suc k) is fails rest =
     let same : k ≡ n = omega (arith, is) in
@@ -66,7 +78,8 @@ none_before t (x ∷ xs) = elim (cases_Bool (t x)) [
 ]
 
 -- a search is not changed where only what it passes over is taken out
-pub find_kept : {A : Type 0} (t keep : A → Bool) → ((x : A) → keep x ≡ false → t x ≡ false) → (xs : List A) → list.find t (filter keep xs) ≡ list.find t xs
+pub find_kept : {A : Type 0} (t keep : A → Bool) → ((x : A) → keep x ≡ false → t x ≡ false) → (xs : List A) →
+    list.find t (filter keep xs) ≡ list.find t xs
 find_kept t keep passed [] = refl
 find_kept t keep passed (x ∷ xs) = elim (cases_Bool (keep x)) [
   | inl stays ↦ rw stays (ap (λ o. cond (t x) (Some x) o) (find_kept t keep passed xs))
@@ -82,19 +95,26 @@ find_dropped t (x ∷ xs) = elim (cases_Bool (t x)) [
 ]
 
 -- what a filter keeps is of the list, and passes
-kept_step : {A : Type 0} (keep : A → Bool) (y : A) (ys : List A) (x : A) → (Contains (filter keep ys) x → Contains ys x × (keep x ≡ true)) → (b : Bool) → keep y ≡ b → Contains (cond b (y ∷ filter keep ys) (filter keep ys)) x → Contains (y ∷ ys) x × (keep x ≡ true)
-kept_step keep y ys x rest true stays (zero, lt, at) = (subst (λ z. Contains (y ∷ ys) z) at (contains_here y ys), subst (λ z. keep z ≡ true) at stays)
-kept_step keep y ys x rest true stays (suc k, lt, at) = let later = rest (k, omega (arith, lt), at) in (contains_later x y ys later.0, later.1)
+kept_step : {A : Type 0} (keep : A → Bool) (y : A) (ys : List A) (x : A) → (Contains (filter keep ys) x → Contains ys x × (keep x ≡ true)) →
+    (b : Bool) → keep y ≡ b → Contains (cond b (y ∷ filter keep ys) (filter keep ys)) x → Contains (y ∷ ys) x × (keep x ≡ true)
+kept_step keep y ys x rest true stays (zero, lt, at) = (
+  subst (λ z. Contains (y ∷ ys) z) at (contains_here y ys),
+  subst (λ z. keep z ≡ true) at stays,
+)
+kept_step keep y ys x rest true stays (suc k, lt, at) =
+    let later = rest (k, omega (arith, lt), at) in (contains_later x y ys later.0, later.1)
 kept_step keep y ys x rest false goes inside = let later = rest inside in (contains_later x y ys later.0, later.1)
 
 pub kept_parts : {A : Type 0} (keep : A → Bool) (xs : List A) (x : A) → Contains (filter keep xs) x → Contains xs x × (keep x ≡ true)
 kept_parts keep [] x in_it = absurd (omega (arith, in_it.1))
 kept_parts keep (y ∷ ys) x in_it = kept_step keep y ys x (kept_parts keep ys x) (keep y) refl in_it
 
-pub filter_mapped : {A B : Type 0} (f : A → B) (keep : B → Bool) (xs : List A) → filter keep (map f xs) ≡ map f (filter (λ x. keep (f x)) xs)
+pub filter_mapped : {A B : Type 0} (f : A → B) (keep : B → Bool) (xs : List A) →
+    filter keep (map f xs) ≡ map f (filter (λ x. keep (f x)) xs)
 filter_mapped f keep [] = refl
 filter_mapped f keep (x ∷ xs) =
-    elim (keep (f x)) as (λ b. cond b (f x ∷ filter keep (map f xs)) (filter keep (map f xs)) ≡ map f (cond b (x ∷ filter (λ y. keep (f y)) xs) (filter (λ y. keep (f y)) xs))) [
+    elim (keep (f x)) as (λ b. cond b (f x ∷ filter keep (map f xs)) (filter keep (map f xs))
+    ≡ map f (cond b (x ∷ filter (λ y. keep (f y)) xs) (filter (λ y. keep (f y)) xs))) [
       | true ↦ ap (λ rest. f x ∷ rest) (filter_mapped f keep xs)
       | false ↦ filter_mapped f keep xs
     ]
@@ -122,8 +142,10 @@ tie_is g h = same_bools (eq_by_cmp group_cmp h g) (group_eq g h)
     (λ same. tie_self group_total h g (sym (same_group g h same)))
 
 -- what a group has after a value was put at a group
-pub put_at_group : {V : Type 0} (es : List (GroupNo × V)) (g h : GroupNo) (v d : V) → unwrap_or (find group_cmp h (put group_cmp g v es)) d ≡ (if group_eq g h then v else unwrap_or (find group_cmp h es) d)
+pub put_at_group : {V : Type 0} (es : List (GroupNo × V)) (g h : GroupNo) (v d : V) →
+    unwrap_or (find group_cmp h (put group_cmp g v es)) d ≡ (if group_eq g h then v else unwrap_or (find group_cmp h es) d)
 put_at_group es g h v d =
     ap (λ (o : Option _). unwrap_or o d) (find-put group_cmp group_total h g v es)
     ∙ ap (λ b. unwrap_or (cond b (Some v) (find group_cmp h es)) d) (tie_is g h)
-    ∙ elim (group_eq g h) as (λ b. unwrap_or (cond b (Some v) (find group_cmp h es)) d ≡ cond b v (unwrap_or (find group_cmp h es) d)) [ true ↦ refl | false ↦ refl ]
+    ∙ elim (group_eq g h) as (λ b.
+    unwrap_or (cond b (Some v) (find group_cmp h es)) d ≡ cond b v (unwrap_or (find group_cmp h es) d)) [ true ↦ refl | false ↦ refl ]

@@ -1,5 +1,6 @@
 -- Tests of lists: one test for each item, and another that says the same.
-use Rattle.std.proofs.Common.{◌≡◌, ◌⊎◌, ℕ, zero, suc, ◌+◌, ◌<◌, ◌≤◌, Bool, true, false, cond, not, ◌&&◌, ◌||◌, List, [], ◌∷◌, ◌++◌, map, take, drop, Contains, Some, refl, sym, ap, subst, ◌∙◌, inl, inr, arith}
+use Rattle.std.proofs.Common.{◌≡◌, ◌⊎◌, ℕ, zero, suc, ◌+◌, ◌<◌, ◌≤◌, Bool, true, false, cond, not, ◌&&◌, ◌||◌, List, []}
+use Rattle.std.proofs.Common.{◌∷◌, ◌++◌, map, take, drop, Contains, Some, refl, sym, ap, subst, ◌∙◌, inl, inr, arith}
 use Rattle.std.specs.List.{list_all, list_any, filter, find, flat_map, range_with_len}
 use Rattle.std.proofs.lemmas.Bool.{and_parts, and_from, cases_eq}
 
@@ -23,15 +24,18 @@ pub list_all-map : {A B : Type 0} (t : B → Bool) (f : A → B) (xs : List A) �
 list_all-map t f [] = refl
 list_all-map t f (x ∷ xs) = ap (λ b. t (f x) && b) (list_all-map t f xs)
 
-pub list_all-flat_map : {A B : Type 0} (t : B → Bool) (f : A → List B) (xs : List A) → list_all t (flat_map f xs) ≡ list_all (λ x. list_all t (f x)) xs
+pub list_all-flat_map : {A B : Type 0} (t : B → Bool) (f : A → List B) (xs : List A) →
+    list_all t (flat_map f xs) ≡ list_all (λ x. list_all t (f x)) xs
 list_all-flat_map t f [] = refl
 list_all-flat_map t f (x ∷ xs) = list_all-append t (f x) (flat_map f xs) ∙ ap (λ b. list_all t (f x) && b) (list_all-flat_map t f xs)
 
 -- a test of all but some is a test of all that lets these pass
-pub list_all-filter : {A : Type 0} (t own : A → Bool) (xs : List A) → list_all t (filter (λ x. not (own x)) xs) ≡ list_all (λ x. own x || t x) xs
+pub list_all-filter : {A : Type 0} (t own : A → Bool) (xs : List A) →
+    list_all t (filter (λ x. not (own x)) xs) ≡ list_all (λ x. own x || t x) xs
 list_all-filter t own [] = refl
 list_all-filter t own (x ∷ xs) =
-    elim (own x) as (λ b. list_all t (cond (not b) (x ∷ filter (λ y. not (own y)) xs) (filter (λ y. not (own y)) xs)) ≡ ((b || t x) && list_all (λ y. own y || t y) xs)) [
+    elim (own x) as (λ b. list_all t (cond (not b) (x ∷ filter (λ y. not (own y)) xs) (filter (λ y. not (own y)) xs))
+    ≡ ((b || t x) && list_all (λ y. own y || t y) xs)) [
       | true ↦ list_all-filter t own xs
       | false ↦ ap (λ b. t x && b) (list_all-filter t own xs)
     ]
@@ -72,7 +76,8 @@ all_each t (y ∷ xs) all x has =
     ]
 
 -- what fails on the first n items is looked for behind them
-pub find_past : {A : Type 0} (s t : A → Bool) → ((x : A) → s x ≡ true → t x ≡ false) → (xs : List A) (n : ℕ) → list_all s (take n xs) ≡ true → find t (drop n xs) ≡ find t xs
+pub find_past : {A : Type 0} (s t : A → Bool) → ((x : A) → s x ≡ true → t x ≡ false) → (xs : List A) (n : ℕ) →
+    list_all s (take n xs) ≡ true → find t (drop n xs) ≡ find t xs
 find_past s t fails [] zero all = refl
 find_past s t fails [] (suc n) all = refl
 find_past s t fails (x ∷ xs) zero all = refl

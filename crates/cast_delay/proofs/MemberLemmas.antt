@@ -70,7 +70,8 @@ module _ {X : Type 0} (n : X → ℕ) where
 
   module _ (t : X → Bool) where
     -- the first item that passes is the one of those with the least number
-    pub first_is : (xs : List X) (m : X) → rises n xs ≡ true → Contains xs m → t m ≡ true → ((x : X) → Contains xs x → t x ≡ true → n m ≤ n x) → find t xs ≡ Some m
+    pub first_is : (xs : List X) (m : X) → rises n xs ≡ true → Contains xs m → t m ≡ true →
+        ((x : X) → Contains xs x → t x ≡ true → n m ≤ n x) → find t xs ≡ Some m
     first_is [] m up has passes least = absurd (omega (arith, has.1))
     first_is (y ∷ ys) m up has passes least = elim (contains_cases y m ys has) [
       | inl here ↦ ap (λ b. cond b (Some y) (find t ys)) (ap t here ∙ passes) ∙ ap Some here

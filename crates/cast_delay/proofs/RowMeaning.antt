@@ -1,9 +1,11 @@
 -- By what the queue keeps of a process, a message is causally ready exactly if it is by what the process delivered.
-use Rattle.std.proofs.Common.{◌≡◌, ℕ, ◌<◌, Bool, true, false, not, ◌&&◌, ◌||◌, List, [], ◌∷◌, Option, unwrap_or, refl, sym, ap, subst, ◌∙◌, inl, inr, arith}
+use Rattle.std.proofs.Common.{◌≡◌, ℕ, ◌<◌, Bool, true, false, not, ◌&&◌, ◌||◌, List, [], ◌∷◌}
+use Rattle.std.proofs.Common.{Option, unwrap_or, refl, sym, ap, subst, ◌∙◌, inl, inr, arith}
 use Rattle.std.specs.Prelude.{nat_lt, nat_le, ◌==◌}
 use Rattle.std.specs.List.{list_all}
 use Rattle.std.specs.FinMap.Entries.{is_sorted}
-use Rattle.std.proofs.lemmas.Bool.{or_cases, false≢true, ltb-true, lt-ltb, eqb-true, leb-true, le-leb, cases_lt, not_from_false, not-true, false_from_ne_true, and_parts, and_from}
+use Rattle.std.proofs.lemmas.Bool.{or_cases, false≢true, ltb-true, lt-ltb, eqb-true, leb-true, le-leb}
+use Rattle.std.proofs.lemmas.Bool.{cases_lt, not_from_false, not-true, false_from_ne_true, and_parts, and_from}
 use Rattle.cast_types.specs.declared.names.GroupNo.{GroupNo}
 use Rattle.cast_types.specs.declared.names.Uid.{Uid}
 use Rattle.cast_types.specs.declared.names.Standing.{Standing}
@@ -16,8 +18,10 @@ use Rattle.cast_clock.proofs.Entries.{found_or, each_found, list_all_of, as_T}
 use Rattle.cast_message.specs.declared.message.Message.{Message}
 use Rattle.cast_ready.specs.declared.row.Row.{Row}
 use Rattle.cast_ready.specs.declared.gate.Gate.{Gate}
-use Rattle.cast_ready.specs.Ready.{Process, is_open_to, past_in, is_member, is_outside, has_delivered, awaits, group_allows, is_causally_ready}
-use Rattle.cast_ready.specs.Rows.{gate_in, standing_in, done_in, row_allows, all_allow, has_past, is_causally_ready_row, has_delivered_in, awaits_row}
+use Rattle.cast_ready.specs.Ready.{Process, is_open_to, past_in, is_member, is_outside}
+use Rattle.cast_ready.specs.Ready.{has_delivered, awaits, group_allows, is_causally_ready}
+use Rattle.cast_ready.specs.Rows.{gate_in, standing_in, done_in, row_allows, all_allow}
+use Rattle.cast_ready.specs.Rows.{has_past, is_causally_ready_row, has_delivered_in, awaits_row}
 use Rattle.cast_delay.specs.Fits.{HasNotEnded, RowFits, IsSound}
 use Rattle.cast_delay.proofs.Counted.{past_counted}
 use Rattle.cast_delay.proofs.Turns.{and_agree}
@@ -34,7 +38,8 @@ among_holds t (h ∷ gs) g all among =
     ]
 
 -- delivered, by its count
-pub delivered_means : (gate : GroupNo → Gate) (p : Process) (row : Row) → RowFits gate p row → (u : Uid) → HasNotEnded gate u.group u.view → has_delivered_in row u ≡ has_delivered p u
+pub delivered_means : (gate : GroupNo → Gate) (p : Process) (row : Row) → RowFits gate p row → (u : Uid) → HasNotEnded gate u.group u.view →
+    has_delivered_in row u ≡ has_delivered p u
 delivered_means gate p row fits u stands = same_bools (has_delivered_in row u) (has_delivered p u) there back
   where
     there : has_delivered_in row u ≡ true → has_delivered p u ≡ true
@@ -45,9 +50,11 @@ delivered_means gate p row fits u stands = same_bools (has_delivered_in row u) (
     back : has_delivered p u ≡ true → has_delivered_in row u ≡ true
     back has =
         let bounds = (fits.counts u stands).0 has in
-        and_from (nat_lt 0 u.count) (nat_le u.count (done_in row u.group u.view u.proc)) (lt-ltb 0 u.count bounds.0) (le-leb u.count (done_in row u.group u.view u.proc) bounds.1)
+        and_from (nat_lt 0 u.count) (nat_le u.count (done_in row u.group u.view u.proc)) (lt-ltb 0 u.count bounds.0)
+        (le-leb u.count (done_in row u.group u.view u.proc) bounds.1)
 
-module _ (gate : GroupNo → Gate) (p : Process) (row : Row) (fits : RowFits gate p row) (id : Uid) (stands : HasNotEnded gate id.group id.view) (from_one : 0 < id.count) where
+module _ (gate : GroupNo → Gate) (p : Process) (row : Row) (fits : RowFits gate p row) (id : Uid)
+    (stands : HasNotEnded gate id.group id.view) (from_one : 0 < id.count) where
   -- not delivered, by its count
   pub undelivered_means : nat_lt (done_in row id.group id.view id.proc) id.count ≡ not (has_delivered p id)
   undelivered_means = same_bools (nat_lt (done_in row id.group id.view id.proc) id.count) (not (has_delivered p id)) there back
@@ -68,7 +75,8 @@ module _ (gate : GroupNo → Gate) (p : Process) (row : Row) (fits : RowFits gat
 
 module _ (gate : GroupNo → Gate) (p : Process) (row : Row) (fits : RowFits gate p row) (m : Message) where
   -- a group allows it by the row as it does by the ids
-  group_means : (h : GroupNo) (number : ℕ) → number ≡ (gate h).number → (s : Standing) → row_allows row number m.id m.times h s ≡ group_allows s p (gate h) m h
+  group_means : (h : GroupNo) (number : ℕ) → number ≡ (gate h).number → (s : Standing) →
+      row_allows row number m.id m.times h s ≡ group_allows s p (gate h) m h
   group_means h number is Outside = refl
   group_means h number is (Joining request heard) = refl
   group_means h number is Member =
@@ -77,7 +85,8 @@ module _ (gate : GroupNo → Gate) (p : Process) (row : Row) (fits : RowFits gat
       let all : Bool = list_all (has_delivered p) (past_in m h) in
       (λ i. nat_lt v (is i) || ((v == is i) && counted))
       ∙ ap (λ b. nat_lt v (gate h).number || b) (and_agree (v == (gate h).number) counted all
-      (λ same. past_counted gate p row fits m.id h v (let at = eqb-true v (gate h).number same in omega (arith, at)) (clock_of m.times h).counts))
+      (λ same.
+      past_counted gate p row fits m.id h v (let at = eqb-true v (gate h).number same in omega (arith, at)) (clock_of m.times h).counts))
 
   module _ (groups : List GroupNo) (gates : List (GroupNo × Gate)) (gated : (g : GroupNo) → gate_in gates g ≡ gate g) where
     abbrev allows : GroupNo → Standing → Bool
@@ -92,10 +101,13 @@ module _ (gate : GroupNo → Gate) (p : Process) (row : Row) (fits : RowFits gat
       rule h = group_allows (p.standing h) p (gate h) m h
 
       rule_at : (h : GroupNo) → allows h (standing_in row h) ≡ rule h
-      rule_at h = ap (λ s. allows h s) (fits.standing h) ∙ group_means h (gate_in gates h).number (ap (λ (x : Gate). x.number) (gated h)) (p.standing h)
+      rule_at h =
+          ap (λ s. allows h s) (fits.standing h)
+          ∙ group_means h (gate_in gates h).number (ap (λ (x : Gate). x.number) (gated h)) (p.standing h)
 
       -- a group that is not the domain's holds nothing back
-      rule_outside : (h : GroupNo) (s : Standing) → (is_outside s ≡ false → group_allows s p (gate h) m h ≡ true) → group_allows s p (gate h) m h ≡ true
+      rule_outside : (h : GroupNo) (s : Standing) → (is_outside s ≡ false → group_allows s p (gate h) m h ≡ true) →
+          group_allows s p (gate h) m h ≡ true
       rule_outside h Outside inside = refl
       rule_outside h (Joining request heard) inside = inside refl
       rule_outside h Member inside = inside refl
@@ -122,5 +134,7 @@ module _ (gate : GroupNo → Gate) (p : Process) (row : Row) (fits : RowFits gat
           && (counted
           && (all_means i
           && has_room (join (fits.time i) m.times))))))
-          ∙ ap (λ b. is_member (p.standing g) && b) (and_agree (m.id.view == (gate g).number) (open_to && (counted && rest)) (open_to && (not (has_delivered p m.id) && rest))
-          (λ same. ap (λ b. open_to && (b && rest)) (undelivered_means gate p row fits m.id (let at = eqb-true m.id.view (gate g).number same in omega (arith, at)) sound.from_one)))
+          ∙ ap (λ b. is_member (p.standing g) && b)
+          (and_agree (m.id.view == (gate g).number) (open_to && (counted && rest)) (open_to && (not (has_delivered p m.id) && rest))
+          (λ same. ap (λ b. open_to && (b && rest))
+          (undelivered_means gate p row fits m.id (let at = eqb-true m.id.view (gate g).number same in omega (arith, at)) sound.from_one)))

@@ -1,9 +1,11 @@
 -- The test of readiness says what the rule says in words.
-use Rattle.std.proofs.Common.{◌≡◌, ℕ, Bool, true, not, ◌&&◌, ◌||◌, List, [], ◌∷◌, Contains, Option, Some, None, unwrap_or, refl, sym, ap, subst, ◌∙◌, inl, inr, arith}
+use Rattle.std.proofs.Common.{◌≡◌, ℕ, Bool, true, not, ◌&&◌, ◌||◌, List, [], ◌∷◌, Contains, Option}
+use Rattle.std.proofs.Common.{Some, None, unwrap_or, refl, sym, ap, subst, ◌∙◌, inl, inr, arith}
 use Rattle.std.specs.Prelude.{nat_lt, ◌==◌, IsTrue}
 use Rattle.std.specs.List.{list_all, range_with_len}
 use Rattle.std.specs.FinMap.Entries.{is_sorted}
-use Rattle.std.proofs.lemmas.Bool.{cases_Bool, false≢true, and_parts, and_from, or_cases, or_left, or_right, not-true, not_from_false, false_from_ne_true, ltb-true, lt-ltb, leb-true, le-leb, eqb-true, eq-eqb}
+use Rattle.std.proofs.lemmas.Bool.{cases_Bool, false≢true, and_parts, and_from, or_cases, or_left, or_right, not-true}
+use Rattle.std.proofs.lemmas.Bool.{not_from_false, false_from_ne_true, ltb-true, lt-ltb, leb-true, le-leb, eqb-true, eq-eqb}
 use Rattle.cast_types.specs.declared.names.GroupNo.{GroupNo}
 use Rattle.cast_types.specs.declared.names.Uid.{Uid}
 use Rattle.cast_types.specs.declared.names.Standing.{Standing}
@@ -22,8 +24,10 @@ use Rattle.cast_message.specs.Bodies.{kind_of}
 use Rattle.cast_ready.specs.declared.turn.Turn.{Turn}
 use Rattle.cast_ready.specs.declared.turn.Turn.TheVariants.{Holding, Following}
 use Rattle.cast_ready.specs.declared.gate.Gate.{Gate}
-use Rattle.cast_ready.specs.Ready.{Process, is_cut_by, is_open_to, is_member, has_delivered, past_in, group_allows, has_turn, is_causally_ready, is_ready}
-use Rattle.cast_delay.specs.Rule.{HappenedBefore, Allows, IsCutBy, IsOpenTo, MayBeDelivered, IsTurnOf, MayBeDeliveredInTurn, RuleInWords, TurnInWords}
+use Rattle.cast_ready.specs.Ready.{Process, is_cut_by, is_open_to, is_member, has_delivered}
+use Rattle.cast_ready.specs.Ready.{past_in, group_allows, has_turn, is_causally_ready, is_ready}
+use Rattle.cast_delay.specs.Rule.{HappenedBefore, Allows, IsCutBy, IsOpenTo, MayBeDelivered}
+use Rattle.cast_delay.specs.Rule.{IsTurnOf, MayBeDeliveredInTurn, RuleInWords, TurnInWords}
 use Rattle.cast_delay.proofs.ListLemmas.{contains_cases, all_each, range_holds, holds_range}
 use Rattle.cast_delay.proofs.Counted.{past_spelled}
 use Rattle.cast_delay.proofs.Delivers.{only_member}
@@ -84,9 +88,14 @@ module _ (p : Process) (m : Message) (ordered : IsTrue (is_in_order m.times)) wh
   past_there h all u before =
       let v = view_of m.times h in
       let counts = (clock_of m.times h).counts in
-      let found = found_or proc_exact (λ q n. list_all (λ k. passes (uid_in h v (q, k))) (range_with_len 1 n)) 0 (λ q. refl) counts (sym (past_spelled p m.id h v counts) ∙ all) u.proc in
-      let here = range_holds (λ k. passes (uid_in h v (u.proc, k))) (count_of counts u.proc) 1 found u.count (omega (arith, before.from_one)) (omega (arith, before.covered)) in
-      let same : uid_in h v (u.proc, u.count) ≡ u = λ i. record { group = sym before.group i; view = sym before.view i; proc = u.proc; count = u.count } in
+      let found =
+      found_or proc_exact (λ q n. list_all (λ k. passes (uid_in h v (q, k))) (range_with_len 1 n)) 0 (λ q. refl)
+      counts (sym (past_spelled p m.id h v counts) ∙ all) u.proc in
+      let here =
+      range_holds (λ k. passes (uid_in h v (u.proc, k))) (count_of counts u.proc) 1 found u.count (omega (arith, before.from_one))
+      (omega (arith, before.covered)) in
+      let same : uid_in h v (u.proc, u.count) ≡ u =
+      λ i. record { group = sym before.group i; view = sym before.view i; proc = u.proc; count = u.count } in
       elim (or_cases (uid_eq m.id u) (has_delivered p u) (subst (λ w. passes w ≡ true) same here)) [
         | inl own ↦ absurd (before.other (sym (same_uid m.id u own)))
         | inr done ↦ delivered_in p.delivered u done
@@ -97,7 +106,8 @@ module _ (p : Process) (m : Message) (ordered : IsTrue (is_in_order m.times)) wh
       let v = view_of m.times h in
       let counts = (clock_of m.times h).counts in
       past_spelled p m.id h v counts
-      ∙ each_found proc_total (λ q n. list_all (λ k. passes (uid_in h v (q, k))) (range_with_len 1 n)) counts (as_T (is_sorted proc_cmp counts) (counts_sorted h)) (λ q n is.
+      ∙ each_found proc_total (λ q n. list_all (λ k. passes (uid_in h v (q, k))) (range_with_len 1 n))
+      counts (as_T (is_sorted proc_cmp counts) (counts_sorted h)) (λ q n is.
       holds_range (λ k. passes (uid_in h v (q, k))) n 1 (λ k low high.
       let u = uid_in h v (q, k) in
       let many : count_of counts q ≡ n = ap (λ (o : Option ℕ). unwrap_or o 0) is in
@@ -115,20 +125,25 @@ module _ (p : Process) (m : Message) (ordered : IsTrue (is_in_order m.times)) wh
   allows_there : (gate : Gate) (h : GroupNo) (s : Standing) → group_allows s p gate m h ≡ true → Allows s p gate m h
   allows_there gate h Outside e = tt
   allows_there gate h (Joining request heard) e = leb-true (view_of m.times h) heard e
-  allows_there gate h Member e = elim (or_cases (nat_lt (view_of m.times h) gate.number) ((view_of m.times h == gate.number) && list_all (has_delivered p) (past_in m h)) e) [
-    | inl lower ↦ inl (ltb-true (view_of m.times h) gate.number lower)
-    | inr rest ↦
-        let parts = and_parts (view_of m.times h == gate.number) (list_all (has_delivered p) (past_in m h)) rest in
-        inr (eqb-true (view_of m.times h) gate.number parts.0, past_there h parts.1)
-  ]
+  allows_there gate h Member e =
+      elim (or_cases (nat_lt (view_of m.times h) gate.number)
+      ((view_of m.times h == gate.number) && list_all (has_delivered p) (past_in m h)) e) [
+        | inl lower ↦ inl (ltb-true (view_of m.times h) gate.number lower)
+        | inr rest ↦
+            let parts = and_parts (view_of m.times h == gate.number) (list_all (has_delivered p) (past_in m h)) rest in
+            inr (eqb-true (view_of m.times h) gate.number parts.0, past_there h parts.1)
+      ]
 
   allows_back : (gate : Gate) (h : GroupNo) (s : Standing) → Allows s p gate m h → group_allows s p gate m h ≡ true
   allows_back gate h Outside a = refl
   allows_back gate h (Joining request heard) a = le-leb (view_of m.times h) heard a
-  allows_back gate h Member (inl lower) = or_left (nat_lt (view_of m.times h) gate.number) ((view_of m.times h == gate.number) && list_all (has_delivered p) (past_in m h)) (lt-ltb (view_of m.times h) gate.number lower)
+  allows_back gate h Member (inl lower) =
+      or_left (nat_lt (view_of m.times h) gate.number) ((view_of m.times h == gate.number) && list_all (has_delivered p) (past_in m h))
+      (lt-ltb (view_of m.times h) gate.number lower)
   allows_back gate h Member (inr (same, each)) =
       or_right (nat_lt (view_of m.times h) gate.number) ((view_of m.times h == gate.number) && list_all (has_delivered p) (past_in m h))
-      (and_from (view_of m.times h == gate.number) (list_all (has_delivered p) (past_in m h)) (eq-eqb (view_of m.times h) gate.number same) (past_back h each))
+      (and_from (view_of m.times h == gate.number) (list_all (has_delivered p) (past_in m h)) (eq-eqb (view_of m.times h) gate.number same)
+      (past_back h each))
 
   module _ (groups : List GroupNo) (gate : GroupNo → Gate) where
     abbrev rule : GroupNo → Bool
@@ -136,9 +151,21 @@ module _ (p : Process) (m : Message) (ordered : IsTrue (is_in_order m.times)) wh
 
     words_there : is_causally_ready groups gate p m ≡ true → MayBeDelivered groups gate p m
     words_there ready =
-        let a = and_parts (is_member (p.standing m.id.group)) ((m.id.view == (gate m.id.group).number) && (is_open_to (gate m.id.group) (entry_of m.id) && (not (has_delivered p m.id) && (list_all rule groups && has_room (join p.time m.times))))) ready in
-        let b = and_parts (m.id.view == (gate m.id.group).number) (is_open_to (gate m.id.group) (entry_of m.id) && (not (has_delivered p m.id) && (list_all rule groups && has_room (join p.time m.times)))) a.1 in
-        let o = and_parts (is_open_to (gate m.id.group) (entry_of m.id)) (not (has_delivered p m.id) && (list_all rule groups && has_room (join p.time m.times))) b.1 in
+        let a =
+        and_parts (is_member (p.standing m.id.group))
+        ((m.id.view == (gate m.id.group).number)
+        && (is_open_to (gate m.id.group) (entry_of m.id)
+        && (not (has_delivered p m.id)
+        && (list_all rule groups
+        && has_room (join p.time m.times))))) ready in
+        let b =
+        and_parts (m.id.view == (gate m.id.group).number) (is_open_to (gate m.id.group) (entry_of m.id)
+        && (not (has_delivered p m.id)
+        && (list_all rule groups
+        && has_room (join p.time m.times)))) a.1 in
+        let o =
+        and_parts (is_open_to (gate m.id.group) (entry_of m.id))
+        (not (has_delivered p m.id) && (list_all rule groups && has_room (join p.time m.times))) b.1 in
         let c = and_parts (not (has_delivered p m.id)) (list_all rule groups && has_room (join p.time m.times)) o.1 in
         let d = and_parts (list_all rule groups) (has_room (join p.time m.times)) c.1 in
         record {
@@ -152,12 +179,24 @@ module _ (p : Process) (m : Message) (ordered : IsTrue (is_in_order m.times)) wh
 
     words_back : MayBeDelivered groups gate p m → is_causally_ready groups gate p m ≡ true
     words_back may =
-        and_from (is_member (p.standing m.id.group)) ((m.id.view == (gate m.id.group).number) && (is_open_to (gate m.id.group) (entry_of m.id) && (not (has_delivered p m.id) && (list_all rule groups && has_room (join p.time m.times))))) (ap is_member may.member)
-        (and_from (m.id.view == (gate m.id.group).number) (is_open_to (gate m.id.group) (entry_of m.id) && (not (has_delivered p m.id) && (list_all rule groups && has_room (join p.time m.times)))) (eq-eqb m.id.view (gate m.id.group).number may.current)
-        (and_from (is_open_to (gate m.id.group) (entry_of m.id)) (not (has_delivered p m.id) && (list_all rule groups && has_room (join p.time m.times))) (open_back (gate m.id.group) (entry_of m.id) may.opened)
+        and_from (is_member (p.standing m.id.group))
+        ((m.id.view == (gate m.id.group).number)
+        && (is_open_to (gate m.id.group) (entry_of m.id)
+        && (not (has_delivered p m.id)
+        && (list_all rule groups
+        && has_room (join p.time m.times))))) (ap is_member may.member)
+        (and_from (m.id.view == (gate m.id.group).number) (is_open_to (gate m.id.group) (entry_of m.id)
+        && (not (has_delivered p m.id)
+        && (list_all rule groups
+        && has_room (join p.time m.times)))) (eq-eqb m.id.view (gate m.id.group).number may.current)
+        (and_from (is_open_to (gate m.id.group) (entry_of m.id)) (not (has_delivered p m.id)
+        && (list_all rule groups
+        && has_room (join p.time m.times))) (open_back (gate m.id.group) (entry_of m.id) may.opened)
         (and_from (not (has_delivered p m.id)) (list_all rule groups && has_room (join p.time m.times))
-        (not_from_false (has_delivered p m.id) (false_from_ne_true (has_delivered p m.id) (λ has. may.undelivered (delivered_in p.delivered m.id has))))
-        (and_from (list_all rule groups) (has_room (join p.time m.times)) (each_all rule groups (λ h known. allows_back (gate h) h (p.standing h) (may.allowed h known))) may.room))))
+        (not_from_false (has_delivered p m.id)
+        (false_from_ne_true (has_delivered p m.id) (λ has. may.undelivered (delivered_in p.delivered m.id has))))
+        (and_from (list_all rule groups) (has_room (join p.time m.times))
+        (each_all rule groups (λ h known. allows_back (gate h) h (p.standing h) (may.allowed h known))) may.room))))
 
 pub rule_in_words : RuleInWords
 rule_in_words groups gate p m ordered = (words_there p m ordered groups gate, words_back p m ordered groups gate)
@@ -190,10 +229,13 @@ turn_in_words groups gate turn p m ordered = (there, back)
     its_turn : MayBeDeliveredInTurn groups gate turn p m → in_turn turn m ≡ true
     its_turn may = elim (cases_Bool (is_atomic (kind_of m.body))) [
       | inl atomic ↦
-          or_right (not (is_atomic (kind_of m.body))) (has_turn (turn m.id.group) (entry_of m.id)) (turn_back (turn m.id.group) (entry_of m.id) (may.in_turn (only_atomic (kind_of m.body) atomic)))
+          or_right (not (is_atomic (kind_of m.body))) (has_turn (turn m.id.group) (entry_of m.id))
+          (turn_back (turn m.id.group) (entry_of m.id) (may.in_turn (only_atomic (kind_of m.body) atomic)))
       | inr other ↦
-          or_left (not (is_atomic (kind_of m.body))) (has_turn (turn m.id.group) (entry_of m.id)) (not_from_false (is_atomic (kind_of m.body)) other)
+          or_left (not (is_atomic (kind_of m.body))) (has_turn (turn m.id.group) (entry_of m.id))
+          (not_from_false (is_atomic (kind_of m.body)) other)
     ]
 
     back : MayBeDeliveredInTurn groups gate turn p m → is_ready groups gate turn p m ≡ true
-    back may = and_from (is_causally_ready groups gate p m) (in_turn turn m) (words_back p m ordered groups gate may.causally) (its_turn may)
+    back may =
+        and_from (is_causally_ready groups gate p m) (in_turn turn m) (words_back p m ordered groups gate may.causally) (its_turn may)

@@ -1,5 +1,6 @@
 -- Rows that stand in rising order of their processes, and processes that are in no group.
-use Rattle.std.specs.Prelude.{◌≡◌, ℕ, suc, Bool, true, false, not, ◌==◌, if◌then◌else◌, List, [], ◌∷◌, length}
+use Rattle.std.specs.Prelude.{◌≡◌, ℕ, suc, Bool, true, false, not, ◌==◌}
+use Rattle.std.specs.Prelude.{if◌then◌else◌, List, [], ◌∷◌, length}
 use Rattle.std.specs.List.{list_all}
 use Rattle.std.specs.Option.{option_map_or}
 use Rattle.std.specs.Ordering.{is_lt}
@@ -43,7 +44,8 @@ is_busy row = not (length row.standings == 0)
 -- the places of the rows that are busy, where that of the first row is a number
 abbrev pub busy_places : ℕ → List Row → List ℕ
 busy_places n [] = []
-busy_places n (row ∷ rows) = if is_busy row then n ∷ busy_places (suc n) rows else busy_places (suc n) rows
+busy_places n (row ∷ rows) =
+    if is_busy row then n ∷ busy_places (suc n) rows else busy_places (suc n) rows
 
 -- these are the places of the busy rows, where they are kept up
 abbrev pub AreBusy : Bool → List Row → List ℕ → Type 0

@@ -1,7 +1,8 @@
 -- The queue as contracts see it.
 -- It has gates of groups, messages in order of receipt, what is kept of each process, and what the
 -- processes have reached.
-use Rattle.std.specs.Prelude.{◌≡◌, ℕ, Bool, false, not, if◌then◌else◌, List, map, filter, Contains, Option, Some, None}
+use Rattle.std.specs.Prelude.{◌≡◌, ℕ, Bool, false, not, if◌then◌else◌, List}
+use Rattle.std.specs.Prelude.{map, filter, Contains, Option, Some, None}
 use Rattle.std.specs.List.{fold, find, list_any}
 use Rattle.std.specs.Option.{option_map, option_map_or, option_and_then}
 use Rattle.std.specs.FinMap.Entries.{put}
@@ -19,7 +20,8 @@ use Rattle.cast_ready.specs.declared.gate.Gate.{Gate}
 use Rattle.cast_ready.specs.Ready.{open_gate}
 use Rattle.cast_types.specs.Sources.{source, but_ended}
 use Rattle.cast_ready.specs.DeliveredCounts.{DeliveredCounts, raised_at}
-use Rattle.cast_ready.specs.Rows.{gate_in, is_causally_ready_row, is_ready_row, has_delivered_in, passed_by, lesser_by, awaits_row, ended_row, delivered_row}
+use Rattle.cast_ready.specs.Rows.{gate_in, is_causally_ready_row, is_ready_row, has_delivered_in}
+use Rattle.cast_ready.specs.Rows.{passed_by, lesser_by, awaits_row, ended_row, delivered_row}
 
 pub record Queue : Type 0 where
   pub gates : List (GroupNo × Gate)
@@ -36,7 +38,8 @@ abbrev pub change_row : Proc → (Row → Row) → List Row → List Row
 change_row p f rows = map (λ r. if proc_eq r.process p then f r else r) rows
 
 -- the first message offered that is ready for a row
-abbrev pub first_for : List (GroupNo × Turn) → List (GroupNo × Gate) → List Offered → Row → Option Offered
+abbrev pub first_for : List (GroupNo × Turn) → List (GroupNo × Gate) → List Offered → Row
+    → Option Offered
 first_for turns gates offered row = find (is_ready_row turns gates row) offered
 
 abbrev pub offered_under : List Offered → Key → Option Offered
@@ -44,7 +47,8 @@ offered_under offered key = find (λ o. key_eq o.key key) offered
 
 -- the key of the first message that is ready for a process, where these are the turns of groups
 abbrev pub next_key : List (GroupNo × Turn) → Queue → Proc → Option Key
-next_key turns q p = option_map (λ o. o.key) (option_and_then (first_for turns q.gates q.offered) (row_of q.rows p))
+next_key turns q p =
+    option_map (λ o. o.key) (option_and_then (first_for turns q.gates q.offered) (row_of q.rows p))
 
 -- the first message offered that is ready for a row but for the turns of groups
 abbrev pub candidate_for : List (GroupNo × Gate) → List Offered → Row → Option Offered
@@ -58,14 +62,19 @@ candidate_in q p = option_and_then (candidate_for q.gates q.offered) (row_of q.r
 abbrev pub delivered_in : Queue → Proc → Uid → Bool
 delivered_in q p id = option_map_or (λ row. has_delivered_in row id) (row_of q.rows p) false
 
--- how many of these ids of a view of a group a process has delivered before the first that it has not
+-- how many of these ids of a view of a group a process has delivered before the first that it has
+-- not
 abbrev pub passed_in : Queue → Proc → GroupNo → ℕ → List Entry → ℕ
-passed_in q p group view ids = option_map_or (λ row. passed_by row group view ids) (row_of q.rows p) 0
+passed_in q p group view ids =
+    option_map_or (λ row. passed_by row group view ids) (row_of q.rows p) 0
 
 -- the rows after a delivery of the message under a key
 abbrev pub after_delivery : List Offered → Proc → Key → List Row → List Row
 after_delivery offered p key rows =
-    elim (offered_under offered key) [ Some o ↦ change_row p (delivered_row o.id o.times) rows | None ↦ rows ]
+    elim (offered_under offered key) [
+      | Some o ↦ change_row p (delivered_row o.id o.times) rows
+      | None ↦ rows
+    ]
 
 -- what is reached after a delivery of the message under a key
 abbrev pub reached_after : List Offered → Key → DeliveredCounts → DeliveredCounts
@@ -87,7 +96,8 @@ but_offered key offered = filter (λ o. not (key_eq o.key key)) offered
 abbrev pub queue_gating : GroupNo → (Gate → Gate) → Queue → Queue
 queue_gating g change q = record q { gates = put group_cmp g (change (gate_in q.gates g)) q.gates }
 
--- the queue once a group has a view of this number: no flush has frozen it, and of views below nothing is told more
+-- the queue once a group has a view of this number: no flush has frozen it, and of views below
+-- nothing is told more
 abbrev pub queue_viewing : GroupNo → ℕ → Queue → Queue
 queue_viewing g number q =
     record q {
@@ -108,7 +118,8 @@ queue_delivering p key q =
 abbrev pub is_awaited : List Row → Uid → Bool
 is_awaited rows id = list_any (λ row. awaits_row row id) rows
 
--- the least count of a process's messages of a view that each member of the group has delivered, MAX_NUMBER of no member
+-- the least count of a process's messages of a view that each member of the group has delivered,
+-- MAX_NUMBER of no member
 abbrev pub least_in : List Row → GroupNo → ℕ → Proc → ℕ
 least_in rows group view p = fold (lesser_by group view p) MAX_NUMBER rows
 

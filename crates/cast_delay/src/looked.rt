@@ -17,9 +17,10 @@ use cast_types::{GroupNo, Key, NoMemory, Proc, SortedMap, Uid};
 use std::alloc::Global;
 use std::collections::BTreeSet;
 
-/// What was looked at of the messages for a process, each once. A message that the process awaits is awake, or filed under one
-/// id, until the process delivers it; so there are no more entries than messages that it awaits, but for those that were
-/// forgotten before it had them. All go once few messages wait, a view ends or the process enters or leaves a group.
+/// What was looked at of the messages for a process, each once. A message that the process awaits
+/// is awake, or filed under one id, until the process delivers it; so there are no more entries
+/// than messages that it awaits, but for those that were forgotten before it had them. All go once
+/// few messages wait, a view ends or the process enters or leaves a group.
 #[derive(Drop)]
 pub struct Looked {
     pub process: Proc,
@@ -46,7 +47,8 @@ impl Looked {
         }
     }
 
-    /// The key of the first message that is awake and ready for the row, where these are the turns of groups.
+    /// The key of the first message that is awake and ready for the row, where these are the turns
+    /// of groups.
     pub fn first_ready(
         &self,
         offered: &Offers,
@@ -54,7 +56,8 @@ impl Looked {
         gates: &SortedMap<GroupNo, Gate>,
         row: &Row,
     ) -> Option<Key>
-        ensures value { option_map (λ k. k.0) result ≡ find (is_ready_under turns.now gates.now row.now offered.now) self.now.awake.keys }
+        ensures value { option_map (λ k. k.0) result
+            ≡ find (is_ready_under turns.now gates.now row.now offered.now) self.now.awake.keys }
         ensures rising { IsStrictlySortedBy nat_cmp self.now.awake.keys }
     {
         match found_ready(&self.awake, offered, turns, gates, row) {
@@ -63,14 +66,16 @@ impl Looked {
         }
     }
 
-    /// The key of the first message that is awake and ready for the row but for the turns of groups.
+    /// The key of the first message that is awake and ready for the row but for the turns of
+    /// groups.
     pub fn first_candidate(
         &self,
         offered: &Offers,
         gates: &SortedMap<GroupNo, Gate>,
         row: &Row,
     ) -> Option<Key>
-        ensures value { option_map (λ k. k.0) result ≡ find (is_candidate_under gates.now row.now offered.now) self.now.awake.keys }
+        ensures value { option_map (λ k. k.0) result
+            ≡ find (is_candidate_under gates.now row.now offered.now) self.now.awake.keys }
         ensures rising { IsStrictlySortedBy nat_cmp self.now.awake.keys }
     {
         match found_candidate(&self.awake, offered, gates, row) {
@@ -79,8 +84,8 @@ impl Looked {
         }
     }
 
-    /// Looks at the messages from a place on. Their keys are below `above`, and those before them are known. After
-    /// `NoMemory` it is of no further use.
+    /// Looks at the messages from a place on. Their keys are below `above`, and those before them
+    /// are known. After `NoMemory` it is of no further use.
     pub fn look(
         &mut self,
         above: usize,
@@ -91,7 +96,8 @@ impl Looked {
     ) -> Result<(), NoMemory>
         requires above { all_below key_of above offered.now ≡ true }
         requires first { first ≤ length offered.now }
-        requires before { (o : Offered) → Contains (take first offered.now) o → IsKnown gates.now row.now self.old o }
+        requires before { (o : Offered) → Contains (take first offered.now) o
+            → IsKnown gates.now row.now self.old o }
         requires within { IsWithin self.old }
         ensures known { OnOk result (AreKnown gates.now row.now offered.now self.new) }
         ensures process { self.new.process ≡ self.old.process }
@@ -103,8 +109,9 @@ impl Looked {
         Ok(())
     }
 
-    /// Takes in that the process delivered the message of an id, which has this key: looks again at what was filed under
-    /// it. `false` after `NoMemory`, or where more was filed than there are messages: then it is of no further use.
+    /// Takes in that the process delivered the message of an id, which has this key: looks again at
+    /// what was filed under it. `false` after `NoMemory`, or where more was filed than there are
+    /// messages: then it is of no further use.
     pub fn wake(
         &mut self,
         id: Uid,
@@ -115,8 +122,10 @@ impl Looked {
     ) -> bool
         requires rising { rises key_of offered.now ≡ true }
         requires within { IsWithin self.old }
-        requires waking { (o : Offered) → Contains offered.now o → o.key.0 < self.old.below → IsWaking gates.now row.now id self.old o }
-        requires taken { (o : Offered) → Contains offered.now o → o.key.0 ≡ key.0 → awaits_now gates.now row.now o.id ≡ false }
+        requires waking { (o : Offered) → Contains offered.now o → o.key.0 < self.old.below
+            → IsWaking gates.now row.now id self.old o }
+        requires taken { (o : Offered) → Contains offered.now o → o.key.0 ≡ key.0
+            → awaits_now gates.now row.now o.id ≡ false }
         ensures known { result ≡ true → AreKnown gates.now row.now offered.now self.new }
         ensures process { self.new.process ≡ self.old.process }
     {
@@ -145,7 +154,8 @@ impl Looked {
         requires there { has self.old.filed id key ≡ true }
         requires within { IsWithin self.old }
         ensures within { OnOk result (IsWithin self.new) }
-        ensures waking { OnOk result ((o : Offered) → Contains offered.now o → IsWaking gates.now row.now id self.old o → IsWaking gates.now row.now id self.new o) }
+        ensures waking { OnOk result ((o : Offered) → Contains offered.now o
+            → IsWaking gates.now row.now id self.old o → IsWaking gates.now row.now id self.new o) }
         ensures process { self.new.process ≡ self.old.process }
         ensures below { OnOk result (self.new.below ≡ self.old.below) }
     {
@@ -156,7 +166,8 @@ impl Looked {
         Ok(())
     }
 
-    // Looks at a message: files it under one that it waits for, or else wakes it where it is awaited.
+    // Looks at a message: files it under one that it waits for, or else wakes it where it is
+    // awaited.
     fn judge(
         &mut self,
         gates: &SortedMap<GroupNo, Gate>,
@@ -190,7 +201,8 @@ fn found_ready<'a>(
     gates: &SortedMap<GroupNo, Gate>,
     row: &Row,
 ) -> Option<&'a usize>
-    ensures value { option_copied result ≡ find (is_ready_under turns.now gates.now row.now offered.now) awake.now.keys }
+    ensures value { option_copied result
+        ≡ find (is_ready_under turns.now gates.now row.now offered.now) awake.now.keys }
     ensures rising { IsStrictlySortedBy nat_cmp awake.now.keys }
 {
     awake
@@ -205,7 +217,8 @@ fn found_candidate<'a>(
     gates: &SortedMap<GroupNo, Gate>,
     row: &Row,
 ) -> Option<&'a usize>
-    ensures value { option_copied result ≡ find (is_candidate_under gates.now row.now offered.now) awake.now.keys }
+    ensures value { option_copied result
+        ≡ find (is_candidate_under gates.now row.now offered.now) awake.now.keys }
     ensures rising { IsStrictlySortedBy nat_cmp awake.now.keys }
 {
     awake

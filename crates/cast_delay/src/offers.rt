@@ -1,4 +1,6 @@
-ghost use Rattle.std.specs.Prelude.{◌≡◌, ℕ, ◌<◌, ◌≤◌, ◌∷◌, ◌++◌, [], true, IfOk, IfSome, OnOk, OnErr, length, take, slice_get, slice_range, slice_index_or, Some};
+ghost use Rattle.std.specs.Prelude.{◌≡◌, ℕ, ◌<◌, ◌≤◌, ◌∷◌, ◌++◌, [], true, IfOk};
+ghost use Rattle.std.specs.Prelude.{IfSome, OnOk, OnErr, length, take, slice_get};
+ghost use Rattle.std.specs.Prelude.{slice_range, slice_index_or, Some};
 ghost use Rattle.std.specs.VecDeque.{deque_len};
 ghost use Rattle.std.specs.List.{position, remove};
 ghost use Rattle.std.specs.Option.{option_copied, option_map};
@@ -6,7 +8,8 @@ ghost use Rattle.cast_message.specs.Receipts.{key_eq};
 ghost use Rattle.cast_index.specs.Rises.{rises, all_below};
 ghost use Rattle.cast_delay.specs.Queue.{candidate_for, first_for, offered_under, but_offered};
 ghost use Rattle.cast_ready.specs.Rows.{is_causally_ready_row, is_ready_row};
-ghost use Rattle.cast_delay.specs.Offers.{key_of, none_of, is_ready_under, is_candidate_under, AreOrderly};
+ghost use Rattle.cast_delay.specs.Offers.{key_of, none_of, is_ready_under};
+ghost use Rattle.cast_delay.specs.Offers.{is_candidate_under, AreOrderly};
 
 use cast_ready::{Gate, Offered, Row, Turn};
 use cast_types::{GroupNo, Key, NoMemory, SortedMap};
@@ -18,8 +21,8 @@ use std::marker::Model;
 #[derive(Drop)]
 pub struct Offers {
     messages: VecDeque<Offered>,
-    /// A number above all keys, as long as the messages are orderly: keys rise in order of receipt. Then a message is
-    /// found by halving.
+    /// A number above all keys, as long as the messages are orderly: keys rise in order of receipt.
+    /// Then a message is found by halving.
     above: Option<usize>,
 }
 
@@ -95,7 +98,8 @@ impl Offers {
 
     /// A number above all keys, where keys rise in order of receipt.
     pub fn above(&self) -> Option<usize>
-        ensures { IfSome result (λ top. (rises key_of self.now ≡ true) × (all_below key_of top self.now ≡ true)) }
+        ensures { IfSome result
+            (λ top. (rises key_of self.now ≡ true) × (all_below key_of top self.now ≡ true)) }
     {
         self.above
     }
@@ -136,8 +140,8 @@ impl Offers {
         }
     }
 
-    /// The key of the first message that is ready for a row, where these are the turns of groups and none of the first ones
-    /// is ready.
+    /// The key of the first message that is ready for a row, where these are the turns of groups
+    /// and none of the first ones is ready.
     pub fn first_ready(
         &self,
         first: usize,
@@ -147,13 +151,15 @@ impl Offers {
     ) -> Option<Key>
         requires within { first ≤ length self.now }
         requires none { none_of (is_ready_row turns.now gates.now row.now) first self.now ≡ true }
-        ensures { result ≡ option_map (λ o. o.key) (first_for turns.now gates.now self.now row.now) }
+        ensures { result
+            ≡ option_map (λ o. o.key) (first_for turns.now gates.now self.now row.now) }
     {
         let offered = first_from(&self.messages, first, turns, gates, row)?;
         Some(offered.key)
     }
 
-    /// The first message that is ready for a row but for the turns of groups, where none of the first ones is.
+    /// The first message that is ready for a row but for the turns of groups, where none of the
+    /// first ones is.
     pub fn first_candidate(
         &self,
         first: usize,
@@ -161,13 +167,15 @@ impl Offers {
         row: &Row,
     ) -> Option<&Offered>
         requires within { first ≤ length self.now }
-        requires none { none_of (λ o. is_causally_ready_row gates.now row.now o.id o.times) first self.now ≡ true }
+        requires none { none_of (λ o. is_causally_ready_row gates.now row.now o.id o.times)
+            first self.now ≡ true }
         ensures { option_copied result ≡ candidate_for gates.now self.now row.now }
     {
         candidate_from(&self.messages, first, gates, row)
     }
 
-    /// Keeps what is under other keys. The result says how many of those are among the first ones. Takes no memory.
+    /// Keeps what is under other keys. The result says how many of those are among the first ones.
+    /// Takes no memory.
     pub fn forget(&mut self, key: Key, first: usize) -> usize
         requires { first ≤ length self.old }
         ensures items { self.new ≡ but_offered key self.old }
@@ -200,7 +208,8 @@ fn first_from<'a>(
     row: &Row,
 ) -> Option<&'a Offered>
     requires { first ≤ length messages.now.items }
-    ensures { option_copied result ≡ first_for turns.now gates.now (slice_range messages.now.items first (deque_len messages.now)) row.now }
+    ensures { option_copied result ≡ first_for turns.now gates.now
+        (slice_range messages.now.items first (deque_len messages.now)) row.now }
 {
     messages
         .range(first..)
@@ -215,7 +224,8 @@ fn candidate_from<'a>(
     row: &Row,
 ) -> Option<&'a Offered>
     requires { first ≤ length messages.now.items }
-    ensures { option_copied result ≡ candidate_for gates.now (slice_range messages.now.items first (deque_len messages.now)) row.now }
+    ensures { option_copied result ≡ candidate_for gates.now
+        (slice_range messages.now.items first (deque_len messages.now)) row.now }
 {
     messages.range(first..).find(|offered| row.is_causally_ready(gates, offered.id, &offered.times))
 }
@@ -254,8 +264,8 @@ fn first_under(messages: &VecDeque<Offered>, key: Key) -> Option<&Offered>
     messages.iter().find(|offered| offered.key == key)
 }
 
-// Keeps what is under other keys, where the messages are orderly. The result says how many of those are among the first
-// ones.
+// Keeps what is under other keys, where the messages are orderly. The result says how many of those
+// are among the first ones.
 fn forget_found(messages: &mut VecDeque<Offered>, key: Key, first: usize) -> usize
     requires rising { rises key_of messages.old.items ≡ true }
     requires first { first ≤ length messages.old.items }

@@ -1,4 +1,5 @@
-ghost use Rattle.std.specs.Prelude.{◌≡◌, ◌≤◌, ◌<◌, ◌++◌, ◌∷◌, ℕ, [], true, false, IfOk, IfSome, OnOk, Some, not, length, slice_get, map, filter};
+ghost use Rattle.std.specs.Prelude.{◌≡◌, ◌≤◌, ◌<◌, ◌++◌, ◌∷◌, ℕ, [], true, false, IfOk};
+ghost use Rattle.std.specs.Prelude.{IfSome, OnOk, Some, not, length, slice_get, map, filter};
 ghost use Rattle.cast_ready.specs.declared.row.Row.{Row};
 ghost use Rattle.std.specs.Option.{option_copied, option_map, option_map_or, option_and_then};
 ghost use Rattle.std.specs.FinMap.Entries.{put};
@@ -10,14 +11,23 @@ ghost use Rattle.cast_message.specs.Receipts.{key_eq};
 ghost use Rattle.cast_ready.specs.declared.turn.Turn.{Turn};
 ghost use Rattle.cast_ready.specs.Ready.{frozen_gate, pending_gate, has_delivered};
 ghost use Rattle.cast_index.specs.Rises.{rises};
-ghost use Rattle.cast_ready.specs.Rows.{ended_row, told_row, standing_in, is_ready_row, is_causally_ready_row, new_row};
+ghost use Rattle.cast_ready.specs.Rows.{ended_row, told_row, standing_in};
+ghost use Rattle.cast_ready.specs.Rows.{is_ready_row, is_causally_ready_row, new_row};
 ghost use Rattle.cast_delay.specs.Offers.{key_of, none_of};
-ghost use Rattle.cast_delay.specs.Waits.{next_under, looked_of, waits_despite, IsUnseen, IsUnseenBy, AreKnown, AreLookedAt, AreToWake};
+ghost use Rattle.cast_delay.specs.Waits.{next_under, looked_of, waits_despite, IsUnseen};
+ghost use Rattle.cast_delay.specs.Waits.{IsUnseenBy, AreKnown, AreLookedAt, AreToWake};
 ghost use Rattle.cast_ready.specs.DeliveredCounts.{counts_in};
-ghost use Rattle.cast_delay.specs.Queue.{row_of, but_row, change_row, first_for, offered_under, next_key, candidate_for, candidate_in, delivered_in, passed_in, but_offered, is_awaited, least_in, after_delivery, reached_after, queue_viewing, queue_delivering, queue_gating};
+ghost use Rattle.cast_delay.specs.Queue.{row_of, but_row, change_row, first_for};
+ghost use Rattle.cast_delay.specs.Queue.{offered_under, next_key, candidate_for};
+ghost use Rattle.cast_delay.specs.Queue.{candidate_in, delivered_in, passed_in, but_offered};
+ghost use Rattle.cast_delay.specs.Queue.{is_awaited, least_in, after_delivery, reached_after};
+ghost use Rattle.cast_delay.specs.Queue.{queue_viewing, queue_delivering, queue_gating};
 ghost use Rattle.cast_delay.specs.Fits.{offer_of};
-ghost use Rattle.cast_delay.specs.Settled.{is_settled, AreSettled, despite_fact, is_next_of, despite_delivery};
-ghost use Rattle.cast_delay.specs.Says.{SaysAwaited, SaysFirstReady, SaysMayDeliver, SaysCandidate, SaysDelivered, SaysPassed, SaysReached, SaysTime, SaysStanding};
+ghost use Rattle.cast_delay.specs.Settled.{is_settled, AreSettled, despite_fact};
+ghost use Rattle.cast_delay.specs.Settled.{is_next_of, despite_delivery};
+ghost use Rattle.cast_delay.specs.Says.{SaysAwaited, SaysFirstReady, SaysMayDeliver};
+ghost use Rattle.cast_delay.specs.Says.{SaysCandidate, SaysDelivered, SaysPassed};
+ghost use Rattle.cast_delay.specs.Says.{SaysReached, SaysTime, SaysStanding};
 
 use crate::looked::Looked;
 use crate::offers::Offers;
@@ -35,15 +45,16 @@ use std::marker::Model;
 /// So many messages are looked at one by one; where more wait, it is noted what each waits for.
 const FEW: usize = 16;
 
-/// The delay queue of a domain: messages in order of receipt, and what decides for each local process which of them
-/// it may deliver. Contracts see a `Queue`.
+/// The delay queue of a domain: messages in order of receipt, and what decides for each local
+/// process which of them it may deliver. Contracts see a `Queue`.
 #[derive(Drop)]
 pub struct Delay {
     gates: SortedMap<GroupNo, Gate>,
     offered: Offers,
-    /// How many messages, from the first on, are known to be settled: no process here awaits them any more, or their
-    /// view is not the one that stands. None of them is ready for any process, so a question looks at those behind them
-    /// alone, and of these only at what is not known to wait for others.
+    /// How many messages, from the first on, are known to be settled: no process here awaits them
+    /// any more, or their view is not the one that stands. None of them is ready for any process,
+    /// so a question looks at those behind them alone, and of these only at what is not known to
+    /// wait for others.
     settled: usize,
     waits: Waits,
     rows: Rows,
@@ -56,7 +67,12 @@ impl Model for Delay {
 
     ghost Value = { Queue };
 
-    ghost view = { λ d. record { gates = d.gates; offered = d.offered; rows = d.rows; reached = d.reached } };
+    ghost view = { λ d. record {
+      gates = d.gates;
+      offered = d.offered;
+      rows = d.rows;
+      reached = d.reached;
+    } };
 
     ghost invariant = { λ d. MayBePassed d.gates d.rows d.offered d.settled d.waits };
 }
@@ -90,16 +106,20 @@ impl Delay {
         })
     }
 
-    /// Adds a process that is in no group. `NoMemory` leaves the queue of no further use, as in all its calls.
+    /// Adds a process that is in no group. `NoMemory` leaves the queue of no further use, as in all
+    /// its calls.
     pub fn admit(&mut self, process: Proc) -> Result<(), NoMemory>
-        ensures { OnOk result (self.new ≡ record self.old { rows = self.old.rows ++ new_row process ∷ [] }) }
+        ensures { OnOk result
+            (self.new ≡ record self.old { rows = self.old.rows ++ new_row process ∷ [] }) }
     {
         self.rows.admit(process)
     }
 
     /// Forgets a process that is in no group. Takes no memory.
     pub fn dismiss(&mut self, process: Proc)
-        ensures { self.new ≡ record self.old { rows = filter (λ r. not (proc_eq r.process process)) self.old.rows } }
+        ensures { self.new ≡ record self.old {
+          rows = filter (λ r. not (proc_eq r.process process)) self.old.rows;
+        } }
     {
         self.waits.forget(process);
         self.rows.dismiss(process);
@@ -112,8 +132,8 @@ impl Delay {
         self.rows.as_slice().len()
     }
 
-    /// The admitted process at a place, in the order in which they were admitted, `None` past the last one. Takes no
-    /// memory.
+    /// The admitted process at a place, in the order in which they were admitted, `None` past the
+    /// last one. Takes no memory.
     pub fn process_at(&self, place: usize) -> Option<Proc>
         ensures { result ≡ option_map (λ r. r.process) (slice_get self.now.rows place) }
     {
@@ -123,7 +143,8 @@ impl Delay {
 
     /// Takes in a fact about a process.
     pub fn tell(&mut self, process: Proc, fact: &ProcessUpdate) -> Result<(), NoMemory>
-        ensures { OnOk result (self.new ≡ record self.old { rows = change_row process (told_row fact.now) self.old.rows }) }
+        ensures { OnOk result (self.new
+            ≡ record self.old { rows = change_row process (told_row fact.now) self.old.rows }) }
     {
         let settled = despite_fact(fact, self.settled);
         self.settled = 0;
@@ -135,8 +156,8 @@ impl Delay {
         Ok(())
     }
 
-    /// Takes in the number of a group's new view, which no flush has frozen. What was delivered of views below it is
-    /// forgotten.
+    /// Takes in the number of a group's new view, which no flush has frozen. What was delivered of
+    /// views below it is forgotten.
     pub fn note_view(&mut self, group: GroupNo, number: u32) -> Result<(), NoMemory>
         ensures { OnOk result (self.new ≡ queue_viewing group number self.old) }
     {
@@ -149,7 +170,8 @@ impl Delay {
         Ok(())
     }
 
-    /// Freezes a group: of its messages only those are delivered that are within its cut, where an Install waits.
+    /// Freezes a group: of its messages only those are delivered that are within its cut, where an
+    /// Install waits.
     pub fn freeze(&mut self, group: GroupNo) -> Result<(), NoMemory>
         ensures { OnOk result (self.new ≡ queue_gating group frozen_gate self.old) }
     {
@@ -158,8 +180,8 @@ impl Delay {
         Ok(())
     }
 
-    /// Takes in that the Install of a group's next view waits, with this cut: the group is frozen, and of its messages
-    /// those within the cut are delivered.
+    /// Takes in that the Install of a group's next view waits, with this cut: the group is frozen,
+    /// and of its messages those within the cut are delivered.
     pub fn pend(&mut self, group: GroupNo, cut: &Counts) -> Result<(), NoMemory>
         ensures { OnOk result (self.new ≡ queue_gating group (pending_gate cut.now) self.old) }
     {
@@ -176,7 +198,10 @@ impl Delay {
 
     /// Adds a received message, the last one in order of receipt.
     pub fn offer(&mut self, key: Key, message: &Message) -> Result<(), NoMemory>
-        ensures { OnOk result (self.new ≡ record self.old { offered = self.old.offered ++ offer_of (record { key = key; message = message.now }) ∷ [] }) }
+        ensures { OnOk result (self.new ≡ record self.old {
+          offered = self.old.offered
+              ++ offer_of (record { key = key; message = message.now }) ∷ [];
+        }) }
     {
         self.offered.push(Offered {
             key,
@@ -190,15 +215,19 @@ impl Delay {
         Ok(())
     }
 
-    /// Offers the message under a key no more; where there is none, nothing changes. Takes no memory.
+    /// Offers the message under a key no more; where there is none, nothing changes. Takes no
+    /// memory.
     pub fn forget(&mut self, key: Key)
-        ensures { self.new ≡ record self.old { offered = filter (λ o. not (key_eq o.key key)) self.old.offered } }
+        ensures { self.new ≡ record self.old {
+          offered = filter (λ o. not (key_eq o.key key)) self.old.offered;
+        } }
     {
         let settled = self.offered.forget(key, self.settled);
         self.settled = settled;
     }
 
-    /// The id of the first message that is offered under a key, `None` where none is. Takes no memory.
+    /// The id of the first message that is offered under a key, `None` where none is. Takes no
+    /// memory.
     pub fn id_under(&self, key: Key) -> Option<Uid>
         ensures { result ≡ option_map (λ o. o.id) (offered_under self.now.offered key) }
     {
@@ -206,8 +235,8 @@ impl Delay {
         Some(offered.id)
     }
 
-    /// Whether some process that is a member of a message's group has not delivered the message, whose view has not
-    /// ended and whose count is from 1 on. Takes no memory.
+    /// Whether some process that is a member of a message's group has not delivered the message,
+    /// whose view has not ended and whose count is from 1 on. Takes no memory.
     pub fn is_awaited(&self, id: Uid) -> bool
         ensures value { result ≡ is_awaited self.now.rows id }
         ensures meaning { SaysAwaited self.now id result }
@@ -215,16 +244,17 @@ impl Delay {
         self.rows.is_awaited(id)
     }
 
-    /// The least count of a process's messages of a view that each member of the group here has delivered, 4,294,967,295
-    /// where there is no member. Takes no memory.
+    /// The least count of a process's messages of a view that each member of the group here has
+    /// delivered, 4,294,967,295 where there is no member. Takes no memory.
     pub fn least_delivered(&self, group: GroupNo, view: u32, process: Proc) -> u32
         ensures value { result ≡ least_in self.now.rows group view process }
     {
         least_in(self.rows.as_slice(), group, view, process)
     }
 
-    /// Looks at the messages that came since the last call for the process, where these are many, and notes for each what
-    /// it waits for. What is seen of the queue stays the same. It takes memory; without it later calls only take longer.
+    /// Looks at the messages that came since the last call for the process, where these are many,
+    /// and notes for each what it waits for. What is seen of the queue stays the same. It takes
+    /// memory; without it later calls only take longer.
     pub fn look(&mut self, process: Proc)
         ensures { self.new ≡ self.old }
     {
@@ -248,9 +278,9 @@ impl Delay {
         }
     }
 
-    /// The first message in order of receipt that the process may deliver now, `None` where there is none. The first
-    /// entry for a group in `turns` tells the process's turn there; an ABCAST of a group with none is not delivered.
-    /// Takes no memory.
+    /// The first message in order of receipt that the process may deliver now, `None` where there
+    /// is none. The first entry for a group in `turns` tells the process's turn there; an ABCAST of
+    /// a group with none is not delivered. Takes no memory.
     pub fn next_ready(&self, process: Proc, turns: &[(GroupNo, Turn)]) -> Option<Key>
         ensures value { result ≡ next_key turns.now self.now process }
         ensures meaning { SaysFirstReady self.now process turns.now result }
@@ -266,9 +296,9 @@ impl Delay {
         }
     }
 
-    /// The first message in order of receipt that is ready for the process but for the turns of groups. Where there is none, no
-    /// message is ready for it, and where it is no ABCAST, it is the first that is ready, whatever the turns are. Takes no
-    /// memory.
+    /// The first message in order of receipt that is ready for the process but for the turns of
+    /// groups. Where there is none, no message is ready for it, and where it is no ABCAST, it is
+    /// the first that is ready, whatever the turns are. Takes no memory.
     pub fn first_candidate(&self, process: Proc) -> Option<&Offered>
         ensures value { option_copied result ≡ candidate_in self.now process }
         ensures meaning { SaysCandidate self.now process (option_copied result) }
@@ -282,24 +312,28 @@ impl Delay {
         }
     }
 
-    /// Whether no message is ready for any process, whatever the turns of groups are, since each of the messages is settled. Takes no
-    /// memory.
+    /// Whether no message is ready for any process, whatever the turns of groups are, since each of
+    /// the messages is settled. Takes no memory.
     pub fn is_settled(&self) -> bool
         ensures { (process : Proc) → SaysMayDeliver self.now process (not result) }
     {
         self.settled == self.offered.len()
     }
 
-    /// The first place from one on, in the order in which processes were admitted, that is not known to be that of a process of this
-    /// site which is in no group, and for which so no message is ready. Takes no memory.
+    /// The first place from one on, in the order in which processes were admitted, that is not
+    /// known to be that of a process of this site which is in no group, and for which so no message
+    /// is ready. Takes no memory.
     pub fn busy_from(&self, site: SiteNo, place: usize) -> usize
         ensures from { place ≤ result }
-        ensures idle { (i : ℕ) (row : Row) → place ≤ i → i < result → slice_get self.now.rows i ≡ Some row → (row.process.site ≡ site) × SaysMayDeliver self.now row.process false }
+        ensures idle { (i : ℕ) (row : Row) → place ≤ i → i < result
+            → slice_get self.now.rows i ≡ Some row
+            → (row.process.site ≡ site) × SaysMayDeliver self.now row.process false }
     {
         self.rows.busy_from(site, place)
     }
 
-    /// Whether the process, which was admitted, has delivered a message of a view that has not ended. Takes no memory.
+    /// Whether the process, which was admitted, has delivered a message of a view that has not
+    /// ended. Takes no memory.
     pub fn has_delivered(&self, process: Proc, id: Uid) -> bool
         ensures value { result ≡ delivered_in self.now process id }
         ensures meaning { SaysDelivered self.now process id result }
@@ -310,8 +344,9 @@ impl Delay {
         }
     }
 
-    /// How many of these ids, which are of a view of a group that has not ended, the process, which was admitted, has
-    /// delivered before the first that it has not: 0 to their number. Takes no memory.
+    /// How many of these ids, which are of a view of a group that has not ended, the process, which
+    /// was admitted, has delivered before the first that it has not: 0 to their number. Takes no
+    /// memory.
     pub fn delivered_prefix(
         &self,
         process: Proc,
@@ -358,10 +393,12 @@ impl Delay {
         Ok(())
     }
 
-    /// How far processes came in a view of a group that has not ended: of each process of whose messages one was delivered
-    /// to a process here, also to one that is no member any more or was dismissed, the greatest count of these.
+    /// How far processes came in a view of a group that has not ended: of each process of whose
+    /// messages one was delivered to a process here, also to one that is no member any more or was
+    /// dismissed, the greatest count of these.
     pub fn greatest_counts(&self, group: GroupNo, view: u32) -> Result<Vec<(Proc, u32)>, NoMemory>
-        ensures value { IfOk result (λ counts. counts.items ≡ counts_in group view self.now.reached) }
+        ensures value { IfOk result
+            (λ counts. counts.items ≡ counts_in group view self.now.reached) }
         ensures meaning { IfOk result (λ counts. SaysReached self.now group view counts.items) }
     {
         self.reached.counts(group, view)
@@ -369,7 +406,8 @@ impl Delay {
 
     /// The time of a process, `None` of one that was not admitted or was dismissed.
     pub fn time(&self, process: Proc) -> Option<&Times>
-        ensures value { option_copied result ≡ option_map (λ r. r.time) (row_of self.now.rows process) }
+        ensures value { option_copied result
+            ≡ option_map (λ r. r.time) (row_of self.now.rows process) }
         ensures meaning { SaysTime self.now process (λ t. t.now) result }
     {
         match self.rows.find(process) {
@@ -380,7 +418,8 @@ impl Delay {
 
     /// What a process is in a group.
     pub fn standing(&self, process: Proc, group: GroupNo) -> Standing
-        ensures value { result ≡ option_map_or (λ r. standing_in r group) (row_of self.now.rows process) Outside }
+        ensures value { result
+            ≡ option_map_or (λ r. standing_in r group) (row_of self.now.rows process) Outside }
         ensures meaning { SaysStanding self.now process group result }
     {
         match self.rows.find(process) {
@@ -417,7 +456,8 @@ fn settled_from(
     settled
 }
 
-// How many messages need not be looked at: so many are settled, and those behind them were looked at.
+// How many messages need not be looked at: so many are settled, and those behind them were looked
+// at.
 fn first_unseen(offered: &Offers, settled: usize, looked: &Looked) -> usize
     requires rising { rises key_of offered.now ≡ true }
     requires settled { settled ≤ length offered.now }
@@ -438,7 +478,8 @@ fn first_unseen_by(waits: &Waits, offered: &Offers, settled: usize, process: Pro
     }
 }
 
-// The key of the first message that is ready for a row, of which this is kept, where so many messages are settled.
+// The key of the first message that is ready for a row, of which this is kept, where so many
+// messages are settled.
 fn next_looked(
     looked: &Looked,
     offered: &Offers,
@@ -462,8 +503,8 @@ fn next_looked(
     }
 }
 
-// The first message that is ready for a row but for the turns of groups, of which this is kept, where so many messages are
-// settled.
+// The first message that is ready for a row but for the turns of groups, of which this is kept,
+// where so many messages are settled.
 fn candidate_looked<'a>(
     looked: &Looked,
     offered: &'a Offers,
@@ -473,7 +514,8 @@ fn candidate_looked<'a>(
 ) -> Option<&'a Offered>
     requires rising { rises key_of offered.now ≡ true }
     requires settled { settled ≤ length offered.now }
-    requires none { none_of (λ o. is_causally_ready_row gates.now row.now o.id o.times) settled offered.now ≡ true }
+    requires none { none_of (λ o. is_causally_ready_row gates.now row.now o.id o.times)
+        settled offered.now ≡ true }
     requires known { AreKnown gates.now row.now offered.now looked.now }
     ensures { option_copied result ≡ candidate_for gates.now offered.now row.now }
 {
@@ -502,14 +544,15 @@ fn next_under(rows: &Rows, offered: &Offers, process: Proc, key: Key) -> Option<
 
 // So for a process of which something is kept.
 fn next_kept(waits: &Waits, rows: &Rows, offered: &Offers, process: Proc, key: Key) -> Option<Uid>
-    ensures { result ≡ option_and_then (λ l. next_under rows.now offered.now process key) (looked_of waits.now process) }
+    ensures { result ≡ option_and_then (λ l. next_under rows.now offered.now process key)
+        (looked_of waits.now process) }
 {
     waits.find(process)?;
     next_under(rows, offered, process, key)
 }
 
-// Takes in that a process delivered the message under a key: that of an id, where it was the next one of its source. Else
-// nothing is left of the process.
+// Takes in that a process delivered the message under a key: that of an id, where it was the next
+// one of its source. Else nothing is left of the process.
 fn wake_next(
     waits: &mut Waits,
     process: Proc,
@@ -519,8 +562,10 @@ fn wake_next(
     gates: &SortedMap<GroupNo, Gate>,
     rows: &Rows,
 )
-    requires some { IfSome next (λ id. AreToWake gates.now rows.now offered.now process id key waits.old) }
-    requires none { AreLookedAt gates.now rows.now offered.now (filter (λ l. not (proc_eq l.process process)) waits.old) }
+    requires some { IfSome next
+        (λ id. AreToWake gates.now rows.now offered.now process id key waits.old) }
+    requires none { AreLookedAt gates.now rows.now offered.now
+        (filter (λ l. not (proc_eq l.process process)) waits.old) }
     ensures { AreLookedAt gates.now rows.now offered.now waits.new }
 {
     match next {

@@ -1,4 +1,5 @@
-ghost use Rattle.std.specs.Prelude.{◌≡◌, ◌≤◌, ◌<◌, ◌++◌, ◌∷◌, ℕ, [], true, IfOk, OnErr, OnOk, Some, get_or, length, map, slice_get, ◌&&◌};
+ghost use Rattle.std.specs.Prelude.{◌≡◌, ◌≤◌, ◌<◌, ◌++◌, ◌∷◌, ℕ, [], true, IfOk, OnErr};
+ghost use Rattle.std.specs.Prelude.{OnOk, Some, get_or, length, map, slice_get, ◌&&◌};
 ghost use Rattle.std.specs.List.Sorted.{IsNonDecreasing};
 ghost use Rattle.std.specs.Vec.{vec_capacity};
 ghost use Rattle.std.specs.Option.{option_copied};
@@ -7,7 +8,8 @@ ghost use Rattle.cast_types.specs.Names.{proc_cmp, site_eq};
 ghost use Rattle.cast_ready.specs.declared.row.Row.{Row};
 ghost use Rattle.cast_delay.specs.Queue.{row_of, but_row, change_row, after_delivery, is_awaited};
 ghost use Rattle.cast_ready.specs.Rows.{new_row, awaits_row, delivered_row, ended_row, told_row};
-ghost use Rattle.cast_delay.specs.Admitted.{all_below, are_of, busy_places, is_idle, rise, site_with};
+ghost use Rattle.cast_delay.specs.Admitted.{all_below, are_of, busy_places};
+ghost use Rattle.cast_delay.specs.Admitted.{is_idle, rise, site_with};
 
 use crate::offers::Offers;
 use cast_ready::row::copy_rows;
@@ -16,14 +18,16 @@ use cast_types::{GroupNo, Key, NoMemory, Proc, SiteNo, Uid};
 use std::alloc::Global;
 use std::marker::Model;
 
-/// What the queue keeps of the processes that are admitted, in the order in which they were. Contracts see the list.
+/// What the queue keeps of the processes that are admitted, in the order in which they were.
+/// Contracts see the list.
 #[derive(Drop)]
 pub struct Rows {
     rows: Vec<Row>,
     /// The site of the process that was admitted first.
     site: SiteNo,
-    /// Whether all processes are of this site, and each was admitted behind all lower ones, as those are whose serials rise. No two rows
-    /// are then of one process, and a row is found by halving.
+    /// Whether all processes are of this site, and each was admitted behind all lower ones, as
+    /// those are whose serials rise. No two rows are then of one process, and a row is found by
+    /// halving.
     rising: bool,
     /// The places of the rows of whose process's groups something was told, in rising order.
     busy: Vec<usize>,
@@ -40,7 +44,9 @@ impl Model for Rows {
 
     ghost view = { λ r. r.rows.items };
 
-    ghost invariant = { λ r. (r.rising ≡ true → (rise r.rows.items ≡ true) × (are_of r.site r.rows.items ≡ true)) × AreBusy r.kept_up r.rows.items r.busy.items };
+    ghost invariant = { λ r.
+        (r.rising ≡ true → (rise r.rows.items ≡ true) × (are_of r.site r.rows.items ≡ true))
+        × AreBusy r.kept_up r.rows.items r.busy.items };
 }
 
 impl Rows {
@@ -88,11 +94,13 @@ impl Rows {
         }
     }
 
-    /// The first place from one on that is not known to be that of the only row of a process of a site, which is in no group and was
-    /// in none.
+    /// The first place from one on that is not known to be that of the only row of a process of a
+    /// site, which is in no group and was in none.
     pub fn busy_from(&self, site: SiteNo, place: usize) -> usize
         ensures from { place ≤ result }
-        ensures idle { (i : ℕ) (row : Row) → place ≤ i → i < result → slice_get self.now i ≡ Some row → (row.process.site ≡ site) × (is_idle self.now row.process ≡ true) }
+        ensures idle { (i : ℕ) (row : Row) → place ≤ i → i < result
+            → slice_get self.now i ≡ Some row
+            → (row.process.site ≡ site) × (is_idle self.now row.process ≡ true) }
     {
         if self.rising && self.kept_up && self.site == site {
             first_busy(&self.rows, &self.busy, site, place)
@@ -192,14 +200,15 @@ fn found_in(rows: &[Row], process: Proc) -> Option<&Row>
     }
 }
 
-// The first place from one on, of a row that is busy; behind all rows where there is none. Where all rows up to the place are
-// busy, as where all are, the place stands in the list at itself.
+// The first place from one on, of a row that is busy; behind all rows where there is none. Where
+// all rows up to the place are busy, as where all are, the place stands in the list at itself.
 fn first_busy(rows: &[Row], busy: &[usize], site: SiteNo, place: usize) -> usize
     requires rise { rise rows.now ≡ true }
     requires site { are_of site rows.now ≡ true }
     requires busy { busy.now ≡ busy_places 0 rows.now }
     ensures from { place ≤ result }
-    ensures idle { (i : ℕ) (row : Row) → place ≤ i → i < result → slice_get rows.now i ≡ Some row → (row.process.site ≡ site) × (is_idle rows.now row.process ≡ true) }
+    ensures idle { (i : ℕ) (row : Row) → place ≤ i → i < result → slice_get rows.now i ≡ Some row
+        → (row.process.site ≡ site) × (is_idle rows.now row.process ≡ true) }
 {
     if place < busy.len() && busy[place] == place {
         return place;
@@ -221,7 +230,8 @@ fn count_below(places: &[usize], place: usize) -> usize
     places.partition_point(|at| *at < place)
 }
 
-// Finds the places of the busy rows anew, where there is room for those of all rows, and says whether there is. Takes no memory.
+// Finds the places of the busy rows anew, where there is room for those of all rows, and says
+// whether there is. Takes no memory.
 fn note_busy(rows: &[Row], busy: &mut Vec<usize>) -> bool
     ensures { result ≡ true → busy.new.items ≡ busy_places 0 rows.now }
 {
@@ -264,8 +274,9 @@ fn copy_places(alloc: Global, places: &[usize], count: usize) -> Result<Vec<usiz
     Ok(copied)
 }
 
-// Whether some row awaits a message, where the places of the busy ones are known: no other does. Rows are asked from the last one
-// on: processes deliver in the order of their rows, so it is the last ones that await a message while it is being delivered.
+// Whether some row awaits a message, where the places of the busy ones are known: no other does.
+// Rows are asked from the last one on: processes deliver in the order of their rows, so it is the
+// last ones that await a message while it is being delivered.
 fn awaited_at_busy(rows: &[Row], busy: &[usize], id: Uid) -> bool
     requires { busy.now ≡ busy_places 0 rows.now }
     ensures { result ≡ is_awaited rows.now id }
@@ -351,7 +362,8 @@ fn tell_in(rows: &mut Vec<Row>, process: Proc, fact: &ProcessUpdate) -> Result<(
     Ok(())
 }
 
-// Each row of the process takes in that it delivered the message under a key. Where rows rise, there is at most one.
+// Each row of the process takes in that it delivered the message under a key. Where rows rise,
+// there is at most one.
 fn deliver_in(
     rows: &mut Vec<Row>,
     rising: bool,
@@ -375,7 +387,8 @@ fn deliver_in(
 // The row of the process, found by halving, takes in that it delivered a message.
 fn deliver_found(rows: &mut Vec<Row>, message: &Offered, process: Proc) -> Result<(), NoMemory>
     requires { rise rows.old.items ≡ true }
-    ensures { OnOk result (rows.new.items ≡ change_row process (delivered_row message.now.id message.now.times) rows.old.items) }
+    ensures { OnOk result (rows.new.items
+        ≡ change_row process (delivered_row message.now.id message.now.times) rows.old.items) }
 {
     match rows.binary_search_by_key(&process, |row| row.process) {
         Ok(place) => rows[place].deliver(message.id, &message.times),
@@ -385,7 +398,8 @@ fn deliver_found(rows: &mut Vec<Row>, message: &Offered, process: Proc) -> Resul
 
 // Each row of the process takes in that it delivered a message.
 fn deliver_each(rows: &mut Vec<Row>, message: &Offered, process: Proc) -> Result<(), NoMemory>
-    ensures { OnOk result (rows.new.items ≡ change_row process (delivered_row message.now.id message.now.times) rows.old.items) }
+    ensures { OnOk result (rows.new.items
+        ≡ change_row process (delivered_row message.now.id message.now.times) rows.old.items) }
 {
     for row in rows.iter_mut() {
         if row.process == process {

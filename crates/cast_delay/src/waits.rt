@@ -1,4 +1,5 @@
-ghost use Rattle.std.specs.Prelude.{◌≡◌, ◌≤◌, ◌++◌, ◌∷◌, [], true, nat_le, not, filter, take, length, Contains, OnOk, OnErr};
+ghost use Rattle.std.specs.Prelude.{◌≡◌, ◌≤◌, ◌++◌, ◌∷◌, [], true, nat_le, not};
+ghost use Rattle.std.specs.Prelude.{filter, take, length, Contains, OnOk, OnErr};
 ghost use Rattle.std.specs.List.{list_all, position};
 ghost use Rattle.std.specs.Option.{option_copied};
 ghost use Rattle.cast_types.specs.Names.{proc_eq};
@@ -6,7 +7,8 @@ ghost use Rattle.cast_index.specs.Rises.{rises, all_below};
 ghost use Rattle.cast_delay.specs.Offers.{key_of};
 ghost use Rattle.cast_ready.specs.declared.offered.Offered.{Offered};
 ghost use Rattle.cast_delay.specs.declared.looked.Looked.{Looked};
-ghost use Rattle.cast_delay.specs.Waits.{looked_of, IsKnown, AreKnown, AreLookedAt, AreSeen, AreToWake};
+ghost use Rattle.cast_delay.specs.Waits.{looked_of, IsKnown, AreKnown};
+ghost use Rattle.cast_delay.specs.Waits.{AreLookedAt, AreSeen, AreToWake};
 
 use crate::looked::Looked;
 use crate::offers::Offers;
@@ -16,7 +18,8 @@ use cast_types::{GroupNo, Key, NoMemory, Proc, SortedMap, Uid};
 use std::alloc::Global;
 use std::marker::Model;
 
-/// What was looked at of the messages for processes, at most one entry for each. Contracts see the list.
+/// What was looked at of the messages for processes, at most one entry for each. Contracts see the
+/// list.
 #[derive(Drop)]
 pub struct Waits {
     looked: Vec<Looked>,
@@ -78,8 +81,9 @@ impl Waits {
         self.looked.iter().all(|looked| looked.below <= number)
     }
 
-    /// Looks at the messages from a place on for a process. Their keys are below `above`, and those before them were looked
-    /// at or are not awaited. Where memory is refused, nothing is left for the process.
+    /// Looks at the messages from a place on for a process. Their keys are below `above`, and those
+    /// before them were looked at or are not awaited. Where memory is refused, nothing is left for
+    /// the process.
     pub fn look(
         &mut self,
         process: Proc,
@@ -124,8 +128,12 @@ impl Waits {
     ) -> Result<(), NoMemory>
         requires above { all_below key_of above offered.now ≡ true }
         requires first { first ≤ length offered.now }
-        requires before { (l : Looked) (o : Offered) → Contains (take first offered.now) o → IsKnown gates.now row.now l o }
-        ensures ok { OnOk result ((l : Looked) × (self.new ≡ self.old ++ l ∷ []) × (l.process ≡ process) × AreKnown gates.now row.now offered.now l) }
+        requires before { (l : Looked) (o : Offered) → Contains (take first offered.now) o
+            → IsKnown gates.now row.now l o }
+        ensures ok { OnOk result ((l : Looked)
+            × (self.new ≡ self.old ++ l ∷ [])
+            × (l.process ≡ process)
+            × AreKnown gates.now row.now offered.now l) }
         ensures err { OnErr result (self.new ≡ self.old) }
     {
         let mut looked = Looked::new(*self.looked.allocator(), process);
@@ -134,8 +142,8 @@ impl Waits {
         Ok(())
     }
 
-    /// Takes in that a process delivered the message of an id, which has this key: looks again at what was filed under it.
-    /// Where memory is refused, nothing is left for the process.
+    /// Takes in that a process delivered the message of an id, which has this key: looks again at
+    /// what was filed under it. Where memory is refused, nothing is left for the process.
     pub fn wake(
         &mut self,
         process: Proc,

@@ -15,8 +15,10 @@ module _ {X : Type 0} (bytes_of : X → List ℕ) where
     parted : flat_map bytes_of (drop i pieces) ≡ bytes_of (get_or pieces i d) ++ flat_map bytes_of (drop (i + 1) pieces)
     parted = ap (λ ps. flat_map bytes_of ps) (drop-cons pieces i d lt) ∙ rw add-one refl
 
-    pub wrote_next : {a b c : Option (List ℕ)} → WroteTo a b pieces i → Appends b c (bytes_of (get_or pieces i d)) → WroteTo a c pieces (i + 1)
+    pub wrote_next : {a b c : Option (List ℕ)} → WroteTo a b pieces i → Appends b c (bytes_of (get_or pieces i d)) →
+        WroteTo a c pieces (i + 1)
     wrote_next w more = wrote_piece (bytes_of (get_or pieces i d)) (rw parted at w) more
 
-    pub wrote_next_part : {a b c : Option (List ℕ)} → WroteTo a b pieces i → WrotePart b c (bytes_of (get_or pieces i d)) → WrotePart a c (flat_map bytes_of pieces)
+    pub wrote_next_part : {a b c : Option (List ℕ)} → WroteTo a b pieces i → WrotePart b c (bytes_of (get_or pieces i d)) →
+        WrotePart a c (flat_map bytes_of pieces)
     wrote_next_part w part = wrote_piece_part (bytes_of (get_or pieces i d)) (flat_map bytes_of (drop (i + 1) pieces)) (rw parted at w) part

@@ -5,12 +5,13 @@ ghost use Rattle.std.specs.Io.KnownBytes.{ReadConsumes, WriteAppends};
 use std::io;
 use std::io::{ErrorKind, Read, Write};
 
-/// Calls after which a device counts as failed: of `read` all that a pump makes, and of `write` those in a row that were
-/// interrupted.
+/// Calls after which a device counts as failed: of `read` all that a pump makes, and of `write`
+/// those in a row that were interrupted.
 pub const PATIENCE: u64 = 4_294_967_296;
 
-/// A reader or a writer, and what is noted of its calls since the notes were last cleared. Nothing else writes the notes, so a
-/// contract can say that a fault is answered exactly where the device failed.
+/// A reader or a writer, and what is noted of its calls since the notes were last cleared. Nothing
+/// else writes the notes, so a contract can say that a fault is answered exactly where the device
+/// failed.
 #[derive(Drop)]
 pub struct Watched<D> {
     /// The reader or the writer.
@@ -21,7 +22,8 @@ pub struct Watched<D> {
 }
 
 impl<D> Watched<D> {
-    ghost use Rattle.cast_device.specs.Watching.{HasFailed, HasFailedOrStalled, calls_of, interruptions_of};
+    ghost use Rattle.cast_device.specs.Watching.{HasFailed, HasFailedOrStalled};
+    ghost use Rattle.cast_device.specs.Watching.{calls_of, interruptions_of};
 
     /// A reader or a writer of which no call was made.
     pub fn new(device: D) -> Self
@@ -52,14 +54,16 @@ impl<D> Watched<D> {
         self.interruptions
     }
 
-    /// Whether a call failed: with an error other than an interruption, or one of `write` by taking no byte.
+    /// Whether a call failed: with an error other than an interruption, or one of `write` by taking
+    /// no byte.
     pub fn has_failed(&self) -> bool
         ensures { IsTrue result ↔ HasFailed self.now }
     {
         self.has_failed
     }
 
-    /// Whether a call failed, or so many calls of `write` in a row were interrupted that the writer counts as failed.
+    /// Whether a call failed, or so many calls of `write` in a row were interrupted that the writer
+    /// counts as failed.
     pub fn has_failed_or_stalled(&self) -> bool
         ensures { IsTrue result ↔ HasFailedOrStalled self.now }
     {
@@ -86,7 +90,8 @@ impl<R: Read> Watched<R> {
     pub fn read(&mut self, room: &mut [u8]) -> io::Result<usize>
         requires { calls_of self.old < PATIENCE }
         ensures bound { ReadsAtMost result room.new }
-        ensures bytes { ReadConsumes (R.remaining self.old.device) (R.remaining self.new.device) result room.new }
+        ensures bytes { ReadConsumes (R.remaining self.old.device) (R.remaining self.new.device)
+            result room.new }
         ensures calls { calls_of self.new ≡ calls_of self.old + 1 }
         ensures interruptions { interruptions_of self.new ≡ interruptions_of self.old }
         ensures failed { HasFailed self.new ↔ (HasFailed self.old ⊎ ReadFails result) }
@@ -103,15 +108,18 @@ impl<R: Read> Watched<R> {
 }
 
 impl<W: Write> Watched<W> {
-    ghost use Rattle.cast_device.specs.Watching.{HasFailed, IsInterrupted, WriteFails, calls_of, interruptions_of};
+    ghost use Rattle.cast_device.specs.Watching.{HasFailed, IsInterrupted, WriteFails};
+    ghost use Rattle.cast_device.specs.Watching.{calls_of, interruptions_of};
 
     // One call of `write`. An interruption is counted, and any other call ends the count.
     pub(crate) fn write(&mut self, bytes: &[u8]) -> io::Result<usize>
         requires { interruptions_of self.old < PATIENCE }
         ensures bound { WritesAtMost result bytes.now }
-        ensures bytes { WriteAppends (W.contents self.old.device) (W.contents self.new.device) result bytes.now }
+        ensures bytes { WriteAppends (W.contents self.old.device) (W.contents self.new.device)
+            result bytes.now }
         ensures calls { calls_of self.new ≡ calls_of self.old }
-        ensures interrupted { IsInterrupted result → interruptions_of self.new ≡ interruptions_of self.old + 1 }
+        ensures interrupted { IsInterrupted result
+            → interruptions_of self.new ≡ interruptions_of self.old + 1 }
         ensures passed { ¬ IsInterrupted result → interruptions_of self.new ≡ 0 }
         ensures failed { HasFailed self.new ↔ (HasFailed self.old ⊎ WriteFails result) }
     {

@@ -11,11 +11,12 @@ use thiserror::Error;
 #[error("the writer failed")]
 pub struct WriteFault;
 
-/// Writes the bytes, in as many calls as the writer needs. An interrupted call is made again. A writer that counts as failed
-/// is called no more until its notes are cleared.
+/// Writes the bytes, in as many calls as the writer needs. An interrupted call is made again. A
+/// writer that counts as failed is called no more until its notes are cleared.
 pub fn write_whole<W: Write>(writer: &mut Watched<W>, bytes: &[u8]) -> Result<(), WriteFault>
     // All of the bytes at `Ok`, and a beginning of them at `Err`.
-    ensures written { Writes (W.contents writer.old.device) (W.contents writer.new.device) result bytes.now }
+    ensures written { Writes (W.contents writer.old.device) (W.contents writer.new.device)
+        result bytes.now }
     // The fault comes exactly where the notes tell of one, which they do until they are cleared.
     ensures failed { IsErr result ↔ HasFailedOrStalled writer.new }
     ensures stays { HasFailedOrStalled writer.old → HasFailedOrStalled writer.new }
@@ -35,7 +36,8 @@ pub fn write_whole<W: Write>(writer: &mut Watched<W>, bytes: &[u8]) -> Result<()
 
 // Writes these texts one behind the other.
 fn write_texts<W: Write>(writer: &mut Watched<W>, texts: &[&str]) -> Result<(), WriteFault>
-    ensures written { Writes (W.contents writer.old.device) (W.contents writer.new.device) result (flat_map (λ text. text.now) texts.now) }
+    ensures written { Writes (W.contents writer.old.device) (W.contents writer.new.device)
+        result (flat_map (λ text. text.now) texts.now) }
     ensures failed { OnErr result (HasFailedOrStalled writer.new) }
 {
     for text in texts {
@@ -44,9 +46,11 @@ fn write_texts<W: Write>(writer: &mut Watched<W>, texts: &[&str]) -> Result<(), 
     Ok(())
 }
 
-/// Writes these texts one behind the other, each as `write_whole` does, up to a fault, which is passed over. Takes no memory.
+/// Writes these texts one behind the other, each as `write_whole` does, up to a fault, which is
+/// passed over. Takes no memory.
 pub fn tell<W: Write>(writer: &mut Watched<W>, texts: &[&str])
-    ensures { IsTold (W.contents writer.old.device) (W.contents writer.new.device) (flat_map (λ text. text.now) texts.now) (HasFailedOrStalled writer.new) }
+    ensures { IsTold (W.contents writer.old.device) (W.contents writer.new.device)
+        (flat_map (λ text. text.now) texts.now) (HasFailedOrStalled writer.new) }
 {
     let _ = write_texts(writer, texts);
 }

@@ -1,5 +1,6 @@
 -- What a session asks for changes a domain's records as it changes their history.
-use Rattle.std.proofs.Common.{◌≡◌, ℕ, ◌<◌, ◌≤◌, Bool, true, false, not, ◌&&◌, ◌||◌, List, [], ◌∷◌, Some, refl, sym, ap, subst, ◌∙◌, inl, inr, arith}
+use Rattle.std.proofs.Common.{◌≡◌, ℕ, ◌<◌, ◌≤◌, Bool, true, false, not, ◌&&◌, ◌||◌, List}
+use Rattle.std.proofs.Common.{[], ◌∷◌, Some, refl, sym, ap, subst, ◌∙◌, inl, inr, arith}
 use Rattle.std.specs.Prelude.{◌==◌, nat_lt, if◌then◌else◌, slice_get, take}
 use Rattle.std.specs.List.{fold, list_any}
 use Rattle.std.proofs.lemmas.Bool.{cases_Bool, false≢true, false_from_ne_true, and_parts, and_from, eqb-true, eq-eqb, ltb-true}
@@ -36,7 +37,8 @@ use Rattle.cast_rules.specs.State.{State, local, others_of, gate_of, was_given, 
 use Rattle.cast_rules.specs.History.{history}
 use Rattle.cast_rules.specs.Effects.{next_message}
 use Rattle.cast_domain.specs.Records.{Records}
-use Rattle.cast_domain.specs.PartCalls.{standing_of, settled_in, sent_hand, orders_sent, note_sent_by, receive_in, is_current_in, is_own_in, awaits_own_in}
+use Rattle.cast_domain.specs.PartCalls.{standing_of, settled_in, sent_hand, orders_sent, note_sent_by}
+use Rattle.cast_domain.specs.PartCalls.{receive_in, is_current_in, is_own_in, awaits_own_in}
 use Rattle.cast_domain.specs.Calls.{records}
 use Rattle.cast_rules.specs.Lawful.{IsSpent, AreKept, IsLawful}
 use Rattle.cast_domain.specs.Fits.{process_named, TellsOrder, LogFits, Fits}
@@ -64,7 +66,11 @@ as_written P r s f h =
 
 -- the test of one of the history's messages
 abbrev own_of : State → ℕ → Message → Bool
-own_of s k m = is_atomic (kind_of m.body) && (proc_eq m.id.proc (local s k) && ((m.id.view == (s.group m.id.group).number) && awaits (s.process k) m.id))
+own_of s k m =
+    is_atomic (kind_of m.body)
+    && (proc_eq m.id.proc (local s k)
+    && ((m.id.view == (s.group m.id.group).number)
+    && awaits (s.process k) m.id))
 
 -- a member's site has the view
 same_tests : (a b v n o m d : Bool) → (m ≡ true → v ≡ true) → n ≡ o → (a && (b && ((v && n) && (m && d)))) ≡ (a && (b && (o && (m && d))))
@@ -72,16 +78,20 @@ same_tests a b v n o true d seen same = ap (λ x. a && (b && (x && d))) (ap (λ 
 same_tests a b v n o false d seen same = ap (λ x. a && (b && x)) (and_none (v && n) ∙ sym (and_none o))
 
 -- one message is awaited on both sides, or on neither
-own_same : (r : Records) (s : State) → Fits r s → IsLawful s → (k : ℕ) → IsSome (row_of r.delay.rows (local s k)) → (m : Message) → is_own_in r (local s k) m ≡ own_of s k m
+own_same : (r : Records) (s : State) → Fits r s → IsLawful s → (k : ℕ) → IsSome (row_of r.delay.rows (local s k)) → (m : Message) →
+    is_own_in r (local s k) m ≡ own_of s k m
 own_same r s f l k row m =
     let g : GroupNo = m.id.group in
     let fresh : Bool = not (has_delivered (s.process k) m.id) in
     ap (λ b. is_atomic (kind_of m.body) && (proc_eq m.id.proc (local s k) && b))
-    (and_agree (is_current_in r m.id) (is_member (standing_of r.delay (local s k) g) && not (delivered_in r.delay (local s k) m.id)) (is_member (standing_of r.delay (local s k) g) && fresh)
-    (λ is. ap (λ b. is_member (standing_of r.delay (local s k) g) && not b) (delivered_there (current_stands (s.group g) m.id.view (sym (current_same r s f l m.id) ∙ is)))))
+    (and_agree (is_current_in r m.id) (is_member (standing_of r.delay (local s k) g) && not (delivered_in r.delay (local s k) m.id))
+    (is_member (standing_of r.delay (local s k) g) && fresh)
+    (λ is. ap (λ b. is_member (standing_of r.delay (local s k) g) && not b)
+    (delivered_there (current_stands (s.group g) m.id.view (sym (current_same r s f l m.id) ∙ is)))))
     ∙ (λ j. is_atomic (kind_of m.body) && (proc_eq m.id.proc (local s k) && (current_same r s f l m.id j
     && (is_member (standing_there r s f k g j) && fresh))))
-    ∙ same_tests (is_atomic (kind_of m.body)) (proc_eq m.id.proc (local s k)) (has_view (s.group g)) ((s.group g).number == m.id.view) (m.id.view == (s.group g).number) (is_member ((s.process k).standing g)) (not (has_delivered (s.process k) m.id))
+    ∙ same_tests (is_atomic (kind_of m.body)) (proc_eq m.id.proc (local s k)) (has_view (s.group g)) ((s.group g).number == m.id.view)
+    (m.id.view == (s.group g).number) (is_member ((s.process k).standing g)) (not (has_delivered (s.process k) m.id))
     (l.viewed k g)
     (same_bools ((s.group g).number == m.id.view) (m.id.view == (s.group g).number)
     (λ e. eq-eqb m.id.view (s.group g).number (sym (eqb-true (s.group g).number m.id.view e)))
@@ -93,10 +103,13 @@ own_same r s f l k row m =
         ∙ ap (λ p. has_delivered p m.id) (process_here s k)
 
 -- what is spent passes no test, so that it is enough to look among what is kept
-kept_any : (P : Message → Type 0) (test : Message → Bool) → ((m : Message) → P m → test m ≡ false) → (got kept : List Message) → AreKept P got kept → list_any test kept ≡ list_any test got
+kept_any : (P : Message → Type 0) (test : Message → Bool) → ((m : Message) → P m → test m ≡ false) → (got kept : List Message) →
+    AreKept P got kept → list_any test kept ≡ list_any test got
 kept_any P test fails [] kept none = ap (list_any test) none
-kept_any P test fails (m ∷ got) kept (inl (rest, is, more)) = ap (list_any test) is ∙ ap (λ b. test m || b) (kept_any P test fails got rest more)
-kept_any P test fails (m ∷ got) kept (inr (spent, more)) = kept_any P test fails got kept more ∙ sym (ap (λ b. b || list_any test got) (fails m spent))
+kept_any P test fails (m ∷ got) kept (inl (rest, is, more)) =
+    ap (list_any test) is ∙ ap (λ b. test m || b) (kept_any P test fails got rest more)
+kept_any P test fails (m ∷ got) kept (inr (spent, more)) =
+    kept_any P test fails got kept more ∙ sym (ap (λ b. b || list_any test got) (fails m spent))
 
 pub any_message : (t : Message → Bool) (xs : List Received) → list_any (λ (x : Received). t x.message) xs ≡ list_any t (messages xs)
 any_message t [] = refl
@@ -117,7 +130,8 @@ spent_own s k given m spent = false_from_ne_true (own_of s k m) (λ is.
     false≢true (sym (ap not has) ∙ d.1))
 
 -- a process awaits an ABCAST of its own on both sides, or on neither
-pub awaits_own_there : (r : Records) (s : State) → Fits r s → IsLawful s → (k : ℕ) → IsSome (row_of r.delay.rows (local s k)) → awaits_own_in r (local s k) ≡ awaits_own s k
+pub awaits_own_there : (r : Records) (s : State) → Fits r s → IsLawful s → (k : ℕ) → IsSome (row_of r.delay.rows (local s k)) →
+    awaits_own_in r (local s k) ≡ awaits_own s k
 awaits_own_there r s f l k row =
     let given : was_given s.used k ≡ true = row_given s r.delay.rows f.processes.has_row s.used f.processes.rows k row in
     any_message (is_own_in r (local s k)) r.part.kept
@@ -128,14 +142,19 @@ awaits_own_there r s f l k row =
 -- Messages that are sent
 
 -- a message is received here, the logs that are kept tell of it, and it is sent to the other sites of the view
-pub fits_send_message_with : (r : Records) (s : State) → Fits r s → (m : Message) → IsSound m → asked_of s m.id → (orders : List Log) → ((g : GroupNo) → LogFits (receiving s m) g (log_of orders g)) → Fits (fold (send_data records m.id) (record (receive_in r m) { orders = orders }) (others_in r.acks m.id.group)) (fold (send_data history m.id) (receiving s m) (others_of s m.id.group))
+pub fits_send_message_with : (r : Records) (s : State) → Fits r s → (m : Message) → IsSound m → asked_of s m.id → (orders : List Log) →
+    ((g : GroupNo) → LogFits (receiving s m) g (log_of orders g)) →
+    Fits (fold (send_data records m.id) (record (receive_in r m) { orders = orders }) (others_in r.acks m.id.group))
+    (fold (send_data history m.id) (receiving s m) (others_of s m.id.group))
 fits_send_message_with r s f m sound asked orders logs =
     let now : Records = record (receive_in r m) { orders = orders } in
-    subst (λ sites. Fits (fold (send_data records m.id) now sites) (fold (send_data history m.id) (receiving s m) (others_of s m.id.group))) (sym (f.acks.views m.id.group))
+    subst (λ sites. Fits (fold (send_data records m.id) now sites) (fold (send_data history m.id) (receiving s m) (others_of s m.id.group)))
+    (sym (f.acks.views m.id.group))
     (fits_sends now (receiving s m) (fits_receive_with r s f m sound orders logs) m.id sound.from_one asked (others_of s m.id.group))
 
 -- a member's next message has its view, and a count from 1 on
-pub next_sound : (s : State) (g : GroupNo) (k : ℕ) (content : Body) → IsLawful s → is_member ((s.process k).standing g) ≡ true → IsSound (next_message s g k content)
+pub next_sound : (s : State) (g : GroupNo) (k : ℕ) (content : Body) → IsLawful s → is_member ((s.process k).standing g) ≡ true →
+    IsSound (next_message s g k content)
 next_sound s g k content l member =
     let t = (s.process k).time in
     record {
@@ -156,7 +175,8 @@ raised_counts t g h p = elim (cases_Bool (group_eq h g)) [
 ]
 
 -- and is none that is forgotten of the order of the view
-pub next_new : (s : State) (g : GroupNo) (k : ℕ) (content : Body) (l : Log) → is_member ((s.process k).standing g) ≡ true → TellsOrder s g l → IsNew s g l (next_message s g k content)
+pub next_new : (s : State) (g : GroupNo) (k : ℕ) (content : Body) (l : Log) → is_member ((s.process k).standing g) ≡ true →
+    TellsOrder s g l → IsNew s g l (next_message s g k content)
 next_new s g k content l member tells e among =
     let u : Uid = (next_message s g k content).id in
     false_from_ne_true (uid_eq u (uid_in g (s.group g).number e)) (λ is.
@@ -167,7 +187,8 @@ next_new s g k content l member tells e among =
     omega (arith, count, raised, most))
 
 -- that a process here sends a message leaves what is forgotten of an order
-base_sent : (orders : List Log) (u : Uid) (stable : ℕ) (b : Body) (g : GroupNo) → (log_of (orders_sent orders u stable b) g).base ≡ (log_of orders g).base
+base_sent : (orders : List Log) (u : Uid) (stable : ℕ) (b : Body) (g : GroupNo) →
+    (log_of (orders_sent orders u stable b) g).base ≡ (log_of orders g).base
 base_sent orders u stable (body.Causal payload) g = refl
 base_sent orders u stable (body.Atomic payload) g = refl
 base_sent orders u stable (body.Order q) g =
@@ -181,17 +202,21 @@ base_sent orders u stable (body.Order q) g =
     ]
 
 -- the next message of a member is noted, and is none that is forgotten of its order still
-module _ (r : Records) (s : State) (f : Fits r s) (l : IsLawful s) (k : ℕ) (g : GroupNo) (content : Body) (member : is_member ((s.process k).standing g) ≡ true) (raises : may_raise (s.process k).time g (local s k) ≡ true) where
+module _ (r : Records) (s : State) (f : Fits r s) (l : IsLawful s) (k : ℕ) (g : GroupNo) (content : Body)
+    (member : is_member ((s.process k).standing g) ≡ true) (raises : may_raise (s.process k).time g (local s k) ≡ true) where
   abbrev next : Message
   next = next_message s g k content
 
   pub next_current : is_of_view s g next.id ≡ true
-  next_current = and_from (group_eq g g) ((s.group g).number == (s.group g).number) (group_itself g) (eq-eqb (s.group g).number (s.group g).number refl)
+  next_current =
+      and_from (group_eq g g) ((s.group g).number == (s.group g).number) (group_itself g)
+      (eq-eqb (s.group g).number (s.group g).number refl)
 
   most : next.id.count ≤ MAX_NUMBER
   most =
       let p : Proc = local s k in
-      let below = ltb-true (count_in (s.process k).time g p) MAX_NUMBER (and_parts (nat_lt (count_in (s.process k).time g p) MAX_NUMBER) _ raises).0 in
+      let below =
+      ltb-true (count_in (s.process k).time g p) MAX_NUMBER (and_parts (nat_lt (count_in (s.process k).time g p) MAX_NUMBER) _ raises).0 in
       subst (λ n. n ≤ MAX_NUMBER) (sym (bump_raises (s.process k).time g p)) (omega (arith, below))
 
   pub fits_noted : Fits (note_sent_by r (local s k) next) (noting_sent s k next)
@@ -202,14 +227,21 @@ module _ (r : Records) (s : State) (f : Fits r s) (l : IsLawful s) (k : ℕ) (g 
   pub noted_new : is_pending (s.group g) ≡ false → IsNew (noting_sent s k next) g (log_of (note_sent_by r (local s k) next).orders g) next
   noted_new none e among =
       next_new s g k content (log_of r.orders g) member ((f.orders g).tells none) e
-      (subst (λ n. is_among entry_eq e (take n (order_told s g)) ≡ true) (base_sent r.orders next.id (settled_in r g (s.group g).number (local s k)) content g) among)
+      (subst (λ n. is_among entry_eq e (take n (order_told s g)) ≡ true)
+      (base_sent r.orders next.id (settled_in r g (s.group g).number (local s k)) content g) among)
 
 -- what a member sends is stamped and received, on both sides
-pub fits_sent_here : (r : Records) (s : State) → Fits r s → IsLawful s → (k : ℕ) (i : ℕ) (g : GroupNo) → slice_get s.config.groups i ≡ Some g → (content : Body) → is_member ((s.process k).standing g) ≡ true → may_raise (s.process k).time g (local s k) ≡ true → Fits (sent_here records r i k g content) (receiving (noting_sent s k (next_message s g k content)) (next_message s g k content))
+pub fits_sent_here : (r : Records) (s : State) → Fits r s → IsLawful s → (k : ℕ) (i : ℕ) (g : GroupNo) →
+    slice_get s.config.groups i ≡ Some g → (content : Body) → is_member ((s.process k).standing g) ≡ true →
+    may_raise (s.process k).time g (local s k) ≡ true →
+    Fits (sent_here records r i k g content) (receiving (noting_sent s k (next_message s g k content)) (next_message s g k content))
 fits_sent_here r s f l k i g at content member raises =
-    as_written (λ x. Fits (sent_here records x i k g content) (receiving (noting_sent s k (next_message s g k content)) (next_message s g k content))) r s f written_fits
+    as_written
+    (λ x. Fits (sent_here records x i k g content) (receiving (noting_sent s k (next_message s g k content)) (next_message s g k content)))
+    r s f written_fits
   where
-    written_fits : Fits (written r s) s → Fits (sent_here records (written r s) i k g content) (receiving (noting_sent s k (next_message s g k content)) (next_message s g k content))
+    written_fits : Fits (written r s) s → Fits (sent_here records (written r s) i k g content)
+        (receiving (noting_sent s k (next_message s g k content)) (next_message s g k content))
     written_fits w =
         let x : Records = written r s in
         let p : Proc = local s k in
@@ -218,15 +250,26 @@ fits_sent_here r s f l k i g at content member raises =
         let row = member_row x s w k g member in
         let same : sent_here records x i k g content ≡ receive_in (note_sent_by x p m) m = (λ j.
         receive_in (note_sent_by x p (record {
-          id = record { group = g; view = (there j).here.number; proc = p; count = count_in (with_bump (time_there x s w k row j) g p) g p };
+          id = record {
+            group = g;
+            view = (there j).here.number;
+            proc = p;
+            count = count_in (with_bump (time_there x s w k row j) g p) g p;
+          };
           times = with_bump (time_there x s w k row j) g p;
           body = content;
         })) (record {
-          id = record { group = g; view = (there j).here.number; proc = p; count = count_in (with_bump (time_there x s w k row j) g p) g p };
+          id = record {
+            group = g;
+            view = (there j).here.number;
+            proc = p;
+            count = count_in (with_bump (time_there x s w k row j) g p) g p;
+          };
           times = with_bump (time_there x s w k row j) g p;
           body = content;
         })) in
         subst (λ y. Fits y (receiving (noting_sent s k m) m)) (sym same)
-        (fits_receive (note_sent_by x p m) (noting_sent s k m) (fits_noted x s w l k g content member raises) m (next_sound s g k content l member)
+        (fits_receive (note_sent_by x p m) (noting_sent s k m) (fits_noted x s w l k g content member raises)
+        m (next_sound s g k content l member)
         (eq-eqb (s.group g).number (s.group g).number refl)
         (noted_new x s w l k g content member raises))

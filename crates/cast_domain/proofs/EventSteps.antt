@@ -37,7 +37,8 @@ gone_same r s f k = ap is_gone_status (status_there r s f k)
 -- each event
 pub fits_acted : (r : Records) (s : State) (e : Event) → Fits r s → IsLawful s → IsTyped e → Fits (acted_in r e) (act_of_event s e)
 fits_acted r s (event.Open d) f l typed =
-    fits_if (rules.may_open records records_sessions r) (rules.may_open history sessions_given s) (open_in r) r (opening_next s) s (may_open_same r s f)
+    fits_if (rules.may_open records records_sessions r) (rules.may_open history sessions_given s) (open_in r) r (opening_next s)
+    s (may_open_same r s f)
     (λ _. fits_open r s f) (λ _. f)
 fits_acted r s (event.Command d k c) f l typed = fits_commanded r s f l k c
 fits_acted r s (event.Gone d k) f l typed = fits_ended r s f l k
@@ -47,9 +48,11 @@ fits_acted r s (event.Quota d name value) f l typed =
     fits_if (quota.is_in_range name value) (quota.is_in_range name value) (set_quota_in r name value) r (setting_quota s name value) s refl
     (λ _. fits_counted r s f (quota.with_quota name value) (λ n. n)) (λ _. f)
 fits_acted r s (event.Take d k most) f l typed =
-    fits_if (not (is_gone_status (status_in r.sessions k)) && rules.is_taken most) (not (is_gone (s.session k)) && rules.is_taken most) (take_entries_in r k most) r (taking s k most) s
+    fits_if (not (is_gone_status (status_in r.sessions k)) && rules.is_taken most) (not (is_gone (s.session k)) && rules.is_taken most)
+    (take_entries_in r k most) r (taking s k most) s
     (ap (λ b. not b && rules.is_taken most) (gone_same r s f k))
-    (λ may. fits_take_entries r s f k most (not-true (is_gone (s.session k)) (and_parts (not (is_gone (s.session k))) (rules.is_taken most) (sym (ap (λ b. not b && rules.is_taken most) (gone_same r s f k)) ∙ may)).0))
+    (λ may. fits_take_entries r s f k most (not-true (is_gone (s.session k)) (and_parts (not (is_gone (s.session k))) (rules.is_taken most)
+    (sym (ap (λ b. not b && rules.is_taken most) (gone_same r s f k)) ∙ may)).0))
     (λ _. f)
 fits_acted r s (event.Tick t) f l typed = fits_tick r s f t
 
@@ -57,7 +60,8 @@ fits_acted r s (event.Tick t) f l typed = fits_tick r s f t
 pub answer_acted : (r : Records) (s : State) (e : Event) → Fits r s → rules.answered records records_sessions r e ≡ answer_of_event s e
 answer_acted r s (event.Open d) f =
     λ i. if may_open_same r s f i then taken.Opened ((f.core i).used + 1) else taken.Refused TooManySessions
-answer_acted r s (event.Command d k c) f = ap (λ b. if b then taken.Nothing else taken.Refused NotOpen) (ap is_open_status (status_there r s f k))
+answer_acted r s (event.Command d k c) f =
+    ap (λ b. if b then taken.Nothing else taken.Refused NotOpen) (ap is_open_status (status_there r s f k))
 answer_acted r s (event.Gone d k) f = ap (λ b. if b then taken.Refused NotOpen else taken.Nothing) (gone_same r s f k)
 answer_acted r s (event.Frame d from x) f = refl
 answer_acted r s (event.Suspect d site) f = refl

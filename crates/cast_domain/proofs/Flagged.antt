@@ -1,5 +1,6 @@
 -- Of the steps over a list one changes something: the first, or one of those behind it.
-use Rattle.std.proofs.Common.{◌≡◌, ℕ, suc, ◌+◌, ◌-◌, ◌<◌, Bool, true, false, List, [], ◌∷◌, Option, Some, None, length, refl, sym, ap, ◌∙◌, arith}
+use Rattle.std.proofs.Common.{◌≡◌, ℕ, suc, ◌+◌, ◌-◌, ◌<◌, Bool, true, false, List, []}
+use Rattle.std.proofs.Common.{◌∷◌, Option, Some, None, length, refl, sym, ap, ◌∙◌, arith}
 use Rattle.std.specs.Prelude.{◌||◌, is_some}
 use Rattle.std.specs.List.{range_with_len}
 use Rattle.std.specs.Option.{option_map_or}
@@ -15,7 +16,9 @@ pub either_of : (a b c : Bool) → ((a || b) || c) ≡ (a || (b || c))
 either_of true b c = refl
 either_of false b c = refl
 
-pub more_changes : (flag : Records → ℕ → Bool) (step : Records → ℕ → Records) (r v : Records) (changed led : Bool) (i n : ℕ) → i < n → led ≡ flag r i → v ≡ step r i → ((changed || led) || changes_over flag step v (range_with_len (i + 1) (n - (i + 1)))) ≡ (changed || changes_over flag step r (range_with_len i (n - i)))
+pub more_changes : (flag : Records → ℕ → Bool) (step : Records → ℕ → Records) (r v : Records) (changed led : Bool) (i n : ℕ) → i < n →
+    led ≡ flag r i → v ≡ step r i → ((changed || led) || changes_over flag step v (range_with_len (i + 1) (n - (i + 1))))
+    ≡ (changed || changes_over flag step r (range_with_len i (n - i)))
 more_changes flag step r v changed led i n lt told made =
     let one : n - i ≡ suc (n - (i + 1)) = omega arith in
     either_of changed led (changes_over flag step v (range_with_len (i + 1) (n - (i + 1))))

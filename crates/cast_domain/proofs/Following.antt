@@ -38,7 +38,8 @@ abbrev pub FitsIn : List GroupNo → Records → State → Type 0
 FitsIn groups r s = Fits r s × (s.config.groups ≡ groups)
 
 -- a group stands at a place, or is none of the domain's
-place_both : (groups : List GroupNo) (r : Records) (s : State) → FitsIn groups r s → (g : GroupNo) → AtBoth (IsAt groups) (place_in r g) (if is_group s g then Some g else None)
+place_both : (groups : List GroupNo) (r : Records) (s : State) → FitsIn groups r s → (g : GroupNo) →
+    AtBoth (IsAt groups) (place_in r g) (if is_group s g then Some g else None)
 place_both groups r s f g =
     elim (place_in r g) as (λ o. place_in r g ≡ o → AtBoth (IsAt groups) o (if is_group s g then Some g else None)) [
       | Some i ↦ λ is.
@@ -48,7 +49,10 @@ place_both groups r s f g =
     ] refl
 
 -- what was acknowledged and told is noted on both sides
-fits_noted : (r : Records) (s : State) → Fits r s → (acks : List Acked) (told : List Uid) (ledger : Acks) → AcksFits (record (past_of s) { acks = acks; told = told }) ledger → ((g : GroupNo) → LogFits (record s { acks = acks; told = told }) g (log_of r.orders g)) → Fits (record r { acks = ledger }) (record s { acks = acks; told = told })
+fits_noted : (r : Records) (s : State) → Fits r s → (acks : List Acked) (told : List Uid) (ledger : Acks) →
+    AcksFits (record (past_of s) { acks = acks; told = told }) ledger →
+    ((g : GroupNo) → LogFits (record s { acks = acks; told = told }) g (log_of r.orders g)) →
+    Fits (record r { acks = ledger }) (record s { acks = acks; told = told })
 fits_noted r s f acks told ledger known orders = record {
   core = f.core;
   opened = f.opened;
@@ -127,9 +131,11 @@ module _ (r : Records) (s : State) (f : Fits r s) where
   abbrev groups : List GroupNo
   groups = s.config.groups
 
-  pub fits_sends : (u : Uid) → 0 < u.count → asked_of s u → (sites : List SiteNo) → Fits (fold (send_data records u) r sites) (fold (send_data history u) s sites)
+  pub fits_sends : (u : Uid) → 0 < u.count → asked_of s u → (sites : List SiteNo) →
+      Fits (fold (send_data records u) r sites) (fold (send_data history u) s sites)
   fits_sends u counted asked sites =
-      (sends_follow records history (FitsIn groups) (IsAt groups) (records_follow groups) u (lt-ltb 0 u.count counted) sites r s (f, refl) (records_ask groups s u asked)).0
+      (sends_follow records history (FitsIn groups) (IsAt groups) (records_follow groups) u (lt-ltb 0 u.count counted) sites r s (f, refl)
+      (records_ask groups s u asked)).0
 
   pub fits_tick : (t : ℕ) → Fits (tick records r t) (tick history s t)
   fits_tick t = (tick_follows records history (FitsIn groups) (IsAt groups) (records_follow groups) r s (f, refl) t).0

@@ -1,9 +1,11 @@
 -- Free messages are let go one by one, whichever comes first.
-use Rattle.std.proofs.Common.{◌≡◌, ℕ, zero, suc, ◌<◌, ◌≤◌, Bool, true, false, cond, not, ◌&&◌, ◌||◌, List, [], ◌∷◌, map, length, Contains, Option, Some, None, refl, sym, ap, ◌∙◌, inl, inr, arith}
+use Rattle.std.proofs.Common.{◌≡◌, ℕ, zero, suc, ◌<◌, ◌≤◌, Bool, true, false, cond, not, ◌&&◌, ◌||◌, List, []}
+use Rattle.std.proofs.Common.{◌∷◌, map, length, Contains, Option, Some, None, refl, sym, ap, ◌∙◌, inl, inr, arith}
 use Rattle.std.specs.Prelude.{nat_lt, nat_le, filter, get_or}
 use Rattle.std.specs.List.{fold}
 use Rattle.std.specs.Option.{IfNone}
-use Rattle.std.proofs.lemmas.Bool.{cases_Bool, false≢true, and_parts, and_from, or_cases, eqb-true, eq-eqb, ltb-true, lt-ltb, leb-true, le-leb, false_from_ne_true}
+use Rattle.std.proofs.lemmas.Bool.{cases_Bool, false≢true, and_parts, and_from, or_cases, eqb-true}
+use Rattle.std.proofs.lemmas.Bool.{eq-eqb, ltb-true, lt-ltb, leb-true, le-leb, false_from_ne_true}
 use Rattle.cast_types.specs.declared.names.Key.{Key}
 use Rattle.cast_types.specs.declared.names.SiteNo.{SiteNo}
 use Rattle.cast_types.specs.declared.names.Uid.{Uid}
@@ -52,10 +54,12 @@ module _ {X : Type 0} (key_of : X → Key) where
   fold_but (key ∷ keys) xs =
       fold_but keys (but xs key)
       ∙ filter_twice (λ x. not (is_key keys (key_of x))) (λ x. not (key_eq (key_of x) key)) xs
-      ∙ filter_same (λ x. not (key_eq (key_of x) key) && not (is_key keys (key_of x))) (λ x. not (is_key (key ∷ keys) (key_of x))) xs (λ x at. neither (key_eq (key_of x) key) (is_key keys (key_of x)))
+      ∙ filter_same (λ x. not (key_eq (key_of x) key) && not (is_key keys (key_of x))) (λ x. not (is_key (key ∷ keys) (key_of x)))
+      xs (λ x at. neither (key_eq (key_of x) key) (is_key keys (key_of x)))
 
   -- to take a key out first changes nothing of what is left once all are
-  but_first : (keys later : List Key) (key : Key) → ((k : Key) → is_key keys k ≡ (key_eq k key || is_key later k)) → (xs : List X) → fold but (but xs key) later ≡ fold but xs keys
+  but_first : (keys later : List Key) (key : Key) → ((k : Key) → is_key keys k ≡ (key_eq k key || is_key later k)) → (xs : List X) →
+      fold but (but xs key) later ≡ fold but xs keys
   but_first keys later key same xs =
       fold_but later (but xs key)
       ∙ filter_twice (λ x. not (is_key later (key_of x))) (λ x. not (key_eq (key_of x) key)) xs
@@ -73,10 +77,12 @@ key_itself : (k : Key) → key_eq k k ≡ true
 key_itself k = eq-eqb k.0 k.0 refl
 
 -- a key that passes is that of one that does
-passing_key : (test : Received → Bool) (xs : List Received) (x : Received) → Contains xs x → test x ≡ true → is_key (keys_in test xs) x.key ≡ true
+passing_key : (test : Received → Bool) (xs : List Received) (x : Received) → Contains xs x → test x ≡ true →
+    is_key (keys_in test xs) x.key ≡ true
 passing_key test xs x (i, lt, at) pass = go xs i lt at
   where
-    more : (b : Bool) (y : Received) (rest : List Received) → is_key (map (λ z. z.key) rest) x.key ≡ true → is_key (map (λ z. z.key) (cond b (y ∷ rest) rest)) x.key ≡ true
+    more : (b : Bool) (y : Received) (rest : List Received) → is_key (map (λ z. z.key) rest) x.key ≡ true →
+        is_key (map (λ z. z.key) (cond b (y ∷ rest) rest)) x.key ≡ true
     more true y rest h = later (key_eq x.key y.key) (is_key (map (λ z. z.key) rest) x.key) h
       where
         later : (a b : Bool) → b ≡ true → (a || b) ≡ true
@@ -93,7 +99,8 @@ passing_key test xs x (i, lt, at) pass = go xs i lt at
     go (y ∷ ys) (suc j) lt at = more (test y) y (filter test ys) (go ys j (omega (arith, lt)) at)
 
 -- but for one key, those of what is left once that is taken out are the same
-others : (test : Received → Bool) (key k : Key) → key_eq k key ≡ false → (xs : List Received) → is_key (keys_in test xs) k ≡ is_key (keys_in test (but (λ x. x.key) xs key)) k
+others : (test : Received → Bool) (key k : Key) → key_eq k key ≡ false → (xs : List Received) →
+    is_key (keys_in test xs) k ≡ is_key (keys_in test (but (λ x. x.key) xs key)) k
 others test key k apart [] = refl
 others test key k apart (x ∷ xs) = elim (cases_Bool (key_eq x.key key)) [
   | inl taken ↦
@@ -104,27 +111,35 @@ others test key k apart (x ∷ xs) = elim (cases_Bool (key_eq x.key key)) [
   | inr stays ↦
       split (test x) (filter test xs)
       ∙ ap (λ b. (test x && key_eq k x.key) || b) (others test key k apart xs)
-      ∙ sym (ap (λ b. is_key (keys_in test (cond (not b) (x ∷ but (λ y. y.key) xs key) (but (λ y. y.key) xs key))) k) stays ∙ split (test x) (filter test (but (λ y. y.key) xs key)))
+      ∙ sym (ap (λ b. is_key (keys_in test (cond (not b) (x ∷ but (λ y. y.key) xs key) (but (λ y. y.key) xs key))) k) stays
+      ∙ split (test x) (filter test (but (λ y. y.key) xs key)))
 ]
   where
-    skip : (b : Bool) → key_eq k x.key ≡ false → is_key (map (λ z. z.key) (cond b (x ∷ filter test xs) (filter test xs))) k ≡ is_key (keys_in test xs) k
+    skip : (b : Bool) → key_eq k x.key ≡ false →
+        is_key (map (λ z. z.key) (cond b (x ∷ filter test xs) (filter test xs))) k ≡ is_key (keys_in test xs) k
     skip true other = ap (λ c. c || is_key (keys_in test xs) k) other
     skip false other = refl
 
-    split : (b : Bool) (rest : List Received) → is_key (map (λ z. z.key) (cond b (x ∷ rest) rest)) k ≡ ((b && key_eq k x.key) || is_key (map (λ z. z.key) rest) k)
+    split : (b : Bool) (rest : List Received) →
+        is_key (map (λ z. z.key) (cond b (x ∷ rest) rest)) k ≡ ((b && key_eq k x.key) || is_key (map (λ z. z.key) rest) k)
     split true rest = refl
     split false rest = refl
 
-key_first : (test : Received → Bool) (xs : List Received) (key : Key) → is_key (keys_in test xs) key ≡ true → (k : Key) → is_key (keys_in test xs) k ≡ (key_eq k key || is_key (keys_in test (but (λ x. x.key) xs key)) k)
+key_first : (test : Received → Bool) (xs : List Received) (key : Key) → is_key (keys_in test xs) key ≡ true → (k : Key) →
+    is_key (keys_in test xs) k ≡ (key_eq k key || is_key (keys_in test (but (λ x. x.key) xs key)) k)
 key_first test xs key there k = elim (cases_Bool (key_eq k key)) [
-  | inl same ↦ ap (is_key (keys_in test xs)) (same_key k key same) ∙ there ∙ sym (ap (λ b. b || is_key (keys_in test (but (λ x. x.key) xs key)) k) same)
+  | inl same ↦
+      ap (is_key (keys_in test xs)) (same_key k key same)
+      ∙ there
+      ∙ sym (ap (λ b. b || is_key (keys_in test (but (λ x. x.key) xs key)) k) same)
   | inr apart ↦ others test key k apart xs ∙ sym (ap (λ b. b || is_key (keys_in test (but (λ x. x.key) xs key)) k) apart)
 ]
 
 -- Letting go
 
 -- one free message is let go, and then all that are free: as if all were at once
-pub let_go_first : (r : Records) (key : Key) → IsKeptOf (λ id. free r id ≡ true) r.part.kept key → release.let_go records resting_records (release_in r key) ≡ release.let_go records resting_records r
+pub let_go_first : (r : Records) (key : Key) → IsKeptOf (λ id. free r id ≡ true) r.part.kept key →
+    release.let_go records resting_records (release_in r key) ≡ release.let_go records resting_records r
 let_go_first r key (x, there, is, pass) =
     let test : Received → Bool = λ y. free r y.message.id in
     let keys : List Key = keys_in test r.part.kept in
@@ -145,11 +160,13 @@ none_let_go r none = ap (λ keys. fold release_in r keys) (go r.part.kept (λ x 
     go : (xs : List Received) → ((x : Received) → Contains xs x → free r x.message.id ≡ false) → keys_in (λ y. free r y.message.id) xs ≡ []
     go [] none = refl
     go (x ∷ xs) none =
-        ap (λ b. map (λ (z : Received). z.key) (cond b (x ∷ filter (λ y. free r y.message.id) xs) (filter (λ y. free r y.message.id) xs))) (none x (0, omega arith, refl))
+        ap (λ b. map (λ (z : Received). z.key) (cond b (x ∷ filter (λ y. free r y.message.id) xs) (filter (λ y. free r y.message.id) xs)))
+        (none x (0, omega arith, refl))
         ∙ go xs (λ y at. none y (suc at.0, omega (arith, at.1), at.2))
 
 -- and fewer are kept than before
-pub fewer_kept : (r : Records) (key : Key) (P : Uid → Type 0) → IsKeptOf P r.part.kept key → length (release_in r key).part.kept < length r.part.kept
+pub fewer_kept : (r : Records) (key : Key) (P : Uid → Type 0) → IsKeptOf P r.part.kept key →
+    length (release_in r key).part.kept < length r.part.kept
 fewer_kept r key P (x, (i, lt, at), is, pass) = go r.part.kept i lt at
   where
     at_most : (ys : List Received) → length (but (λ y. y.key) ys key) ≤ length ys
@@ -176,29 +193,37 @@ earlier_le : (a b n : ℕ) → a ≤ b → nat_le b n ≡ true → nat_le a n �
 earlier_le a b n le h = let most = leb-true b n h in le-leb a n (omega (arith, le, most))
 
 -- a count below one that is stable is stable
-stable_before : (l : Acks) (sites : List SiteNo) (v u : Uid) → source_of v ≡ source_of u → v.count ≤ u.count → is_stable_among l sites u ≡ true → is_stable_among l sites v ≡ true
+stable_before : (l : Acks) (sites : List SiteNo) (v u : Uid) → source_of v ≡ source_of u → v.count ≤ u.count →
+    is_stable_among l sites u ≡ true → is_stable_among l sites v ≡ true
 stable_before l [] v u same le stable = refl
 stable_before l (site ∷ sites) v u same le stable =
     let here : site_eq v.proc.site l.here ≡ site_eq u.proc.site l.here = ap (λ (s : Source). site_eq s.process.site l.here) same in
     let told : told_count l (source_of v) ≡ told_count l (source_of u) = ap (told_count l) same in
-    let least : least_acked l (source_of v) (site ∷ sites) ≡ least_acked l (source_of u) (site ∷ sites) = ap (λ s. least_acked l s (site ∷ sites)) same in
+    let least : least_acked l (source_of v) (site ∷ sites) ≡ least_acked l (source_of u) (site ∷ sites) =
+    ap (λ s. least_acked l s (site ∷ sites)) same in
     (λ i. cond (here i) (nat_le v.count (least i)) (nat_le v.count (told i)))
     ∙ go (site_eq u.proc.site l.here) stable
   where
-    go : (b : Bool) → cond b (nat_le u.count (least_acked l (source_of u) (site ∷ sites))) (nat_le u.count (told_count l (source_of u))) ≡ true → cond b (nat_le v.count (least_acked l (source_of u) (site ∷ sites))) (nat_le v.count (told_count l (source_of u))) ≡ true
+    go : (b : Bool) →
+        cond b (nat_le u.count (least_acked l (source_of u) (site ∷ sites))) (nat_le u.count (told_count l (source_of u))) ≡ true →
+        cond b (nat_le v.count (least_acked l (source_of u) (site ∷ sites))) (nat_le v.count (told_count l (source_of u))) ≡ true
     go true h = earlier_le v.count u.count (least_acked l (source_of u) (site ∷ sites)) le h
     go false h = earlier_le v.count u.count (told_count l (source_of u)) le h
 
 -- who awaits a count awaits those above it
-awaited_before : (rows : List Row) (v u : Uid) → source_of v ≡ source_of u → v.count ≤ u.count → is_awaited rows v ≡ true → is_awaited rows u ≡ true
+awaited_before : (rows : List Row) (v u : Uid) → source_of v ≡ source_of u → v.count ≤ u.count → is_awaited rows v ≡ true →
+    is_awaited rows u ≡ true
 awaited_before [] v u same le awaited = absurd (false≢true awaited)
 awaited_before (row ∷ rows) v u same le awaited = elim (or_cases (awaits_row row v) (is_awaited rows v) awaited) [
   | inl here ↦
       let parts = and_parts (is_member (standing_in row v.group)) (nat_lt (done_in row v.group v.view v.proc) v.count) here in
       let lt = ltb-true (done_in row v.group v.view v.proc) v.count parts.1 in
-      let done : done_in row v.group v.view v.proc ≡ done_in row u.group u.view u.proc = ap (λ (s : Source). done_in row s.group s.view s.process) same in
-      let member : is_member (standing_in row u.group) ≡ true = ap (λ (s : Source). is_member (standing_in row s.group)) (sym same) ∙ parts.0 in
-      ap (λ b. b || is_awaited rows u) (and_from (is_member (standing_in row u.group)) (nat_lt (done_in row u.group u.view u.proc) u.count) member (lt-ltb (done_in row u.group u.view u.proc) u.count (omega (arith, lt, le, done))))
+      let done : done_in row v.group v.view v.proc ≡ done_in row u.group u.view u.proc =
+      ap (λ (s : Source). done_in row s.group s.view s.process) same in
+      let member : is_member (standing_in row u.group) ≡ true =
+      ap (λ (s : Source). is_member (standing_in row s.group)) (sym same) ∙ parts.0 in
+      ap (λ b. b || is_awaited rows u) (and_from (is_member (standing_in row u.group)) (nat_lt (done_in row u.group u.view u.proc) u.count)
+      member (lt-ltb (done_in row u.group u.view u.proc) u.count (omega (arith, lt, le, done))))
   | inr there ↦ later (awaits_row row u) (is_awaited rows u) (awaited_before rows v u same le there)
 ]
   where
@@ -210,22 +235,28 @@ free_before : (r : Records) (v u : Uid) → source_of v ≡ source_of u → v.co
 free_before r v u same le h =
     let first = and_parts (is_open_in r u) (is_stable_in r.acks u && not (is_awaited r.delay.rows u)) h in
     let second = and_parts (is_stable_in r.acks u) (not (is_awaited r.delay.rows u)) first.1 in
-    let opened : is_open_in r v ≡ true = ap (λ (s : Source). is_open_in r (record { group = s.group; view = s.view; proc = s.process; count = v.count })) same ∙ first.0 in
+    let opened : is_open_in r v ≡ true =
+    ap (λ (s : Source). is_open_in r (record { group = s.group; view = s.view; proc = s.process; count = v.count })) same ∙ first.0 in
     let sites : others_in r.acks v.group ≡ others_in r.acks u.group = ap (λ (s : Source). others_in r.acks s.group) same in
-    let stable : is_stable_in r.acks v ≡ true = ap (λ o. is_stable_among r.acks o v) sites ∙ stable_before r.acks (others_in r.acks u.group) v u same le second.0 in
-    let given : is_awaited r.delay.rows v ≡ false = false_from_ne_true (is_awaited r.delay.rows v) (λ waits. false≢true (sym (ap not (awaited_before r.delay.rows v u same le waits)) ∙ second.1)) in
+    let stable : is_stable_in r.acks v ≡ true =
+    ap (λ o. is_stable_among r.acks o v) sites ∙ stable_before r.acks (others_in r.acks u.group) v u same le second.0 in
+    let given : is_awaited r.delay.rows v ≡ false =
+    false_from_ne_true (is_awaited r.delay.rows v)
+    (λ waits. false≢true (sym (ap not (awaited_before r.delay.rows v u same le waits)) ∙ second.1)) in
     and_from (is_open_in r v) (is_stable_in r.acks v && not (is_awaited r.delay.rows v)) opened
     (and_from (is_stable_in r.acks v) (not (is_awaited r.delay.rows v)) stable (ap not given))
 
 pub none_free : (r : Records) → IsLedBy (λ id. free r id ≡ false) r.part.kept → AreNotFree r
 none_free r led x there =
     let first = led x there in
-    false_from_ne_true (free r x.message.id) (λ h. false≢true (sym first.4 ∙ free_before r first.0.message.id x.message.id first.2 first.3 h))
+    false_from_ne_true (free r x.message.id)
+    (λ h. false≢true (sym first.4 ∙ free_before r first.0.message.id x.message.id first.2 first.3 h))
 
 pub led_as : (P Q : Uid → Type 0) → ((id : Uid) → P id → Q id) → (kept : List Received) → IsLedBy P kept → IsLedBy Q kept
 led_as P Q implied kept led x there = let first = led x there in (first.0, first.1, first.2, first.3, implied first.0.message.id first.4)
 
-pub if_none_free : {A : Type 0} (r : Records) (P : Uid → Type 0) → ((id : Uid) → P id → free r id ≡ false) → (o : Option A) → IfNone o (IsLedBy P r.part.kept) → IfNone o (AreNotFree r)
+pub if_none_free : {A : Type 0} (r : Records) (P : Uid → Type 0) → ((id : Uid) → P id → free r id ≡ false) → (o : Option A) →
+    IfNone o (IsLedBy P r.part.kept) → IfNone o (AreNotFree r)
 if_none_free r P implied None led = none_free r (led_as P (λ id. free r id ≡ false) implied r.part.kept led)
 if_none_free r P implied (Some x) led = tt
 
@@ -236,7 +267,8 @@ pub but_released : (s : Source) (r : Records) (key : Key) → AreNotFreeBut s r 
 but_released s r key none x there apart = none x (kept_parts (λ y. not (key_eq y.key key)) r.part.kept x there).0 apart
 
 -- none of the source is either
-none_of : (s : Source) (r : Records) → ((x : Received) → Contains r.part.kept x → source_of x.message.id ≡ s → free r x.message.id ≡ false) → AreNotFreeBut s r → AreNotFree r
+none_of : (s : Source) (r : Records) →
+    ((x : Received) → Contains r.part.kept x → source_of x.message.id ≡ s → free r x.message.id ≡ false) → AreNotFreeBut s r → AreNotFree r
 none_of s r own others x there = elim (cases_Bool (eq_by_cmp source_cmp (source_of x.message.id) s)) [
   | inl same ↦ own x there (tie_same source_exact (source_of x.message.id) s same)
   | inr apart ↦ others x there (λ is. false≢true (sym apart ∙ tie_self source_total (source_of x.message.id) s is))
@@ -247,6 +279,8 @@ pub none_kept_of : (s : Source) (r : Records) → KeepsNoneOf r.part.kept s → 
 none_kept_of s r none = none_of s r (λ x there its. absurd (none x there its))
 
 -- its first message is not free
-pub first_not_free : (s : Source) (r : Records) (first : Uid × Key) → KeepsFirst r.part.kept s first → free r first.0 ≡ false → AreNotFreeBut s r → AreNotFree r
+pub first_not_free : (s : Source) (r : Records) (first : Uid × Key) → KeepsFirst r.part.kept s first → free r first.0 ≡ false →
+    AreNotFreeBut s r → AreNotFree r
 first_not_free s r first is held =
-    none_of s r (λ x there its. false_from_ne_true (free r x.message.id) (λ h. false≢true (sym held ∙ free_before r first.0 x.message.id (is.own ∙ sym its) (is.least x there its) h)))
+    none_of s r (λ x there its. false_from_ne_true (free r x.message.id)
+    (λ h. false≢true (sym held ∙ free_before r first.0 x.message.id (is.own ∙ sym its) (is.least x there its) h)))

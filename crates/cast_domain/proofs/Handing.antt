@@ -28,7 +28,8 @@ pub pass_past : (r : Records) (k : ℕ) (g : GroupNo) (to : Proc) (i : ℕ) (p :
     → is_some (hand_here (log_of r.orders (record_at r.groups i).name) p).first ≡ true
     → may_order records r ≡ true
     → may_raise (time_of r.delay p) g p ≡ true
-    → pass_at records r k g to i ≡ option_map_or (hand_over records r k g to i) (place_to_pass_of r p (record_at r.groups i)) (r, Some HeldFull)
+    → pass_at records r k g to i
+    ≡ option_map_or (hand_over records r k g to i) (place_to_pass_of r p (record_at r.groups i)) (r, Some HeldFull)
 pass_past r k g to i p here member named going own holding room may =
     let x = record_at r.groups i in
     let q = local_in r k in
@@ -43,7 +44,8 @@ pass_past r k g to i p here member named going own holding room may =
     ∙ ap (λ b. if not b then (r, Some NotMember) else frozen) named
     ∙ ap (λ b. if b then (r, Some Flushing) else owned) going
     ∙ ap (λ b. if b then (r, Some OwnAbcast) else held) (ap (awaits_own_in r) (sym here) ∙ own)
-    ∙ ap (λ b. if not b then (r, Some NotHolder) else ordered) (ap (λ y. is_some (hand_here (log_of r.orders x.name) y).first) (sym here) ∙ holding)
+    ∙ ap (λ b. if not b then (r, Some NotHolder) else ordered)
+    (ap (λ y. is_some (hand_here (log_of r.orders x.name) y).first) (sym here) ∙ holding)
     ∙ ap (λ b. if not b then (r, Some HeldFull) else raised) room
     ∙ ap (λ b. if not b then (r, Some HeldFull) else made) (ap (λ y. may_raise (time_of r.delay y) g y) (sym here) ∙ may)
     ∙ ap (λ y. option_map_or (hand_over records r k g to i) (place_to_pass_of r y x) (r, Some HeldFull)) (sym here)

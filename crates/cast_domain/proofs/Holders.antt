@@ -1,10 +1,12 @@
 -- Who holds the token, by what is kept of processes: those of this site's, in rising order of their serials.
-use Rattle.std.proofs.Common.{◌≡◌, ℕ, zero, suc, ◌+◌, ◌≤◌, ◌<◌, Bool, true, false, cond, List, [], ◌∷◌, map, filter, Option, Some, None, unwrap_or, Less, Equal, Greater, refl, sym, ap, subst, ◌∙◌, inl, inr, arith}
+use Rattle.std.proofs.Common.{◌≡◌, ℕ, zero, suc, ◌+◌, ◌≤◌, ◌<◌, Bool, true, false, cond, List, [], ◌∷◌, map, filter, Option}
+use Rattle.std.proofs.Common.{Some, None, unwrap_or, Less, Equal, Greater, refl, sym, ap, subst, ◌∙◌, inl, inr, arith}
 use Rattle.std.specs.Prelude.{◌==◌, nat_lt, nat_le, is_some}
 use Rattle.std.specs.List.{find, list_all, range_with_len}
 use Rattle.std.specs.Option.{option_map}
 use Rattle.std.specs.Ordering.{is_lt, nat_cmp, ordering_then}
-use Rattle.std.proofs.lemmas.Bool.{cases_Bool, cases_lt, false≢true, false_from_ne_true, and_parts, and_from, lt-ltb, le-leb, ltb-true, leb-true}
+use Rattle.std.proofs.lemmas.Bool.{cases_Bool, cases_lt, false≢true, false_from_ne_true}
+use Rattle.std.proofs.lemmas.Bool.{and_parts, and_from, lt-ltb, le-leb, ltb-true, leb-true}
 use Rattle.std.proofs.lemmas.Cmp.{nat_cmp_total, tied_itself}
 use Rattle.std.proofs.lemmas.Option.{none-some, same_Some}
 use Rattle.cast_types.specs.declared.names.SiteNo.{SiteNo}
@@ -42,7 +44,8 @@ turned x y one other = never_below x (ap is_lt (nat_cmp_total.trans x y x (less 
     less a b = less_is (nat_cmp a b)
 
 -- two rising lists with the same numbers are one
-same_rising : (xs ys : List ℕ) → is_rising nat_cmp xs ≡ true → is_rising nat_cmp ys ≡ true → ((k : ℕ) → In k xs → In k ys) → ((k : ℕ) → In k ys → In k xs) → xs ≡ ys
+same_rising : (xs ys : List ℕ) → is_rising nat_cmp xs ≡ true → is_rising nat_cmp ys ≡ true → ((k : ℕ) → In k xs → In k ys) →
+    ((k : ℕ) → In k ys → In k xs) → xs ≡ ys
 same_rising [] [] a b there back = refl
 same_rising [] (y ∷ ys) a b there back = absurd (back y (inl refl))
 same_rising (x ∷ xs) [] a b there back = absurd (there x (inl refl))
@@ -51,10 +54,13 @@ same_rising (x ∷ xs) (y ∷ ys) a b there back =
     let q = and_parts (list_all (λ z. is_lt (nat_cmp y z)) ys) (is_rising nat_cmp ys) b in
     let first : x ≡ y = heads (there x (inl refl)) (back y (inl refl)) p.0 q.0 in
     λ i. first i ∷ same_rising xs ys p.1 q.1
-    (λ k at. tail k (there k (inr at)) (λ is. never_below x (subst (λ z. is_lt (nat_cmp x z) ≡ true) (is ∙ sym first) (not_below x k xs p.0 at))))
-    (λ k at. tail_back k (back k (inr at)) (λ is. never_below y (subst (λ z. is_lt (nat_cmp y z) ≡ true) (is ∙ first) (not_below y k ys q.0 at)))) i
+    (λ k at.
+    tail k (there k (inr at)) (λ is. never_below x (subst (λ z. is_lt (nat_cmp x z) ≡ true) (is ∙ sym first) (not_below x k xs p.0 at))))
+    (λ k at.
+    tail_back k (back k (inr at)) (λ is. never_below y (subst (λ z. is_lt (nat_cmp y z) ≡ true) (is ∙ first) (not_below y k ys q.0 at)))) i
   where
-    heads : In x (y ∷ ys) → In y (x ∷ xs) → list_all (λ z. is_lt (nat_cmp x z)) xs ≡ true → list_all (λ z. is_lt (nat_cmp y z)) ys ≡ true → x ≡ y
+    heads : In x (y ∷ ys) → In y (x ∷ xs) → list_all (λ z. is_lt (nat_cmp x z)) xs ≡ true →
+        list_all (λ z. is_lt (nat_cmp y z)) ys ≡ true → x ≡ y
     heads (inl is) back_y p q = is
     heads (inr later) (inl is) p q = sym is
     heads (inr later) (inr sooner) p q = absurd (turned x y (not_below x y xs p sooner) (not_below y x ys q later))
@@ -70,11 +76,14 @@ same_rising (x ∷ xs) (y ∷ ys) a b there back =
 -- serials rise
 above : (a b n : ℕ) → a < b → list_all (λ z. is_lt (nat_cmp a z)) (range_with_len b n) ≡ true
 above a b zero lt = refl
-above a b (suc n) lt = and_from (is_lt (nat_cmp a b)) _ (ap (λ less. is_lt (cond less Less (cond (a == b) Equal Greater))) (lt-ltb a b lt)) (above a (b + 1) n (omega (arith, lt)))
+above a b (suc n) lt =
+    and_from (is_lt (nat_cmp a b)) _ (ap (λ less. is_lt (cond less Less (cond (a == b) Equal Greater))) (lt-ltb a b lt))
+    (above a (b + 1) n (omega (arith, lt)))
 
 range_rises : (a n : ℕ) → is_rising nat_cmp (range_with_len a n) ≡ true
 range_rises a zero = refl
-range_rises a (suc n) = and_from (list_all (λ z. is_lt (nat_cmp a z)) (range_with_len (a + 1) n)) _ (above a (a + 1) n (omega arith)) (range_rises (a + 1) n)
+range_rises a (suc n) =
+    and_from (list_all (λ z. is_lt (nat_cmp a z)) (range_with_len (a + 1) n)) _ (above a (a + 1) n (omega arith)) (range_rises (a + 1) n)
 
 in_range : (k a n : ℕ) → a ≤ k → k < a + n → In k (range_with_len a n)
 in_range k a zero low high = absurd (omega (arith, low, high))
@@ -104,7 +113,12 @@ kept_in : {A : Type 0} (p : A → Bool) (x : A) (xs : List A) → In x xs → p 
 kept_in p x [] at passes = absurd at
 kept_in p x (y ∷ xs) at passes = elim at [
   | inl is ↦ subst (λ b. In x (cond b (y ∷ filter p xs) (filter p xs))) (sym (ap p (sym is) ∙ passes)) (inl is)
-  | inr there ↦ elim (p y) as (λ b. In x (cond b (y ∷ filter p xs) (filter p xs))) [ true ↦ inr (kept_in p x xs there passes) | false ↦ kept_in p x xs there passes ]
+  | inr there ↦
+      elim (p y) as (λ b. In x (cond b (y ∷ filter p xs) (filter p xs))) [
+        | true ↦ inr (kept_in p x xs there passes)
+        | false ↦
+            kept_in p x xs there passes
+      ]
 ]
 
 all_each : {A : Type 0} (p : A → Bool) (xs : List A) → list_all p xs ≡ true → (x : A) → In x xs → p x ≡ true
@@ -123,10 +137,14 @@ found_own [] rise h at = absurd at
 found_own (x ∷ hands) rise h at =
     let p = and_parts (list_all (λ y. is_lt (proc_cmp x.process y)) (map (λ y. y.process) hands)) (hands_rise hands) rise in
     elim at [
-      | inl is ↦ subst (λ z. find (λ y. proc_eq y.process z.process) (x ∷ hands) ≡ Some z) (sym is) (ap (λ b. cond b (Some x) (find (λ y. proc_eq y.process x.process) hands)) (proc_itself x.process))
+      | inl is ↦
+          subst (λ z. find (λ y. proc_eq y.process z.process) (x ∷ hands) ≡ Some z) (sym is)
+          (ap (λ b. cond b (Some x) (find (λ y. proc_eq y.process x.process) hands)) (proc_itself x.process))
       | inr there ↦
-          let below : is_lt (proc_cmp x.process h.process) ≡ true = all_each (λ y. is_lt (proc_cmp x.process y)) (map (λ y. y.process) hands) p.0 h.process (map_in (λ y. y.process) h hands there) in
-          ap (λ b. cond b (Some x) (find (λ y. proc_eq y.process h.process) hands)) (apart_below x.process h.process below) ∙ found_own hands p.1 h there
+          let below : is_lt (proc_cmp x.process h.process) ≡ true =
+          all_each (λ y. is_lt (proc_cmp x.process y)) (map (λ y. y.process) hands) p.0 h.process (map_in (λ y. y.process) h hands there) in
+          ap (λ b. cond b (Some x) (find (λ y. proc_eq y.process h.process) hands)) (apart_below x.process h.process below)
+          ∙ found_own hands p.1 h there
     ]
 
 -- what is found is among them
@@ -142,7 +160,8 @@ found_among p (x ∷ hands) h is = elim (cases_Bool (proc_eq x.process p)) [
 ]
 
 -- the serials of processes of one site rise as their names do
-serials_rise : (here : SiteNo) (hands : List Hand) → list_all (λ h. site_eq h.process.site here) hands ≡ true → hands_rise hands ≡ true → is_rising nat_cmp (map (λ h. h.process.serial) hands) ≡ true
+serials_rise : (here : SiteNo) (hands : List Hand) → list_all (λ h. site_eq h.process.site here) hands ≡ true → hands_rise hands ≡ true →
+    is_rising nat_cmp (map (λ h. h.process.serial) hands) ≡ true
 serials_rise here [] own rise = refl
 serials_rise here (x ∷ hands) own rise =
     let a = and_parts (site_eq x.process.site here) _ own in
@@ -155,16 +174,20 @@ serials_rise here (x ∷ hands) own rise =
 
     one : (p : Proc) → site_eq p.site here ≡ true → is_lt (proc_cmp x.process p) ≡ true → is_lt (nat_cmp x.process.serial p.serial) ≡ true
     one p there below =
-        ap is_lt (sym (ap (λ o. ordering_then o (nat_cmp x.process.serial p.serial)) ((λ i. nat_cmp (at_site i).0 (same_site p.site here there i).0) ∙ tied_itself nat_cmp_total here.0))) ∙ below
+        ap is_lt (sym (ap (λ o. ordering_then o (nat_cmp x.process.serial p.serial))
+        ((λ i. nat_cmp (at_site i).0 (same_site p.site here there i).0) ∙ tied_itself nat_cmp_total here.0))) ∙ below
 
-    each : (hs : List Hand) → list_all (λ h. site_eq h.process.site here) hs ≡ true → list_all (λ y. is_lt (proc_cmp x.process y)) (map (λ y. y.process) hs) ≡ true → list_all (λ n. is_lt (nat_cmp x.process.serial n)) (map (λ h. h.process.serial) hs) ≡ true
+    each : (hs : List Hand) → list_all (λ h. site_eq h.process.site here) hs ≡ true →
+        list_all (λ y. is_lt (proc_cmp x.process y)) (map (λ y. y.process) hs) ≡ true →
+        list_all (λ n. is_lt (nat_cmp x.process.serial n)) (map (λ h. h.process.serial) hs) ≡ true
     each [] all below = refl
     each (h ∷ hs) all below =
         let a = and_parts (site_eq h.process.site here) _ all in
         let b = and_parts (is_lt (proc_cmp x.process h.process)) _ below in
         and_from (is_lt (nat_cmp x.process.serial h.process.serial)) _ (one h.process a.0 b.0) (each hs a.1 b.1)
 
-own_kept : (here : SiteNo) (p : Hand → Bool) (hands : List Hand) → list_all (λ h. site_eq h.process.site here) hands ≡ true → list_all (λ h. site_eq h.process.site here) (filter p hands) ≡ true
+own_kept : (here : SiteNo) (p : Hand → Bool) (hands : List Hand) → list_all (λ h. site_eq h.process.site here) hands ≡ true →
+    list_all (λ h. site_eq h.process.site here) (filter p hands) ≡ true
 own_kept here p hands own = all_kept (λ h. site_eq h.process.site here) p hands own
 
 names_kept : (p : Hand → Bool) (hands : List Hand) → hands_rise hands ≡ true → hands_rise (filter p hands) ≡ true
@@ -177,11 +200,13 @@ names_kept p (x ∷ hands) rise =
       | false ↦ rest
     ]
   where
-    fewer : (hs : List Hand) → list_all (λ y. is_lt (proc_cmp x.process y)) (map (λ y. y.process) hs) ≡ true → list_all (λ y. is_lt (proc_cmp x.process y)) (map (λ y. y.process) (filter p hs)) ≡ true
+    fewer : (hs : List Hand) → list_all (λ y. is_lt (proc_cmp x.process y)) (map (λ y. y.process) hs) ≡ true →
+        list_all (λ y. is_lt (proc_cmp x.process y)) (map (λ y. y.process) (filter p hs)) ≡ true
     fewer [] all = refl
     fewer (h ∷ hs) all =
         let a = and_parts (is_lt (proc_cmp x.process h.process)) _ all in
-        elim (p h) as (λ c. list_all (λ y. is_lt (proc_cmp x.process y)) (map (λ y. y.process) (cond c (h ∷ filter p hs) (filter p hs))) ≡ true) [
+        elim (p h)
+        as (λ c. list_all (λ y. is_lt (proc_cmp x.process y)) (map (λ y. y.process) (cond c (h ∷ filter p hs) (filter p hs))) ≡ true) [
           | true ↦ and_from (is_lt (proc_cmp x.process h.process)) _ a.0 (fewer hs a.1)
           | false ↦ fewer hs a.1
         ]
@@ -213,9 +238,11 @@ module _ (r : Records) (s : State) (f : Fits r s) (g : GroupNo) where
       let low = ltb-true 0 h.process.serial given.0 in
       let high = leb-true h.process.serial r.used given.1 in
       let found : hand_here (log_of r.orders g) (local s h.process.serial) ≡ h =
-      ap (hand_of hands) (sym (named_local h in_hands)) ∙ ap (λ o. unwrap_or o (new_hand h.process)) (found_own hands fit.own.0 h in_hands) in
+      ap (hand_of hands) (sym (named_local h in_hands))
+      ∙ ap (λ o. unwrap_or o (new_hand h.process)) (found_own hands fit.own.0 h in_hands) in
       subst (λ n. In n (holders s g)) (sym is)
-      (kept_in (holds s g) h.process.serial (serials s) (in_range h.process.serial 1 s.used (omega (arith, low)) (omega (arith, high, used_same)))
+      (kept_in (holds s g) h.process.serial (serials s)
+      (in_range h.process.serial 1 s.used (omega (arith, low)) (omega (arith, high, used_same)))
       (ap is_some (sym (fit.tokens h.process.serial)) ∙ ap (λ (x : Hand). is_some x.first) found ∙ a.0))
 
   back : (k : ℕ) → In k (holders s g) → In k (holders_in r g)
@@ -224,20 +251,24 @@ module _ (r : Records) (s : State) (f : Fits r s) (g : GroupNo) where
       let (low, high) = range_bounds k 1 s.used given in
       by (find (λ x. proc_eq x.process (local s k)) hands) refl (ap is_some (fit.tokens k) ∙ holding) low high
     where
-      by : (o : Option Hand) → find (λ x. proc_eq x.process (local s k)) hands ≡ o → is_some (unwrap_or o (new_hand (local s k))).first ≡ true → 1 ≤ k → k < 1 + s.used → In k (holders_in r g)
+      by : (o : Option Hand) → find (λ x. proc_eq x.process (local s k)) hands ≡ o →
+          is_some (unwrap_or o (new_hand (local s k))).first ≡ true → 1 ≤ k → k < 1 + s.used → In k (holders_in r g)
       by None is holding low high = absurd (false≢true holding)
       by (Some h) is holding low high =
           let (at_hands, named) = found_among (local s k) hands h is in
           let serial : h.process.serial ≡ k = ap (λ (p : Proc). p.serial) named in
           subst (λ n. In n (holders_in r g)) serial
           (map_in (λ x. x.process.serial) h (filter (holds_here r) hands) (kept_in (holds_here r) h hands at_hands
-          (and_from (is_some h.first) _ holding (and_from (nat_lt 0 h.process.serial) _ (lt-ltb 0 h.process.serial (omega (arith, low, serial))) (le-leb h.process.serial r.used (omega (arith, high, serial, used_same)))))))
+          (and_from (is_some h.first) _ holding
+          (and_from (nat_lt 0 h.process.serial) _ (lt-ltb 0 h.process.serial (omega (arith, low, serial)))
+          (le-leb h.process.serial r.used (omega (arith, high, serial, used_same)))))))
 
   -- the processes here that hold the token are those of the history
   pub holders_there : holders_in r g ≡ holders s g
   holders_there =
       same_rising (holders_in r g) (holders s g)
-      (serials_rise s.here (filter (holds_here r) hands) (own_kept s.here (holds_here r) hands fit.own.1) (names_kept (holds_here r) hands fit.own.0))
+      (serials_rise s.here (filter (holds_here r) hands) (own_kept s.here (holds_here r) hands fit.own.1)
+      (names_kept (holds_here r) hands fit.own.0))
       (rising_kept nat_cmp (holds s g) (serials s) (range_rises 1 s.used))
       there back
 
@@ -253,10 +284,15 @@ module _ (r : Records) (s : State) (f : Fits r s) (g : GroupNo) where
       head_of [] = None
       head_of (k ∷ ks) = Some k
 
-      first_of : (p : Hand → Bool) (hs : List Hand) → option_map (λ (h : Hand). local s h.process.serial) (find p hs) ≡ option_map (local s) (head_of (map (λ h. h.process.serial) (filter p hs)))
+      first_of : (p : Hand → Bool) (hs : List Hand) → option_map (λ (h : Hand). local s h.process.serial) (find p hs) ≡ option_map (local s)
+          (head_of (map (λ h. h.process.serial) (filter p hs)))
       first_of p [] = refl
-      first_of p (h ∷ hs) = elim (p h) as (λ b. option_map (λ (x : Hand). local s x.process.serial) (cond b (Some h) (find p hs)) ≡ option_map (local s) (head_of (map (λ x. x.process.serial) (cond b (h ∷ filter p hs) (filter p hs))))) [ true ↦ refl | false ↦ first_of p hs ]
+      first_of p (h ∷ hs) =
+          elim (p h) as (λ b. option_map (λ (x : Hand). local s x.process.serial) (cond b (Some h) (find p hs)) ≡ option_map (local s)
+          (head_of (map (λ x. x.process.serial) (cond b (h ∷ filter p hs) (filter p hs))))) [ true ↦ refl | false ↦ first_of p hs ]
 
       first_kept : (p : ℕ → Bool) (ks : List ℕ) → find p ks ≡ head_of (filter p ks)
       first_kept p [] = refl
-      first_kept p (k ∷ ks) = elim (p k) as (λ b. cond b (Some k) (find p ks) ≡ head_of (cond b (k ∷ filter p ks) (filter p ks))) [ true ↦ refl | false ↦ first_kept p ks ]
+      first_kept p (k ∷ ks) =
+          elim (p k)
+          as (λ b. cond b (Some k) (find p ks) ≡ head_of (cond b (k ∷ filter p ks) (filter p ks))) [ true ↦ refl | false ↦ first_kept p ks ]

@@ -1,5 +1,6 @@
 -- What all members here have delivered of a process, and the first messages of a cut that are missing.
-use Rattle.std.proofs.Common.{◌≡◌, ℕ, ◌+◌, ◌-◌, ◌≤◌, ◌<◌, zero, suc, Bool, true, false, not, ◌&&◌, ◌||◌, List, [], ◌∷◌, ◌++◌, length, get_or, take, drop, map, filter, refl, sym, ap, ◌∙◌, arith, append_assoc, append-nil, inl, inr}
+use Rattle.std.proofs.Common.{◌≡◌, ℕ, ◌+◌, ◌-◌, ◌≤◌, ◌<◌, zero, suc, Bool, true, false, not, ◌&&◌, ◌||◌, List, [], ◌∷◌, ◌++◌, length}
+use Rattle.std.proofs.Common.{get_or, take, drop, map, filter, refl, sym, ap, ◌∙◌, arith, append_assoc, append-nil, inl, inr}
 use Rattle.std.specs.Prelude.{if◌then◌else◌, min, nat_lt}
 use Rattle.std.specs.List.{fold, range_with_len}
 use Rattle.std.proofs.lemmas.Bool.{lt-ltb, le-ltb, ltb-true, or_left, or_right, or_cases, cases_lt}
@@ -44,7 +45,9 @@ one_more : (member : Bool) (n d k : ℕ) → nat_lt (if member then min n d else
 one_more true n d k = below_lesser n d k
 one_more false n d k = or_none (nat_lt n k)
 
-least_below : (g : GroupNo) (view : ℕ) (p : Proc) (k : ℕ) (rows : List Row) (n : ℕ) → nat_lt (fold (λ n row. if is_member (standing_in row g) then min n (done_in row g view p) else n) n rows) k ≡ (nat_lt n k || is_awaited rows (uid_in g view (p, k)))
+least_below : (g : GroupNo) (view : ℕ) (p : Proc) (k : ℕ) (rows : List Row) (n : ℕ) →
+    nat_lt (fold (λ n row. if is_member (standing_in row g) then min n (done_in row g view p) else n) n rows)
+    k ≡ (nat_lt n k || is_awaited rows (uid_in g view (p, k)))
 least_below g view p k [] n = or_none (nat_lt n k)
 least_below g view p k (row ∷ rows) n =
     let next : ℕ = if is_member (standing_in row g) then min n (done_in row g view p) else n in
@@ -53,17 +56,22 @@ least_below g view p k (row ∷ rows) n =
     ∙ or_grouped (nat_lt n k) (awaits_row row (uid_in g view (p, k))) (is_awaited rows (uid_in g view (p, k)))
 
 -- some member here awaits the messages of a process that are above what all of them have delivered
-pub awaited_is : (g : GroupNo) (view : ℕ) (p : Proc) (k : ℕ) (rows : List Row) → k ≤ 4294967295 → is_awaited rows (uid_in g view (p, k)) ≡ nat_lt (least_in rows g view p) k
+pub awaited_is : (g : GroupNo) (view : ℕ) (p : Proc) (k : ℕ) (rows : List Row) → k ≤ 4294967295 →
+    is_awaited rows (uid_in g view (p, k)) ≡ nat_lt (least_in rows g view p) k
 awaited_is g view p k rows small =
     sym (least_below g view p k rows 4294967295
     ∙ ap (λ b. b || is_awaited rows (uid_in g view (p, k))) (le-ltb 4294967295 k small))
 
 -- so none awaits what all of them have delivered
-pub awaited_none : (g : GroupNo) (view : ℕ) (p : Proc) (k : ℕ) (rows : List Row) (done : ℕ) → done ≡ least_in rows g view p → k ≤ 4294967295 → k ≤ done → is_awaited rows (uid_in g view (p, k)) ≡ false
-awaited_none g view p k rows done least small within = awaited_is g view p k rows small ∙ ap (λ n. nat_lt n k) (sym least) ∙ le-ltb done k within
+pub awaited_none : (g : GroupNo) (view : ℕ) (p : Proc) (k : ℕ) (rows : List Row) (done : ℕ) → done ≡ least_in rows g view p →
+    k ≤ 4294967295 → k ≤ done → is_awaited rows (uid_in g view (p, k)) ≡ false
+awaited_none g view p k rows done least small within =
+    awaited_is g view p k rows small ∙ ap (λ n. nat_lt n k) (sym least) ∙ le-ltb done k within
 
-pub awaited_some : (g : GroupNo) (view : ℕ) (p : Proc) (k : ℕ) (rows : List Row) (done : ℕ) → done ≡ least_in rows g view p → k ≤ 4294967295 → done < k → is_awaited rows (uid_in g view (p, k)) ≡ true
-awaited_some g view p k rows done least small above = awaited_is g view p k rows small ∙ ap (λ n. nat_lt n k) (sym least) ∙ lt-ltb done k above
+pub awaited_some : (g : GroupNo) (view : ℕ) (p : Proc) (k : ℕ) (rows : List Row) (done : ℕ) → done ≡ least_in rows g view p →
+    k ≤ 4294967295 → done < k → is_awaited rows (uid_in g view (p, k)) ≡ true
+awaited_some g view p k rows done least small above =
+    awaited_is g view p k rows small ∙ ap (λ n. nat_lt n k) (sym least) ∙ lt-ltb done k above
 
 -- Lists of missing messages
 
@@ -86,7 +94,8 @@ pub taken_few : (n : ℕ) (xs new : List Entry) → new ≡ take n xs → length
 taken_few n xs new made = omega (arith, length-take n xs, ap length made)
 
 -- one more where there is room
-pub few_more : (got : Bool) (n : ℕ) (e : Entry) (xs new : List Entry) → length xs < n → new ≡ (if got then xs else xs ++ e ∷ []) → length new ≤ n
+pub few_more : (got : Bool) (n : ℕ) (e : Entry) (xs new : List Entry) → length xs < n → new ≡ (if got then xs else xs ++ e ∷ []) →
+    length new ≤ n
 few_more true n e xs new room made = omega (arith, ap length made)
 few_more false n e xs new room made = omega (arith, ap length made, length_push xs e)
 
@@ -128,7 +137,8 @@ module _ (test : Entry → Bool) (p : Proc) where
       ]
 
   -- of a process's messages those are left that stand behind the first ones, which fail the test
-  pub first_left : (done last : ℕ) → ((k : ℕ) → k ≤ done → k ≤ last → test (p, k) ≡ false) → left done last ≡ filter test (first_of (p, last))
+  pub first_left : (done last : ℕ) → ((k : ℕ) → k ≤ done → k ≤ last → test (p, k) ≡ false) →
+      left done last ≡ filter test (first_of (p, last))
   first_left done last none =
       let from_none : 0 + done ≡ done = omega arith in
       let all : last - 0 ≡ last = omega arith in
@@ -137,7 +147,8 @@ module _ (test : Entry → Bool) (p : Proc) where
       ∙ ap (λ n. filter test (map (λ k. (p, k)) (range_with_len 1 n))) all
 
   -- one of them is added, unless it was received
-  pub left_added : (before last : ℕ) (got : Bool) (xs new : List Entry) → before < last → test (p, before + 1) ≡ not got → new ≡ (if got then xs else xs ++ (p, before + 1) ∷ []) → new ++ left (before + 1) last ≡ xs ++ left before last
+  pub left_added : (before last : ℕ) (got : Bool) (xs new : List Entry) → before < last → test (p, before + 1) ≡ not got →
+      new ≡ (if got then xs else xs ++ (p, before + 1) ∷ []) → new ++ left (before + 1) last ≡ xs ++ left before last
   left_added before last got xs new less is made =
       ap (λ (zs : List Entry). zs ++ left (before + 1) last) made
       ∙ added got
@@ -152,7 +163,10 @@ module _ (test : Entry → Bool) (p : Proc) where
   left_end xs before last few end = take_whole 64 xs (left before last) (left_none before last end) few
 
 -- the missing messages of one more process
-pub missing_more : (test : GroupRecord → Entry → Bool) (x y : GroupRecord) → x ≡ y → (xs new : List Entry) (cut : CountList) (i : ℕ) (e : Entry) → i < length cut → new ≡ take 64 (xs ++ filter (test x) (first_of (get_or cut i e))) → take 64 (new ++ filter (test y) (covered_entries (drop (i + 1) cut))) ≡ take 64 (xs ++ filter (test y) (covered_entries (drop i cut)))
+pub missing_more : (test : GroupRecord → Entry → Bool) (x y : GroupRecord) → x ≡ y →
+    (xs new : List Entry) (cut : CountList) (i : ℕ) (e : Entry) → i < length cut →
+    new ≡ take 64 (xs ++ filter (test x) (first_of (get_or cut i e))) →
+    take 64 (new ++ filter (test y) (covered_entries (drop (i + 1) cut))) ≡ take 64 (xs ++ filter (test y) (covered_entries (drop i cut)))
 missing_more test x y same xs new cut i e within made =
     let here : List Entry = first_of (get_or cut i e) in
     let rest : List Entry = covered_entries (drop (i + 1) cut) in
@@ -163,6 +177,8 @@ missing_more test x y same xs new cut i e within made =
     ∙ sym (at_drop_more (λ (es : List Entry). take 64 (xs ++ filter (test y) (covered_entries es))) cut i e within)
 
 -- those of all processes
-pub missing_end : (test : Entry → Bool) (xs : List Entry) (cut : CountList) (i : ℕ) → length cut ≤ i → length xs ≤ 64 → xs ≡ take 64 (xs ++ filter test (covered_entries (drop i cut)))
+pub missing_end : (test : Entry → Bool) (xs : List Entry) (cut : CountList) (i : ℕ) → length cut ≤ i → length xs ≤ 64 →
+    xs ≡ take 64 (xs ++ filter test (covered_entries (drop i cut)))
 missing_end test xs cut i end few =
-    take_whole 64 xs (filter test (covered_entries (drop i cut))) (ap (λ (es : List Entry). filter test (covered_entries es)) (drop_all i cut end)) few
+    take_whole 64 xs (filter test (covered_entries (drop i cut)))
+    (ap (λ (es : List Entry). filter test (covered_entries es)) (drop_all i cut end)) few

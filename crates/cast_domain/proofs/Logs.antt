@@ -4,10 +4,12 @@
 -- messages received, what each process has delivered, and what is stable. `log_alike` says that it
 -- tells of any history with the same facts; so each lemma shows only what its change adds to
 -- these.
-use Rattle.std.proofs.Common.{◌≡◌, ℕ, ◌+◌, ◌<◌, ◌≤◌, Bool, true, false, cond, List, [], ◌∷◌, ◌++◌, map, Contains, Option, Some, None, refl, sym, ap, subst, ◌∙◌, inl, inr, arith}
+use Rattle.std.proofs.Common.{◌≡◌, ℕ, ◌+◌, ◌<◌, ◌≤◌, Bool, true, false, cond, List, [], ◌∷◌, ◌++◌, map}
+use Rattle.std.proofs.Common.{Contains, Option, Some, None, refl, sym, ap, subst, ◌∙◌, inl, inr, arith}
 use Rattle.std.specs.Prelude.{◌&&◌, ◌==◌, if◌then◌else◌, take, filter}
 use Rattle.std.specs.List.{flat_map, fold}
-use Rattle.std.proofs.lemmas.Bool.{cases_Bool, cases_lt, false≢true, false_from_ne_true, and_parts, and_from, or_left, or_right, eqb-true, eq-eqb}
+use Rattle.std.proofs.lemmas.Bool.{cases_Bool, cases_lt, false≢true, false_from_ne_true}
+use Rattle.std.proofs.lemmas.Bool.{and_parts, and_from, or_left, or_right, eqb-true, eq-eqb}
 use Rattle.std.proofs.lemmas.List.{append-nil}
 use Rattle.std.proofs.lemmas.List.Elements.{filter-append}
 use Rattle.std.proofs.lemmas.List.Folds.{list_any-append}
@@ -34,7 +36,8 @@ use Rattle.cast_ready.specs.Ready.{has_delivered}
 use Rattle.cast_types.proofs.Contains.{contains_here, contains_later}
 use Rattle.cast_order.specs.Order.{Facts, facts_of, known_order, Listing, closed_order}
 use Rattle.cast_order.specs.Hand.{Hand, note_placed, hold_from, new_hand, FitsHand}
-use Rattle.cast_order.specs.Log.{Log, length_of, new_log, log_of, but_log, change_log, closed_by, with_facts, settle_log, learnt, place_of, hand_here, with_hand}
+use Rattle.cast_order.specs.Log.{Log, length_of, new_log, log_of, but_log, change_log, closed_by}
+use Rattle.cast_order.specs.Log.{with_facts, settle_log, learnt, place_of, hand_here, with_hand}
 use Rattle.cast_order.specs.Fits.{Fits as OrderFits}
 use Rattle.cast_order.specs.Fits.{FitsClosed}
 use Rattle.cast_order.proofs.Meanings.{new_fits as order_new_fits, learnt_group, learn_fits, learn_begins, hand_fits, more_fits, at_start}
@@ -42,13 +45,15 @@ use Rattle.cast_order.proofs.Closed.{close_fits, closed_learns, closed_more}
 use Rattle.cast_order.proofs.Hands.{place_fits, hand_of_change, learnt_each}
 use Rattle.cast_order.proofs.Logs.{log_of_change, log_of_forget}
 use Rattle.cast_view.specs.declared.member.Pending.{Pending}
-use Rattle.cast_view.specs.MemberSide.{MemberSide, no_group, is_pending, is_process, holder_of, holder_at, members_of, with_pending, with_view}
+use Rattle.cast_view.specs.MemberSide.{MemberSide, no_group, is_pending, is_process, holder_of}
+use Rattle.cast_view.specs.MemberSide.{holder_at, members_of, with_pending, with_view}
 use Rattle.cast_view.specs.Sites.{other_sites}
 use Rattle.cast_view.specs.Home.{is_empty}
 use Rattle.cast_rules.specs.Acts.{Act}
 use Rattle.cast_rules.specs.Acts.Act.{Sent, Delivered, Entered, Left}
 use Rattle.cast_rules.specs.State.{State, local, is_received, others_of, noting_ack, set_group, receiving}
-use Rattle.cast_rules.specs.Order.{told_by, is_of_view, facts_in, order_told, last_place, token_sent, token_told, token_after, token_of, listed_by, lists_of, abcasts_delivered}
+use Rattle.cast_rules.specs.Order.{told_by, is_of_view, facts_in, order_told, last_place, token_sent}
+use Rattle.cast_rules.specs.Order.{token_told, token_after, token_of, listed_by, lists_of, abcasts_delivered}
 use Rattle.cast_rules.specs.Entering.{pending_install}
 use Rattle.cast_domain.specs.PartCalls.{learn_in}
 use Rattle.cast_domain.specs.ViewCalls.{holding_from}
@@ -74,32 +79,42 @@ delivered_as n g ids = map entry_of (filter (is_in n g) ids)
 
 abbrev token_as : SiteNo → Option Membership → ℕ → GroupNo → ℕ → List Act → Option ℕ
 token_as here view n g k acts =
-    fold (token_after (is_in n g) (record { site = here; serial = k })) (if is_process (record { site = here; serial = k }) (holder_of (viewing view)) then Some 1 else None) acts
+    fold (token_after (is_in n g) (record { site = here; serial = k }))
+    (if is_process (record { site = here; serial = k }) (holder_of (viewing view)) then Some 1 else None) acts
 
 abbrev lists_as : ℕ → GroupNo → List Act → Listing
 lists_as n g acts = flat_map (listed_by (is_in n g)) acts
 
 -- a hand tells of a process if it tells of that order, and of what the process is said to have done
-pub hand_made : (t : State) (g : GroupNo) (k : ℕ) (h : Hand) (order : List Entry) (token : Option ℕ) (delivered : List Entry) (lists : Listing) → order_told t g ≡ order → token_of t g k ≡ token → abcasts_delivered t g k ≡ delivered → lists_of t g k ≡ lists → (stable : ℕ) → stable ≤ settled_of t g (local t k) → FitsHand order token delivered lists stable h → ((x : ℕ × ℕ) → Contains lists x → x.0 ≤ MAX_NUMBER) → TellsHand t g k h
+pub hand_made : (t : State) (g : GroupNo) (k : ℕ) (h : Hand) (order : List Entry) (token : Option ℕ) (delivered : List Entry)
+    (lists : Listing) → order_told t g ≡ order → token_of t g k ≡ token → abcasts_delivered t g k ≡ delivered → lists_of t g k ≡ lists →
+    (stable : ℕ) → stable ≤ settled_of t g (local t k) → FitsHand order token delivered lists stable h →
+    ((x : ℕ × ℕ) → Contains lists x → x.0 ≤ MAX_NUMBER) → TellsHand t g k h
 hand_made t g k h order token delivered lists at_order at_token at_delivered at_lists stable reached fits counted = record {
   stable = stable;
   reached = reached;
-  fits = subst (λ (a : List Entry × Option ℕ × List Entry × Listing). FitsHand a.0 a.1 a.2 a.3 stable h) (λ i. (sym at_order i, sym at_token i, sym at_delivered i, sym at_lists i)) fits;
+  fits = subst (λ (a : List Entry × Option ℕ × List Entry × Listing). FitsHand a.0 a.1 a.2 a.3 stable h)
+      (λ i. (sym at_order i, sym at_token i, sym at_delivered i, sym at_lists i)) fits;
   counted = λ x in_it. counted x (subst (λ ls. Contains ls x) at_lists in_it);
 }
 
 -- or of one that did the same, of whose messages no fewer are stable
-pub hand_alike : (s t : State) (g : GroupNo) (k : ℕ) (h : Hand) → order_told t g ≡ order_told s g → token_of t g k ≡ token_of s g k → abcasts_delivered t g k ≡ abcasts_delivered s g k → lists_of t g k ≡ lists_of s g k → settled_of s g (local s k) ≤ settled_of t g (local t k) → TellsHand s g k h → TellsHand t g k h
+pub hand_alike : (s t : State) (g : GroupNo) (k : ℕ) (h : Hand) → order_told t g ≡ order_told s g → token_of t g k ≡ token_of s g k →
+    abcasts_delivered t g k ≡ abcasts_delivered s g k → lists_of t g k ≡ lists_of s g k →
+    settled_of s g (local s k) ≤ settled_of t g (local t k) → TellsHand s g k h → TellsHand t g k h
 hand_alike s t g k h order token delivered lists settle_log f =
     hand_made t g k h (order_told s g) (token_of s g k) (abcasts_delivered s g k) (lists_of s g k) order token delivered lists f.stable
     (let reached = f.reached in omega (arith, reached, settle_log)) f.fits f.counted
 
 -- the hand of a serial's process, where the site is the same
-at_site : (l : Log) (k : ℕ) (here there : SiteNo) → here ≡ there → hand_here l (record { site = here; serial = k }) ≡ hand_here l (record { site = there; serial = k })
+at_site : (l : Log) (k : ℕ) (here there : SiteNo) → here ≡ there →
+    hand_here l (record { site = here; serial = k }) ≡ hand_here l (record { site = there; serial = k })
 at_site l k here there same = ap (λ h. hand_here l (record { site = h; serial = k })) same
 
 -- a log tells of these facts, if they are those of the history
-pub tells_made : (t : State) (g : GroupNo) (l : Log) (facts : Facts) → facts_in t g ≡ facts → OrderFits facts (goes_on t g) (has_passed t g) l → ((k : ℕ) → TellsHand t g k (hand_here l (local t k))) → ((e : Entry) → is_among entry_eq e (take l.base (known_order facts)) ≡ true → IsOver t g e) → TellsOrder t g l
+pub tells_made : (t : State) (g : GroupNo) (l : Log) (facts : Facts) → facts_in t g ≡ facts →
+    OrderFits facts (goes_on t g) (has_passed t g) l → ((k : ℕ) → TellsHand t g k (hand_here l (local t k))) →
+    ((e : Entry) → is_among entry_eq e (take l.base (known_order facts)) ≡ true → IsOver t g e) → TellsOrder t g l
 tells_made t g l facts at_facts fits hands gone = record {
   fits = subst (λ fs. OrderFits fs (goes_on t g) (has_passed t g) l) (sym at_facts) fits;
   hands = hands;
@@ -107,15 +122,17 @@ tells_made t g l facts at_facts fits hands gone = record {
 }
 
 -- what is forgotten stays over
-gone_on : (s t : State) (g : GroupNo) (l : Log) → StaysOver s t g l → ((e : Entry) → is_among entry_eq e (take l.base (order_told s g)) ≡ true → IsOver s g e) → (e : Entry) → is_among entry_eq e (take l.base (order_told s g)) ≡ true → IsOver t g e
+gone_on : (s t : State) (g : GroupNo) (l : Log) → StaysOver s t g l →
+    ((e : Entry) → is_among entry_eq e (take l.base (order_told s g)) ≡ true → IsOver s g e) → (e : Entry) →
+    is_among entry_eq e (take l.base (order_told s g)) ≡ true → IsOver t g e
 gone_on s t g l over gone e among = over (some_forgotten l.base (order_told s g) e among) e (gone e among)
 
 -- a member of a group here was one before
 abbrev pub WereMembers : State → State → GroupNo → Type 0
 WereMembers s t g = (p : Proc) → goes_on t g p ≡ true → goes_on s g p ≡ true
 
--- what a history has of a group's order is the same in another: its view, what was received, and what processes did in it; none may be a member
--- that was not, they may have delivered more, more may be stable, and what is over stays so
+-- what a history has of a group's order is the same in another: its view, what was received, and what processes did in it; none may be a
+-- member that was not, they may have delivered more, more may be stable, and what is over stays so
 pub record IsAlike (s t : State) (g : GroupNo) (l : Log) : Type 0 where
   pub here : t.here ≡ s.here
   pub view : (t.group g).view ≡ (s.group g).view
@@ -128,36 +145,45 @@ pub record IsAlike (s t : State) (g : GroupNo) (l : Log) : Type 0 where
   pub more : (p : Proc) (u : Uid) → has_delivered (process_named s p) u ≡ true → has_delivered (process_named t p) u ≡ true
 
 -- so what each process did stands
-hands_alike : (s t : State) (g : GroupNo) (l : Log) → IsAlike s t g l → ((k : ℕ) → TellsHand s g k (hand_here l (local s k))) → (k : ℕ) → TellsHand t g k (hand_here l (local t k))
+hands_alike : (s t : State) (g : GroupNo) (l : Log) → IsAlike s t g l → ((k : ℕ) → TellsHand s g k (hand_here l (local s k))) → (k : ℕ) →
+    TellsHand t g k (hand_here l (local t k))
 hands_alike s t g l a hands k =
     subst (TellsHand t g k) (sym (at_site l k t.here s.here a.here))
-    (hand_alike s t g k (hand_here l (local s k)) (λ i. known_order (facts_as (a.number i) g (a.got i))) (a.tokens k) (a.delivered k) (a.lists k) (a.settled k) (hands k))
+    (hand_alike s t g k (hand_here l (local s k)) (λ i. known_order (facts_as (a.number i) g (a.got i))) (a.tokens k) (a.delivered k)
+    (a.lists k) (a.settled k) (hands k))
 
-tokens_alike : (s t : State) (g : GroupNo) (l : Log) → IsAlike s t g l → LogFits s g l → (k : ℕ) → (hand_here l (local t k)).first ≡ token_of t g k
+tokens_alike : (s t : State) (g : GroupNo) (l : Log) → IsAlike s t g l → LogFits s g l → (k : ℕ) →
+    (hand_here l (local t k)).first ≡ token_of t g k
 tokens_alike s t g l a f k = ap (λ (h : Hand). h.first) (at_site l k t.here s.here a.here) ∙ f.tokens k ∙ sym (a.tokens k)
 
-passed_alike : (s t : State) (g : GroupNo) (l : Log) → IsAlike s t g l → (p : Proc) (e : Entry) → has_passed s g p e ≡ true → has_passed t g p e ≡ true
-passed_alike s t g l a p e is = ap (λ n. has_delivered (process_named t p) (uid_in g n e)) a.number ∙ a.more p (uid_in g (s.group g).number e) is
+passed_alike : (s t : State) (g : GroupNo) (l : Log) → IsAlike s t g l → (p : Proc) (e : Entry) → has_passed s g p e ≡ true →
+    has_passed t g p e ≡ true
+passed_alike s t g l a p e is =
+    ap (λ n. has_delivered (process_named t p) (uid_in g n e)) a.number ∙ a.more p (uid_in g (s.group g).number e) is
 
-pub tells_alike : (s t : State) (g : GroupNo) (l : Log) → IsAlike s t g l → WereMembers s t g → StaysOver s t g l → TellsOrder s g l → TellsOrder t g l
+pub tells_alike : (s t : State) (g : GroupNo) (l : Log) → IsAlike s t g l → WereMembers s t g → StaysOver s t g l → TellsOrder s g l →
+    TellsOrder t g l
 tells_alike s t g l a were over f =
     tells_made t g l (facts_in s g) (λ i. facts_as (a.number i) g (a.got i))
     (more_fits (facts_in s g) (goes_on s g) (has_passed s g) l f.fits (goes_on t g) (has_passed t g) were (passed_alike s t g l a))
     (hands_alike s t g l a f.hands) (gone_on s t g l over f.gone)
 
 -- the same of a log, and of one that is closed, where an Install waits as before
-pub log_alike : (s t : State) (g : GroupNo) (l : Log) → IsAlike s t g l → is_pending (t.group g) ≡ is_pending (s.group g) → t.closed g ≡ s.closed g → WereMembers s t g → StaysOver s t g l → LogFits s g l → LogFits t g l
+pub log_alike : (s t : State) (g : GroupNo) (l : Log) → IsAlike s t g l → is_pending (t.group g) ≡ is_pending (s.group g) →
+    t.closed g ≡ s.closed g → WereMembers s t g → StaysOver s t g l → LogFits s g l → LogFits t g l
 log_alike s t g l a waits closed were over f = record {
   tokens = tokens_alike s t g l a f;
   own = subst (λ here. AreOwn here l.hands) (sym a.here) f.own;
   tells = λ none. tells_alike s t g l a were over (f.tells (sym waits ∙ none));
   closed = λ waiting.
       subst (λ order. FitsClosed order (goes_on t g) (has_passed t g) l) (sym closed)
-      (closed_more (s.closed g) (goes_on s g) (has_passed s g) l (f.closed (sym waits ∙ waiting)) (goes_on t g) (has_passed t g) were (passed_alike s t g l a));
+      (closed_more (s.closed g) (goes_on s g) (has_passed s g) l (f.closed (sym waits ∙ waiting)) (goes_on t g) (has_passed t g)
+      were (passed_alike s t g l a));
 }
 
 -- or where any may be a member, if each is to go through all of the order
-pub log_starts : (s t : State) (g : GroupNo) (l : Log) → IsAlike s t g l → is_pending (t.group g) ≡ false → is_pending (s.group g) ≡ false → ((p : Proc) → place_of l p ≡ 0) → LogFits s g l → LogFits t g l
+pub log_starts : (s t : State) (g : GroupNo) (l : Log) → IsAlike s t g l → is_pending (t.group g) ≡ false → is_pending (s.group g) ≡ false →
+    ((p : Proc) → place_of l p ≡ 0) → LogFits s g l → LogFits t g l
 log_starts s t g l a unclosed opened none before = let f : TellsOrder s g l = before.tells opened in record {
   tokens = tokens_alike s t g l a before;
   own = subst (λ here. AreOwn here l.hands) (sym a.here) before.own;
@@ -167,7 +193,10 @@ log_starts s t g l a unclosed opened none before = let f : TellsOrder s g l = be
       (at_start (facts_in s g) (goes_on s g) (has_passed s g) l f.fits none (goes_on t g))
       (goes_on t g) (has_passed t g) (λ p is. is) (passed_alike s t g l a))
       (hands_alike s t g l a f.hands)
-      (λ e among. let some = some_forgotten l.base (order_told s g) e among in let first = none (record { site = s.here; serial = 0 }) in absurd (omega (arith, some, first)));
+      (λ e among.
+      let some = some_forgotten l.base (order_told s g) e among in
+      let first = none (record { site = s.here; serial = 0 }) in
+      absurd (omega (arith, some, first)));
 }
 
 -- what is settled is the same where the group's view and the acknowledgements are
@@ -177,7 +206,10 @@ settled_as here view n g acks k =
     else stable_upto acks (other_sites here (members_of (viewing view))) g n (record { site = here; serial = k })
 
 -- a history where the view, what was received and noted, and what is acknowledged, are the same
-pub same_alike : (s t : State) (g : GroupNo) (l : Log) → t.here ≡ s.here → (t.group g).view ≡ (s.group g).view → (t.group g).number ≡ (s.group g).number → t.got ≡ s.got → ((k : ℕ) → t.abcasts k ≡ s.abcasts k) → ((k : ℕ) → t.acts k ≡ s.acts k) → t.acks ≡ s.acks → ((p : Proc) (u : Uid) → has_delivered (process_named s p) u ≡ true → has_delivered (process_named t p) u ≡ true) → IsAlike s t g l
+pub same_alike : (s t : State) (g : GroupNo) (l : Log) → t.here ≡ s.here → (t.group g).view ≡ (s.group g).view →
+    (t.group g).number ≡ (s.group g).number → t.got ≡ s.got → ((k : ℕ) → t.abcasts k ≡ s.abcasts k) → ((k : ℕ) → t.acts k ≡ s.acts k) →
+    t.acks ≡ s.acks → ((p : Proc) (u : Uid) → has_delivered (process_named s p) u ≡ true → has_delivered (process_named t p) u ≡ true) →
+    IsAlike s t g l
 same_alike s t g l here view number got abcasts acts acks more = record {
   here = here;
   view = view;
@@ -186,7 +218,8 @@ same_alike s t g l here view number got abcasts acts acks more = record {
   tokens = λ k i. token_as (here i) (view i) (number i) g k (acts k i);
   lists = λ k i. lists_as (number i) g (acts k i);
   delivered = λ k i. delivered_as (number i) g (abcasts k i);
-  settled = λ k. let same : settled_of t g (local t k) ≡ settled_of s g (local s k) = λ i. settled_as (here i) (view i) (number i) g (acks i) k in omega (arith, same);
+  settled = λ k. let same : settled_of t g (local t k) ≡ settled_of s g (local s k) =
+      λ i. settled_as (here i) (view i) (number i) g (acks i) k in omega (arith, same);
   more = more;
 }
 
@@ -203,7 +236,8 @@ facts_skip : (s : State) (g : GroupNo) (m : Message) → is_of_view s g m.id ≡
 facts_skip s g m other = ap (flat_map (λ x. told_by x.body)) (filter_skips (λ x. is_of_view s g x.id) s.got m other)
 
 -- what one of the view tells comes last
-pub facts_push : (s : State) (g : GroupNo) (m : Message) → is_of_view s g m.id ≡ true → facts_in (receiving s m) g ≡ facts_in s g ++ told_by m.body
+pub facts_push : (s : State) (g : GroupNo) (m : Message) → is_of_view s g m.id ≡ true →
+    facts_in (receiving s m) g ≡ facts_in s g ++ told_by m.body
 facts_push s g m current =
     ap (flat_map (λ x. told_by x.body)) (filter_takes (λ x. is_of_view s g x.id) s.got m current)
     ∙ flat_map-append (λ x. told_by x.body) (filter (λ x. is_of_view s g x.id) s.got) (m ∷ [])
@@ -211,66 +245,96 @@ facts_push s g m current =
 
 -- a message is none that is forgotten of an order
 abbrev pub IsNew : State → GroupNo → Log → Message → Type 0
-IsNew s g l m = (e : Entry) → is_among entry_eq e (take l.base (order_told s g)) ≡ true → uid_eq m.id (uid_in g (s.group g).number e) ≡ false
+IsNew s g l m =
+    (e : Entry) → is_among entry_eq e (take l.base (order_told s g)) ≡ true → uid_eq m.id (uid_in g (s.group g).number e) ≡ false
 
 -- what is forgotten is over still once it is received
-gone_received : (s : State) (g : GroupNo) (m : Message) (l : Log) → IsNew s g l m → TellsOrder s g l → (e : Entry) → is_among entry_eq e (take l.base (order_told s g)) ≡ true → IsOver (receiving s m) g e
+gone_received : (s : State) (g : GroupNo) (m : Message) (l : Log) → IsNew s g l m → TellsOrder s g l → (e : Entry) →
+    is_among entry_eq e (take l.base (order_told s g)) ≡ true → IsOver (receiving s m) g e
 gone_received s g m l new f e among = over_received s m g e (new e among) (f.gone e among)
 
 -- one that was not received is none
-pub new_unreceived : (s : State) (g : GroupNo) (m : Message) (l : Log) → is_received s m.id ≡ false → LogFits s g l → is_pending (s.group g) ≡ false → IsNew s g l m
+pub new_unreceived : (s : State) (g : GroupNo) (m : Message) (l : Log) → is_received s m.id ≡ false → LogFits s g l →
+    is_pending (s.group g) ≡ false → IsNew s g l m
 new_unreceived s g m l fresh f none e among = none_over s g m.id fresh e ((f.tells none).gone e among)
 
 -- nor is one of another group, or another view
 new_apart : (s : State) (g : GroupNo) (m : Message) (l : Log) → is_of_view s g m.id ≡ false → IsNew s g l m
 new_apart s g m l other e among = false_from_ne_true (uid_eq m.id (uid_in g (s.group g).number e)) (λ same.
     let u : Uid = uid_in g (s.group g).number e in
-    let current : is_of_view s g u ≡ true = and_from (group_eq g g) ((s.group g).number == (s.group g).number) (group_itself g) (eq-eqb (s.group g).number (s.group g).number refl) in
+    let current : is_of_view s g u ≡ true =
+    and_from (group_eq g g) ((s.group g).number == (s.group g).number) (group_itself g)
+    (eq-eqb (s.group g).number (s.group g).number refl) in
     false≢true (sym other ∙ ap (is_of_view s g) (same_uid m.id u same) ∙ current))
 
 no_less : (n : ℕ) → n ≤ n
 no_less n = omega arith
 
 -- a message of another group, or another view
-tells_apart : (s : State) (g : GroupNo) (m : Message) (l : Log) → is_of_view s g m.id ≡ false → TellsOrder s g l → TellsOrder (receiving s m) g l
+tells_apart : (s : State) (g : GroupNo) (m : Message) (l : Log) → is_of_view s g m.id ≡ false → TellsOrder s g l →
+    TellsOrder (receiving s m) g l
 tells_apart s g m l other f =
     tells_made (receiving s m) g l (facts_in s g) (facts_skip s g m other) f.fits
-    (λ k. hand_alike s (receiving s m) g k (hand_here l (local s k)) (ap known_order (facts_skip s g m other)) refl refl refl (no_less (settled_of s g (local s k))) (f.hands k))
+    (λ k. hand_alike s (receiving s m) g k (hand_here l (local s k)) (ap known_order (facts_skip s g m other))
+    refl refl refl (no_less (settled_of s g (local s k))) (f.hands k))
     (gone_received s g m l (new_apart s g m l other) f)
 
-pub log_apart : (s : State) (g : GroupNo) (m : Message) (l : Log) → is_of_view s g m.id ≡ false → LogFits s g l → LogFits (receiving s m) g l
-log_apart s g m l other f = record { tokens = f.tokens; own = f.own; tells = λ none. tells_apart s g m l other (f.tells none); closed = f.closed }
+pub log_apart : (s : State) (g : GroupNo) (m : Message) (l : Log) → is_of_view s g m.id ≡ false → LogFits s g l →
+    LogFits (receiving s m) g l
+log_apart s g m l other f = record {
+  tokens = f.tokens;
+  own = f.own;
+  tells = λ none. tells_apart s g m l other (f.tells none);
+  closed = f.closed;
+}
 
 pub other_group : (s : State) (h : GroupNo) (m : Message) → group_eq m.id.group h ≡ false → is_of_view s h m.id ≡ false
 other_group s h m apart = ap (λ b. b && (m.id.view == (s.group h).number)) apart
 
 -- a message that tells nothing of an order
-tells_silent : (s : State) (g : GroupNo) (m : Message) (l : Log) → told_by m.body ≡ [] → (is_of_view s g m.id ≡ true → IsNew s g l m) → TellsOrder s g l → TellsOrder (receiving s m) g l
+tells_silent : (s : State) (g : GroupNo) (m : Message) (l : Log) → told_by m.body ≡ [] → (is_of_view s g m.id ≡ true → IsNew s g l m) →
+    TellsOrder s g l → TellsOrder (receiving s m) g l
 tells_silent s g m l silent new f = elim (cases_Bool (is_of_view s g m.id)) [
   | inr other ↦ tells_apart s g m l other f
   | inl current ↦
-      let same : facts_in (receiving s m) g ≡ facts_in s g = facts_push s g m current ∙ ap (λ fs. facts_in s g ++ fs) silent ∙ append-nil (facts_in s g) in
+      let same : facts_in (receiving s m) g ≡ facts_in s g =
+      facts_push s g m current ∙ ap (λ fs. facts_in s g ++ fs) silent ∙ append-nil (facts_in s g) in
       tells_made (receiving s m) g l (facts_in s g) same f.fits
-      (λ k. hand_alike s (receiving s m) g k (hand_here l (local s k)) (ap known_order same) refl refl refl (no_less (settled_of s g (local s k))) (f.hands k))
+      (λ k. hand_alike s (receiving s m) g k (hand_here l (local s k)) (ap known_order same)
+      refl refl refl (no_less (settled_of s g (local s k))) (f.hands k))
       (gone_received s g m l (new current) f)
 ]
 
-log_silent : (s : State) (g : GroupNo) (m : Message) (l : Log) → told_by m.body ≡ [] → (is_of_view s g m.id ≡ true → is_pending (s.group g) ≡ false → IsNew s g l m) → LogFits s g l → LogFits (receiving s m) g l
-log_silent s g m l silent new f = record { tokens = f.tokens; own = f.own; tells = λ none. tells_silent s g m l silent (λ current. new current none) (f.tells none); closed = f.closed }
+log_silent : (s : State) (g : GroupNo) (m : Message) (l : Log) → told_by m.body ≡ [] →
+    (is_of_view s g m.id ≡ true → is_pending (s.group g) ≡ false → IsNew s g l m) → LogFits s g l → LogFits (receiving s m) g l
+log_silent s g m l silent new f = record {
+  tokens = f.tokens;
+  own = f.own;
+  tells = λ none. tells_silent s g m l silent (λ current. new current none) (f.tells none);
+  closed = f.closed;
+}
 
 -- nothing of an order is forgotten as one is learnt
 pub learnt_base : (q : Placement) (l : Log) → (learnt q l).base ≡ l.base
-learnt_base q l = elim l.closed as (λ b. (if b then l else settle_log (record l { later = with_facts (length_of l) l.later (facts_of q) })).base ≡ l.base) [ true ↦ refl | false ↦ refl ]
+learnt_base q l =
+    elim l.closed as (λ b. (if b then l else settle_log (record l { later = with_facts (length_of l) l.later (facts_of q) })).base
+    ≡ l.base) [ true ↦ refl | false ↦ refl ]
 
 -- so what is forgotten is what was
-pub gone_learnt : (s : State) (m : Message) (q : Placement) (l : Log) → OrderFits (facts_in s m.id.group) (goes_on s m.id.group) (has_passed s m.id.group) l → ((e : Entry) → is_among entry_eq e (take l.base (order_told s m.id.group)) ≡ true → IsOver (receiving s m) m.id.group e) → (e : Entry) → is_among entry_eq e (take (learnt q l).base (known_order (facts_in s m.id.group ++ facts_of q))) ≡ true → IsOver (receiving s m) m.id.group e
+pub gone_learnt : (s : State) (m : Message) (q : Placement) (l : Log) →
+    OrderFits (facts_in s m.id.group) (goes_on s m.id.group) (has_passed s m.id.group) l →
+    ((e : Entry) → is_among entry_eq e (take l.base (order_told s m.id.group)) ≡ true → IsOver (receiving s m) m.id.group e) → (e : Entry) →
+    is_among entry_eq e (take (learnt q l).base (known_order (facts_in s m.id.group ++ facts_of q))) ≡ true →
+    IsOver (receiving s m) m.id.group e
 gone_learnt s m q l fits gone e among =
     let g : GroupNo = m.id.group in
     let begins = learn_begins (facts_in s g) (goes_on s g) (has_passed s g) l fits q in
-    gone e (sym (ap (λ n. is_among entry_eq e (take n (known_order (facts_in s g ++ facts_of q)))) (learnt_base q l) ∙ ap (is_among entry_eq e) begins) ∙ among)
+    gone e (sym (ap (λ n. is_among entry_eq e (take n (known_order (facts_in s g ++ facts_of q)))) (learnt_base q l)
+    ∙ ap (is_among entry_eq e) begins) ∙ among)
 
 -- a set-order message
-tells_learns : (s : State) (m : Message) (q : Placement) (l : Log) → m.body ≡ body.Order q → is_of_view s m.id.group m.id ≡ true → IsNew s m.id.group l m → TellsOrder s m.id.group l → TellsOrder (receiving s m) m.id.group (learnt q l)
+tells_learns : (s : State) (m : Message) (q : Placement) (l : Log) → m.body ≡ body.Order q → is_of_view s m.id.group m.id ≡ true →
+    IsNew s m.id.group l m → TellsOrder s m.id.group l → TellsOrder (receiving s m) m.id.group (learnt q l)
 tells_learns s m q l is current new f =
     let g : GroupNo = m.id.group in
     let at : facts_in (receiving s m) g ≡ facts_in s g ++ facts_of q = facts_push s g m current ∙ ap (λ b. facts_in s g ++ told_by b) is in
@@ -283,13 +347,17 @@ tells_learns s m q l is current new f =
     subst (TellsHand (receiving s m) g k) (sym (each (local s k)))
     (hand_made (receiving s m) g k (note_placed ids h) (order_told s g ++ ids) (token_of s g k) (abcasts_delivered s g k) (lists_of s g k)
     (ap known_order at ∙ grown) refl refl refl before.stable before.reached
-    (place_fits (order_told s g) (token_of s g k) (abcasts_delivered s g k) (lists_of s g k) before.stable h before.fits ids) before.counted))
+    (place_fits (order_told s g) (token_of s g k) (abcasts_delivered s g k) (lists_of s g k) before.stable h before.fits ids)
+    before.counted))
     (gone_learnt s m q l f.fits (gone_received s g m l new f))
 
 -- which processes hold the token is the same
-tokens_learn : (s : State) (m : Message) (q : Placement) (l : Log) → LogFits s m.id.group l → (k : ℕ) → (hand_here (learnt q l) (local s k)).first ≡ token_of s m.id.group k
+tokens_learn : (s : State) (m : Message) (q : Placement) (l : Log) → LogFits s m.id.group l → (k : ℕ) →
+    (hand_here (learnt q l) (local s k)).first ≡ token_of s m.id.group k
 tokens_learn s m q l f k = elim (cases_Bool (is_pending (s.group g))) [
-  | inl waits ↦ ap (λ x. (hand_here x (local s k)).first) (closed_learns (s.closed g) (goes_on s g) (has_passed s g) l (f.closed waits) q) ∙ f.tokens k
+  | inl waits ↦
+      ap (λ x. (hand_here x (local s k)).first) (closed_learns (s.closed g) (goes_on s g) (has_passed s g) l (f.closed waits) q)
+      ∙ f.tokens k
   | inr none ↦
       let (ids, grown, each) = learnt_each (facts_in s g) (goes_on s g) (has_passed s g) l (f.tells none).fits q in
       ap (λ (h : Hand). h.first) (each (local s k)) ∙ f.tokens k
@@ -299,12 +367,17 @@ tokens_learn s m q l f k = elim (cases_Bool (is_pending (s.group g))) [
     g = m.id.group
 
 -- one that is closed stays
-closed_stays : (s : State) (m : Message) (q : Placement) (l : Log) → FitsClosed (s.closed m.id.group) (goes_on s m.id.group) (has_passed s m.id.group) l → FitsClosed ((receiving s m).closed m.id.group) (goes_on (receiving s m) m.id.group) (has_passed (receiving s m) m.id.group) (learnt q l)
+closed_stays : (s : State) (m : Message) (q : Placement) (l : Log) →
+    FitsClosed (s.closed m.id.group) (goes_on s m.id.group) (has_passed s m.id.group) l →
+    FitsClosed ((receiving s m).closed m.id.group) (goes_on (receiving s m) m.id.group) (has_passed (receiving s m) m.id.group) (learnt q l)
 closed_stays s m q l f =
     let g : GroupNo = m.id.group in
-    subst (λ x. FitsClosed (s.closed g) (goes_on s g) (has_passed s g) x) (sym (closed_learns (s.closed g) (goes_on s g) (has_passed s g) l f q)) f
+    subst (λ x. FitsClosed (s.closed g) (goes_on s g) (has_passed s g) x)
+    (sym (closed_learns (s.closed g) (goes_on s g) (has_passed s g) l f q)) f
 
-log_learns : (s : State) (m : Message) (q : Placement) (l : Log) → m.body ≡ body.Order q → is_of_view s m.id.group m.id ≡ true → (is_pending (s.group m.id.group) ≡ false → IsNew s m.id.group l m) → LogFits s m.id.group l → LogFits (receiving s m) m.id.group (learnt q l)
+log_learns : (s : State) (m : Message) (q : Placement) (l : Log) → m.body ≡ body.Order q → is_of_view s m.id.group m.id ≡ true →
+    (is_pending (s.group m.id.group) ≡ false → IsNew s m.id.group l m) → LogFits s m.id.group l →
+    LogFits (receiving s m) m.id.group (learnt q l)
 log_learns s m q l is current new f = record {
   tokens = tokens_learn s m q l f;
   own = own_learnt s.here q l f.own;
@@ -314,7 +387,10 @@ log_learns s m q l is current new f = record {
 
 -- each log tells of its order still once a message of the current view of its group is received, which is none that is
 -- forgotten, but where an Install waits
-pub logs_receive : (s : State) (m : Message) (orders : List Log) → ((g : GroupNo) → LogFits s g (log_of orders g)) → m.id.view == (s.group m.id.group).number ≡ true → (is_pending (s.group m.id.group) ≡ false → IsNew s m.id.group (log_of orders m.id.group) m) → (h : GroupNo) → LogFits (receiving s m) h (log_of (learn_in orders m.id.group m.body) h)
+pub logs_receive : (s : State) (m : Message) (orders : List Log) → ((g : GroupNo) → LogFits s g (log_of orders g)) →
+    m.id.view == (s.group m.id.group).number ≡ true →
+    (is_pending (s.group m.id.group) ≡ false → IsNew s m.id.group (log_of orders m.id.group) m) → (h : GroupNo) →
+    LogFits (receiving s m) h (log_of (learn_in orders m.id.group m.body) h)
 logs_receive s m orders fits current new h = at m.body refl
   where
     now : is_of_view s m.id.group m.id ≡ true
@@ -344,7 +420,9 @@ logs_receive s m orders fits current new h = at m.body refl
 
 all_fail : {A : Type 0} (t : A → Bool) (xs : List A) → ((x : A) → Contains xs x → t x ≡ false) → filter t xs ≡ []
 all_fail t [] fails = refl
-all_fail t (x ∷ xs) fails = ap (λ b. cond b (x ∷ filter t xs) (filter t xs)) (fails x (contains_here x xs)) ∙ all_fail t xs (λ y in_it. fails y (contains_later y x xs in_it))
+all_fail t (x ∷ xs) fails =
+    ap (λ b. cond b (x ∷ filter t xs) (filter t xs)) (fails x (contains_here x xs))
+    ∙ all_fail t xs (λ y in_it. fails y (contains_later y x xs in_it))
 
 ids_fail : (t : Uid → Bool) (us : List Uid) → ((u : Uid) → is_among uid_eq u us ≡ true → t u ≡ false) → filter t us ≡ []
 ids_fail t [] fails = refl
@@ -365,7 +443,8 @@ token_stays is_of p token (Delivered m) apart = ap (λ b. if b then token_told p
 token_stays is_of p token (Entered g view cut) apart = refl
 token_stays is_of p token (Left g) apart = refl
 
-tokens_stay : (is_of : Uid → Bool) (p : Proc) (token : Option ℕ) (acts : List Act) → ((a : Act) → Contains acts a → IsApart is_of a) → fold (token_after is_of p) token acts ≡ token
+tokens_stay : (is_of : Uid → Bool) (p : Proc) (token : Option ℕ) (acts : List Act) → ((a : Act) → Contains acts a → IsApart is_of a) →
+    fold (token_after is_of p) token acts ≡ token
 tokens_stay is_of p token [] apart = refl
 tokens_stay is_of p token (a ∷ acts) apart =
     ap (λ x. fold (token_after is_of p) x acts) (token_stays is_of p token a (apart a (contains_here a acts)))
@@ -425,7 +504,10 @@ held_tells : (p : Proc) (token : Option ℕ) → FitsHand [] token [] [] 0 (held
 held_tells p token = record { first = refl; waiting = refl; lists = λ n le. refl }
 
 -- each process has the hand that the view gives it
-held_of : (here : SiteNo) (k : ℕ) (g : GroupNo) (o : Option Proc) → hand_here (held_log g (elim o [ Some p ↦ if site_eq p.site here then Some p else None | None ↦ None ])) (record { site = here; serial = k }) ≡ held_hand (record { site = here; serial = k }) (if is_process (record { site = here; serial = k }) o then Some 1 else None)
+held_of : (here : SiteNo) (k : ℕ) (g : GroupNo) (o : Option Proc) →
+    hand_here (held_log g (elim o [ Some p ↦ if site_eq p.site here then Some p else None | None ↦ None ]))
+    (record { site = here; serial = k })
+    ≡ held_hand (record { site = here; serial = k }) (if is_process (record { site = here; serial = k }) o then Some 1 else None)
 held_of here k g None = refl
 held_of here k g (Some q) = elim (cases_Bool (site_eq q.site here)) [
   | inl at ↦
@@ -446,15 +528,18 @@ held_of here k g (Some q) = elim (cases_Bool (site_eq q.site here)) [
 ]
 
 -- and none other has one
-held_own : (here : SiteNo) (g : GroupNo) (o : Option Proc) → AreOwn here (held_log g (elim o [ Some p ↦ if site_eq p.site here then Some p else None | None ↦ None ])).hands
+held_own : (here : SiteNo) (g : GroupNo) (o : Option Proc) →
+    AreOwn here (held_log g (elim o [ Some p ↦ if site_eq p.site here then Some p else None | None ↦ None ])).hands
 held_own here g None = (refl, refl)
-held_own here g (Some q) = elim (site_eq q.site here) as (λ b. site_eq q.site here ≡ b → AreOwn here (held_log g (if b then Some q else None)).hands) [
-  | true ↦ λ at. own_changed here q at (hold_from 1) (λ h. refl) [] (refl, refl)
-  | false ↦ λ _. (refl, refl)
-] refl
+held_own here g (Some q) =
+    elim (site_eq q.site here) as (λ b. site_eq q.site here ≡ b → AreOwn here (held_log g (if b then Some q else None)).hands) [
+      | true ↦ λ at. own_changed here q at (hold_from 1) (λ h. refl) [] (refl, refl)
+      | false ↦ λ _. (refl, refl)
+    ] refl
 
 -- of a later view nothing was told, delivered or listed, and the process that the view names holds the token
-log_new : (s : State) (g h : GroupNo) (w : MemberSide) → group_eq g h ≡ true → IsTraced s → (s.group h).number < w.number → is_pending w ≡ false → LogFits (set_group s g w) h (held_log g (holder_at s.here w))
+log_new : (s : State) (g h : GroupNo) (w : MemberSide) → group_eq g h ≡ true → IsTraced s → (s.group h).number < w.number →
+    is_pending w ≡ false → LogFits (set_group s g w) h (held_log g (holder_at s.here w))
 unfolding known_order
 log_new s g h w same traced less none_waits = record {
   tokens = λ k. ap (λ (x : Hand). x.first) (held_of s.here k g (holder_of w)) ∙ sym (token k);
@@ -463,9 +548,13 @@ log_new s g h w same traced less none_waits = record {
       tells_made t h l [] facts (held_fits g (holder_at s.here w) (goes_on t h) (has_passed t h))
       (λ k.
       subst (TellsHand t h k) (sym (held_of s.here k g (holder_of w)))
-      (hand_made t h k (held_hand (local s k) (token_at k)) [] (token_at k) [] [] (ap known_order facts) (token k) (delivered k) (lists k) 0 (omega arith)
+      (hand_made t h k (held_hand (local s k) (token_at k)) [] (token_at k) [] [] (ap known_order facts) (token k) (delivered k) (lists k)
+      0 (omega arith)
       (held_tells (local s k) (token_at k)) (λ x in_it. let inside = in_it.1 in absurd (omega arith))))
-      (λ e among. let some = some_forgotten l.base (known_order []) e among in let base = held_base g (holder_at s.here w) in absurd (omega (arith, some, base)));
+      (λ e among.
+      let some = some_forgotten l.base (known_order []) e among in
+      let base = held_base g (holder_at s.here w) in
+      absurd (omega (arith, some, base)));
   closed = λ waits. absurd (false≢true (sym none_waits ∙ ap (λ b. is_pending (if b then w else s.group h)) (sym same) ∙ waits));
 }
   where
@@ -485,7 +574,8 @@ log_new s g h w same traced less none_waits = record {
     later = omega (arith, number, less)
 
     facts : facts_in t h ≡ []
-    facts = ap (flat_map (λ m. told_by m.body)) (all_fail (λ m. is_in n h m.id) s.got (λ m at. old_view s h n m.id (traced.reached m at) later))
+    facts =
+        ap (flat_map (λ m. told_by m.body)) (all_fail (λ m. is_in n h m.id) s.got (λ m at. old_view s h n m.id (traced.reached m at) later))
 
     token_at : ℕ → Option ℕ
     token_at k = if is_process (local s k) (holder_of w) then Some 1 else None
@@ -505,7 +595,8 @@ log_new s g h w same traced less none_waits = record {
     lists k = lists_stay (is_in n h) (s.acts k) (apart k)
 
 -- the logs once a group has a new one, which the process has that the view names
-pub log_of_held : (orders : List Log) (g h : GroupNo) (o : Option Proc) → log_of (holding_from g o (but_log g orders)) h ≡ (if group_eq g h then held_log g o else log_of orders h)
+pub log_of_held : (orders : List Log) (g h : GroupNo) (o : Option Proc) →
+    log_of (holding_from g o (but_log g orders)) h ≡ (if group_eq g h then held_log g o else log_of orders h)
 log_of_held orders g h None = log_of_forget orders g h
 log_of_held orders g h (Some p) =
     log_of_change (but_log g orders) g h (with_hand p (hold_from 1)) (λ l. refl)
@@ -522,7 +613,9 @@ log_of_held orders g h (Some p) =
     ]
 
 -- a group's log is a new one once the group has a later view, and the others' stay
-pub logs_view : (s : State) (g : GroupNo) (n : ℕ) (members : Membership) (orders : List Log) → IsTraced s → (s.group g).number < n → ((h : GroupNo) → LogFits s h (log_of orders h)) → (h : GroupNo) → LogFits (set_group s g (with_view s.here n members (s.group g))) h (log_of (holding_from g (holder_at s.here (with_view s.here n members (s.group g))) (but_log g orders)) h)
+pub logs_view : (s : State) (g : GroupNo) (n : ℕ) (members : Membership) (orders : List Log) → IsTraced s → (s.group g).number < n →
+    ((h : GroupNo) → LogFits s h (log_of orders h)) → (h : GroupNo) → LogFits (set_group s g (with_view s.here n members (s.group g)))
+    h (log_of (holding_from g (holder_at s.here (with_view s.here n members (s.group g))) (but_log g orders)) h)
 logs_view s g n members orders traced later fits h =
     let w : MemberSide = with_view s.here n members (s.group g) in
     let t : State = set_group s g w in
@@ -535,7 +628,8 @@ logs_view s g n members orders traced later fits h =
           let view : (t.group h).view ≡ (s.group h).view = ap (λ b. (if b then w else s.group h).view) apart in
           let number : (t.group h).number ≡ (s.group h).number = ap (λ b. (if b then w else s.group h).number) apart in
           subst (LogFits t h) (sym (ap (λ b. if b then held_log g (holder_at s.here w) else log_of orders h) apart))
-          (log_alike s t h (log_of orders h) (same_alike s t h (log_of orders h) refl view number refl (λ k. refl) (λ k. refl) refl (λ p u is. is))
+          (log_alike s t h (log_of orders h)
+          (same_alike s t h (log_of orders h) refl view number refl (λ k. refl) (λ k. refl) refl (λ p u is. is))
           (ap (λ b. is_pending (if b then w else s.group h)) apart) refl (λ p is. is)
           (λ _. over_alike s t h refl number refl (λ u is. is) (all_stay s h)) (fits h))
     ])
@@ -543,7 +637,9 @@ logs_view s g n members orders traced later fits h =
 -- An order that is closed
 
 -- with an Install that waits a group's log has the order that the view ends with, and the others' stay
-pub logs_close : (s : State) (g : GroupNo) (p : Pending) (tail : Tail) (orders : List Log) → is_pending (s.group g) ≡ false → ((h : GroupNo) → LogFits s h (log_of orders h)) → (h : GroupNo) → LogFits (pending_install s g p tail) h (log_of (change_log g (closed_by (is_within p.cut) tail.start tail.ids) orders) h)
+pub logs_close : (s : State) (g : GroupNo) (p : Pending) (tail : Tail) (orders : List Log) → is_pending (s.group g) ≡ false →
+    ((h : GroupNo) → LogFits s h (log_of orders h)) → (h : GroupNo) →
+    LogFits (pending_install s g p tail) h (log_of (change_log g (closed_by (is_within p.cut) tail.start tail.ids) orders) h)
 logs_close s g p tail orders first fits h =
     let close : Log → Log = closed_by (is_within p.cut) tail.start tail.ids in
     let t : State = pending_install s g p tail in
@@ -554,9 +650,11 @@ logs_close s g p tail orders first fits h =
           (subst (λ x. LogFits t x (close (log_of orders g))) (same_group g h same) closed)
       | inr apart ↦
           let view : (t.group h).view ≡ (s.group h).view = ap (λ b. (if b then with_pending (s.group g) p else s.group h).view) apart in
-          let number : (t.group h).number ≡ (s.group h).number = ap (λ b. (if b then with_pending (s.group g) p else s.group h).number) apart in
+          let number : (t.group h).number ≡ (s.group h).number =
+          ap (λ b. (if b then with_pending (s.group g) p else s.group h).number) apart in
           subst (LogFits t h) (sym (ap (λ b. if b then close (log_of orders g) else log_of orders h) apart))
-          (log_alike s t h (log_of orders h) (same_alike s t h (log_of orders h) refl view number refl (λ k. refl) (λ k. refl) refl (λ q u is. is))
+          (log_alike s t h (log_of orders h)
+          (same_alike s t h (log_of orders h) refl view number refl (λ k. refl) (λ k. refl) refl (λ q u is. is))
           (ap (λ b. is_pending (if b then with_pending (s.group g) p else s.group h)) apart)
           (ap (λ b. if b then closed_order (is_within p.cut) tail.start tail.ids (order_told s g) else s.closed h) apart) (λ q is. is)
           (λ _. over_alike s t h refl number refl (λ u is. is) (all_stay s h)) (fits h))
@@ -578,22 +676,26 @@ logs_close s g p tail orders first fits h =
     closed =
         let t : State = pending_install s g p tail in
         let tells = (fits g).tells first in
-        let ended : FitsClosed (closed_order (is_within p.cut) tail.start tail.ids (order_told s g)) (goes_on s g) (has_passed s g) (closed_by (is_within p.cut) tail.start tail.ids l) =
+        let ended : FitsClosed (closed_order (is_within p.cut) tail.start tail.ids (order_told s g)) (goes_on s g) (has_passed s g)
+        (closed_by (is_within p.cut) tail.start tail.ids l) =
         close_fits (facts_in s g) (goes_on s g) (has_passed s g) l tells.fits (is_within p.cut) tail.start tail.ids in
         record {
           tokens = λ k. (fits g).tokens k ∙ sym (λ i. token_as s.here (view i) (number i) g k (s.acts k));
           own = (fits g).own;
-          tells = λ none. absurd (false≢true (sym none ∙ ap (λ b. is_pending (if b then with_pending (s.group g) p else s.group g)) (group_itself g)));
+          tells = λ none.
+              absurd (false≢true (sym none ∙ ap (λ b. is_pending (if b then with_pending (s.group g) p else s.group g)) (group_itself g)));
           closed = λ _.
               subst (λ x. FitsClosed x (goes_on t g) (has_passed t g) (closed_by (is_within p.cut) tail.start tail.ids l)) (sym order)
-              (closed_more (closed_order (is_within p.cut) tail.start tail.ids (order_told s g)) (goes_on s g) (has_passed s g) (closed_by (is_within p.cut) tail.start tail.ids l) ended (goes_on t g) (has_passed t g) (λ q is. is)
+              (closed_more (closed_order (is_within p.cut) tail.start tail.ids (order_told s g)) (goes_on s g) (has_passed s g)
+              (closed_by (is_within p.cut) tail.start tail.ids l) ended (goes_on t g) (has_passed t g) (λ q is. is)
               (λ q e is. ap (λ n. has_delivered (process_named s q) (uid_in g n e)) number ∙ is));
         }
 
 -- Acknowledgements
 
 -- one more acknowledgement leaves no fewer messages stable
-upto_grows : (acks : List Acked) (x : Acked) (others : List SiteNo) (g : GroupNo) (v : ℕ) (p : Proc) → (others ≡ [] → ⊥) → stable_upto acks others g v p ≤ stable_upto (acks ++ x ∷ []) others g v p
+upto_grows : (acks : List Acked) (x : Acked) (others : List SiteNo) (g : GroupNo) (v : ℕ) (p : Proc) → (others ≡ [] → ⊥) →
+    stable_upto acks others g v p ≤ stable_upto (acks ++ x ∷ []) others g v p
 upto_grows acks x others g v p some =
     let more : List Acked = acks ++ x ∷ [] in
     let before = stable_greatest acks others g v p some in
@@ -604,14 +706,19 @@ upto_grows acks x others g v p some =
       | inl less ↦
           let (site, at, lacks) = after.next in
           let was : has_acked acks (uid_in g v (p, m + 1)) site ≡ true = before.all site (m + 1) at (omega arith) (omega (arith, less)) in
-          absurd (false≢true (sym lacks ∙ list_any-append (λ a. site_eq a.0 site && uid_eq a.1 (uid_in g v (p, m + 1))) acks (x ∷ []) ∙ or_left (has_acked acks (uid_in g v (p, m + 1)) site) (has_acked (x ∷ []) (uid_in g v (p, m + 1)) site) was))
+          absurd (false≢true (sym lacks
+          ∙ list_any-append (λ a. site_eq a.0 site && uid_eq a.1 (uid_in g v (p, m + 1))) acks (x ∷ [])
+          ∙ or_left (has_acked acks (uid_in g v (p, m + 1)) site) (has_acked (x ∷ []) (uid_in g v (p, m + 1)) site) was))
       | inr least ↦ omega (arith, least)
     ]
 
 pub logs_ack : (s : State) (from : SiteNo) (u : Uid) (h : GroupNo) (l : Log) → LogFits s h l → LogFits (noting_ack s from u) h l
-logs_ack s from u h l f = log_alike s (noting_ack s from u) h l alike refl refl (λ p is. is) (λ _. over_alike s (noting_ack s from u) h refl refl refl (λ v is. is) (all_stay s h)) f
+logs_ack s from u h l f =
+    log_alike s (noting_ack s from u) h l alike refl refl (λ p is. is)
+    (λ _. over_alike s (noting_ack s from u) h refl refl refl (λ v is. is) (all_stay s h)) f
   where
-    grown : (others : List SiteNo) (p : Proc) → (if is_empty others then MAX_NUMBER else stable_upto s.acks others h (s.group h).number p) ≤ (if is_empty others then MAX_NUMBER else stable_upto (s.acks ++ (from, u) ∷ []) others h (s.group h).number p)
+    grown : (others : List SiteNo) (p : Proc) → (if is_empty others then MAX_NUMBER else stable_upto s.acks others h (s.group h).number p)
+        ≤ (if is_empty others then MAX_NUMBER else stable_upto (s.acks ++ (from, u) ∷ []) others h (s.group h).number p)
     grown [] p = omega arith
     grown (x ∷ others) p = upto_grows s.acks (from, u) (x ∷ others) h (s.group h).number p (λ none. cc)
 

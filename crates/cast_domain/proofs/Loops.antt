@@ -44,15 +44,18 @@ beside_then {a} {b} {c} {x} {y} {z} first then = record {
 }
 
 -- a domain with what is shared, after its own change
-pub seen_as : (a b : Domain) → Keeps a b → (h : Shared) (o : Outs) → records_of b (part_of b.config.domain h) o ≡ records_of b (part_of a.config.domain h) o
+pub seen_as : (a b : Domain) → Keeps a b → (h : Shared) (o : Outs) →
+    records_of b (part_of b.config.domain h) o ≡ records_of b (part_of a.config.domain h) o
 seen_as a b same h o = ap (λ (c : DomainConfig). records_of b (part_of c.domain h) o) same.config
 
 -- one more of a fold over a list
-pub fold_item : {A B : Type 0} (f : A → B → A) (x : A) (xs : List B) (i : ℕ) (d : B) → i < length xs → fold f (f x (get_or xs i d)) (drop (i + 1) xs) ≡ fold f x (drop i xs)
+pub fold_item : {A B : Type 0} (f : A → B → A) (x : A) (xs : List B) (i : ℕ) (d : B) → i < length xs →
+    fold f (f x (get_or xs i d)) (drop (i + 1) xs) ≡ fold f x (drop i xs)
 fold_item f x xs i d lt = sym (ap (fold f x) (drop_more xs i d lt))
 
 -- one more of a fold over numbers
-pub fold_more : {A : Type 0} (f : A → ℕ → A) (x : A) (i n : ℕ) → i < n → fold f (f x i) (range_with_len (i + 1) (n - (i + 1))) ≡ fold f x (range_with_len i (n - i))
+pub fold_more : {A : Type 0} (f : A → ℕ → A) (x : A) (i n : ℕ) → i < n →
+    fold f (f x i) (range_with_len (i + 1) (n - (i + 1))) ≡ fold f x (range_with_len i (n - i))
 fold_more f x i n lt =
     let one : n - i ≡ suc (n - (i + 1)) = omega arith in
     sym (ap (λ m. fold f x (range_with_len i m)) one)
@@ -64,7 +67,8 @@ turn_more f x i n lt =
     sym (ap (λ m. iterate m f x) one)
 
 -- at a place that is written, what is written stands
-pub record_at_update : (f : GroupRecord → GroupRecord) (xs : List GroupRecord) (i : ℕ) → i < length xs → record_at (update xs i f) i ≡ f (record_at xs i)
+pub record_at_update : (f : GroupRecord → GroupRecord) (xs : List GroupRecord) (i : ℕ) → i < length xs →
+    record_at (update xs i f) i ≡ f (record_at xs i)
 record_at_update f [] i lt = absurd (omega arith)
 record_at_update f (x ∷ xs) zero lt = refl
 record_at_update f (x ∷ xs) (suc i) lt = record_at_update f xs i (omega arith)

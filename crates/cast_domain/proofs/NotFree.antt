@@ -1,5 +1,6 @@
 -- No kept message is free: what leaves that as it is, and what frees at most messages of one source.
-use Rattle.std.proofs.Common.{◌≡◌, ◌≢◌, ℕ, zero, suc, ◌+◌, true, false, cond, not, ◌&&◌, ◌||◌, List, [], ◌∷◌, Contains, Option, Some, None, unwrap_or, refl, sym, ap, subst, ◌∙◌}
+use Rattle.std.proofs.Common.{◌≡◌, ◌≢◌, ℕ, zero, suc, ◌+◌, true, false, cond, not, ◌&&◌, ◌||◌, List, []}
+use Rattle.std.proofs.Common.{◌∷◌, Contains, Option, Some, None, unwrap_or, refl, sym, ap, subst, ◌∙◌}
 use Rattle.std.specs.Prelude.{nat_lt, if◌then◌else◌}
 use Rattle.std.specs.List.{fold}
 use Rattle.std.specs.Option.{option_map, option_map_or}
@@ -58,7 +59,10 @@ none_but_as source r s same none x there other = same.1 x.message.id ∙ none x 
 -- What is sent and owed, and what the home keeps
 
 -- the home's moves leave the groups and their views here
-moved_there : (move : HomeMove) (g : GroupNo) (view : ℕ) (groups : List GroupRecord) (i : ℕ) → option_map_or (λ j. is_open_to (record_at (update groups i (moved_home move)) j).here view) (place_among g (update groups i (moved_home move))) false ≡ option_map_or (λ j. is_open_to (record_at groups j).here view) (place_among g groups) false
+moved_there : (move : HomeMove) (g : GroupNo) (view : ℕ) (groups : List GroupRecord) (i : ℕ) →
+    option_map_or (λ j. is_open_to (record_at (update groups i (moved_home move)) j).here view)
+    (place_among g (update groups i (moved_home move))) false ≡ option_map_or (λ j. is_open_to (record_at groups j).here view)
+    (place_among g groups) false
 moved_there move g view groups i =
     ap (λ o. option_map_or (λ j. is_open_to (record_at (update groups i (moved_home move)) j).here view) o false) (placed groups i)
     ∙ there (place_among g groups)
@@ -75,7 +79,8 @@ moved_there move g view groups i =
     here (x ∷ xs) (suc k) zero = refl
     here (x ∷ xs) (suc k) (suc j) = here xs k j
 
-    there : (o : Option ℕ) → option_map_or (λ j. is_open_to (record_at (update groups i (moved_home move)) j).here view) o false ≡ option_map_or (λ j. is_open_to (record_at groups j).here view) o false
+    there : (o : Option ℕ) → option_map_or (λ j. is_open_to (record_at (update groups i (moved_home move)) j).here view)
+        o false ≡ option_map_or (λ j. is_open_to (record_at groups j).here view) o false
     there (Some j) = ap (λ x. is_open_to x view) (here groups i j)
     there None = refl
 
@@ -103,7 +108,8 @@ module _ (r : Records) where
     λ u. ap (λ b. b && (is_stable_in s.acks u && not (is_awaited s.delay.rows u))) (moved_there move u.group u.view s.groups i) ∙ h.1 u,
   )
 
-  each_keeps : {X : Type 0} (f : Records → X → Records) → ((s : Records) → FreesAs r s → (x : X) → FreesAs r (f s x)) → (xs : List X) (s : Records) → FreesAs r s → FreesAs r (fold f s xs)
+  each_keeps : {X : Type 0} (f : Records → X → Records) → ((s : Records) → FreesAs r s → (x : X) → FreesAs r (f s x)) →
+      (xs : List X) (s : Records) → FreesAs r s → FreesAs r (fold f s xs)
   each_keeps f keeps [] s h = h
   each_keeps f keeps (x ∷ xs) s h = each_keeps f keeps xs (f s x) (keeps s h x)
 
@@ -115,31 +121,39 @@ none_lead r = none_as r (lead records r) (lead_keeps quiet (FreesAs r) (quiet_ke
 pub none_wants : (i : ℕ) (names : List Entry) (r : Records) → AreNotFree r → AreNotFree (fold (want_own records i) r names)
 none_wants i names r =
     none_as r (fold (want_own records i) r names)
-    (each_keeps r (want_own records i) (λ s h e. owe_keeps quiet (FreesAs r) (quiet_keeps r) s h (own_want_key records s i e)) names r (refl, λ u. refl))
+    (each_keeps r (want_own records i) (λ s h e. owe_keeps quiet (FreesAs r) (quiet_keeps r) s h (own_want_key records s i e))
+    names r (refl, λ u. refl))
 
 -- Who awaits a message
 
-changed_awaits : (p : Proc) (f : Row → Row) (u : Uid) → ((row : Row) → awaits_row (f row) u ≡ awaits_row row u) → (rows : List Row) → is_awaited (change_row p f rows) u ≡ is_awaited rows u
+changed_awaits : (p : Proc) (f : Row → Row) (u : Uid) → ((row : Row) → awaits_row (f row) u ≡ awaits_row row u) → (rows : List Row) →
+    is_awaited (change_row p f rows) u ≡ is_awaited rows u
 changed_awaits p f u same [] = refl
 changed_awaits p f u same (row ∷ rows) =
-    let first : awaits_row (if proc_eq row.process p then f row else row) u ≡ awaits_row row u = elim (proc_eq row.process p) as (λ b. awaits_row (if b then f row else row) u ≡ awaits_row row u) [ true ↦ same row | false ↦ refl ] in
+    let first : awaits_row (if proc_eq row.process p then f row else row) u ≡ awaits_row row u =
+    elim (proc_eq row.process p) as (λ b. awaits_row (if b then f row else row) u ≡ awaits_row row u) [ true ↦ same row | false ↦ refl ] in
     λ j. first j || changed_awaits p f u same rows j
 
 -- a delivery changes that for messages of its own source alone
-delivered_awaits : (id : Uid) (times : ClockList) (u : Uid) → source_of u ≢ source_of id → (row : Row) → awaits_row (delivered_row id times row) u ≡ awaits_row row u
+delivered_awaits : (id : Uid) (times : ClockList) (u : Uid) → source_of u ≢ source_of id → (row : Row) →
+    awaits_row (delivered_row id times row) u ≡ awaits_row row u
 delivered_awaits id times u other row =
     ap (λ n. is_member (standing_in row u.group) && nat_lt n u.count)
     (ap (λ (o : Option ℕ). unwrap_or o 0) (find-put source_cmp source_total (source_of u) (source_of id) id.count row.done)
-    ∙ ap (λ b. unwrap_or (cond b (Some id.count) (find source_cmp (source_of u) row.done)) 0) (tie_other source_exact (source_of u) (source_of id) other))
+    ∙ ap (λ b. unwrap_or (cond b (Some id.count) (find source_cmp (source_of u) row.done)) 0)
+    (tie_other source_exact (source_of u) (source_of id) other))
 
 -- the id of the message that is offered under a key, or another one where none is
 abbrev pub id_under : List Offered → Key → Uid → Uid
 id_under offered key other = unwrap_or (option_map (λ o. o.id) (offered_under offered key)) other
 
-after_awaits : (offered : List Offered) (p : Proc) (key : Key) (given u : Uid) → source_of u ≢ source_of (id_under offered key given) → (rows : List Row) → is_awaited (after_delivery offered p key rows) u ≡ is_awaited rows u
+after_awaits : (offered : List Offered) (p : Proc) (key : Key) (given u : Uid) → source_of u ≢ source_of (id_under offered key given) →
+    (rows : List Row) → is_awaited (after_delivery offered p key rows) u ≡ is_awaited rows u
 after_awaits offered p key given u other rows = found (offered_under offered key) other
   where
-    found : (o : Option Offered) → source_of u ≢ source_of (unwrap_or (option_map (λ x. x.id) o) given) → is_awaited (elim o as (λ _. List Row) [ Some x ↦ change_row p (delivered_row x.id x.times) rows | None ↦ rows ]) u ≡ is_awaited rows u
+    found : (o : Option Offered) → source_of u ≢ source_of (unwrap_or (option_map (λ x. x.id) o) given) →
+        is_awaited (elim o as (λ _. List Row) [ Some x ↦ change_row p (delivered_row x.id x.times) rows | None ↦ rows ])
+        u ≡ is_awaited rows u
     found (Some x) apart = changed_awaits p (delivered_row x.id x.times) u (delivered_awaits x.id x.times u apart) rows
     found None apart = refl
 
@@ -153,14 +167,18 @@ told_frees r s h k room (Some x) = elim (records.is_open s k) as (λ b. FreesAs 
   | false ↦ h
 ]
 
-weighed_frees : (r : Records) (p : Proc) (u : Uid) (k : ℕ) → is_full_in r k ≡ false → (told : Option Push) (weight : Weight) → FreesAs r (tell_if records (note_weight_in weight r p u) k told)
+weighed_frees : (r : Records) (p : Proc) (u : Uid) (k : ℕ) → is_full_in r k ≡ false → (told : Option Push) (weight : Weight) →
+    FreesAs r (tell_if records (note_weight_in weight r p u) k told)
 weighed_frees r p u k room told Nothing = told_frees r r (refl, λ v. refl) k room told
 weighed_frees r p u k room told Placed = told_frees r (note_weight_in Placed r p u) (refl, λ v. refl) k room told
 weighed_frees r p u k room told (Hands q first) = told_frees r (note_weight_in (Hands q first) r p u) (refl, λ v. refl) k room told
 
 -- a process that delivers, and whose outbox has room, frees at most messages of the source of what is offered under the key
-pub none_but_delivered : (r : Records) (p : Proc) (key : Key) (d : Delivery) → is_full_in r p.serial ≡ false → AreNotFree r → AreNotFreeBut (source_of (id_under r.delay.offered key d.id)) (deliver_as r p key d)
+pub none_but_delivered : (r : Records) (p : Proc) (key : Key) (d : Delivery) → is_full_in r p.serial ≡ false → AreNotFree r →
+    AreNotFreeBut (source_of (id_under r.delay.offered key d.id)) (deliver_as r p key d)
 none_but_delivered r p key d room none =
     let taken : Records = take_delivery_in r p key d.id in
-    none_but_as (source_of (id_under r.delay.offered key d.id)) taken (deliver_as r p key d) (weighed_frees taken p d.id p.serial room d.push d.weight)
-    (λ x there other. ap (λ b. is_open_in r x.message.id && (is_stable_in r.acks x.message.id && not b)) (after_awaits r.delay.offered p key d.id x.message.id other r.delay.rows) ∙ none x there)
+    none_but_as (source_of (id_under r.delay.offered key d.id)) taken (deliver_as r p key d)
+    (weighed_frees taken p d.id p.serial room d.push d.weight)
+    (λ x there other. ap (λ b. is_open_in r x.message.id && (is_stable_in r.acks x.message.id && not b))
+    (after_awaits r.delay.offered p key d.id x.message.id other r.delay.rows) ∙ none x there)

@@ -23,7 +23,8 @@ use Rattle.cast_domain.proofs.Standing.{orders_same}
 -- What is owed
 
 -- what is owed changes on both sides alike
-pub fits_owed : (r : Records) (s : State) → Fits r s → (o p : List Owed) → o ≡ p → Fits (record r { part = record r.part { owed = o } }) (record s { owed = p })
+pub fits_owed : (r : Records) (s : State) → Fits r s → (o p : List Owed) → o ≡ p →
+    Fits (record r { part = record r.part { owed = o } }) (record s { owed = p })
 fits_owed r s fits o p same = record {
   core = λ i. record (fits.core i) { owed = same i };
   opened = fits.opened;
@@ -39,23 +40,31 @@ fits_owed r s fits o p same = record {
 
 -- a frame is owed no more
 pub fits_pay : (r : Records) (s : State) → Fits r s → (key : OwedKey) → Fits (pay_in r key) (paying s key)
-fits_pay r s fits key = fits_owed r s fits (paid (key_eq key) r.part.owed) (paid (key_eq key) s.owed) (ap (paid (key_eq key)) (ap (λ c. c.owed) fits.core))
+fits_pay r s fits key =
+    fits_owed r s fits (paid (key_eq key) r.part.owed) (paid (key_eq key) s.owed) (ap (paid (key_eq key)) (ap (λ c. c.owed) fits.core))
 
 -- nor those of its kind about the process's messages before
 pub fits_pay_upto : (r : Records) (s : State) → Fits r s → (key : OwedKey) → Fits (pay_upto_in r key) (paying_upto s key)
-fits_pay_upto r s fits key = fits_owed r s fits (paid (is_upto key) r.part.owed) (paid (is_upto key) s.owed) (ap (paid (is_upto key)) (ap (λ c. c.owed) fits.core))
+fits_pay_upto r s fits key =
+    fits_owed r s fits (paid (is_upto key) r.part.owed) (paid (is_upto key) s.owed) (ap (paid (is_upto key)) (ap (λ c. c.owed) fits.core))
 
 -- nor what the site owes for a view
 pub fits_pay_view : (r : Records) (s : State) → Fits r s → (g : GroupNo) → Fits (pay_view_in r g) (paying_view s g)
-fits_pay_view r s fits g = fits_owed r s fits (paid (is_of_view g) r.part.owed) (paid (is_of_view g) s.owed) (ap (paid (is_of_view g)) (ap (λ c. c.owed) fits.core))
+fits_pay_view r s fits g =
+    fits_owed r s fits (paid (is_of_view g) r.part.owed) (paid (is_of_view g) s.owed)
+    (ap (paid (is_of_view g)) (ap (λ c. c.owed) fits.core))
 
 -- the kept message of an id
-found_mapped : (u : Uid) (kept : List Received) → option_map (λ (x : Received). x.message) (find (λ (x : Received). uid_eq x.message.id u) kept) ≡ find (λ (m : Message). uid_eq m.id u) (messages kept)
+found_mapped : (u : Uid) (kept : List Received) → option_map (λ (x : Received). x.message)
+    (find (λ (x : Received). uid_eq x.message.id u) kept) ≡ find (λ (m : Message). uid_eq m.id u) (messages kept)
 found_mapped u [] = refl
-found_mapped u (x ∷ kept) = elim (uid_eq x.message.id u) as (λ b. option_map (λ (y : Received). y.message) (cond b (Some x) (find (λ (y : Received). uid_eq y.message.id u) kept)) ≡ cond b (Some x.message) (find (λ (m : Message). uid_eq m.id u) (messages kept))) [
-  | true ↦ refl
-  | false ↦ found_mapped u kept
-]
+found_mapped u (x ∷ kept) =
+    elim (uid_eq x.message.id u)
+    as (λ b. option_map (λ (y : Received). y.message) (cond b (Some x) (find (λ (y : Received). uid_eq y.message.id u) kept))
+    ≡ cond b (Some x.message) (find (λ (m : Message). uid_eq m.id u) (messages kept))) [
+      | true ↦ refl
+      | false ↦ found_mapped u kept
+    ]
 
 pub message_same : (r : Records) (s : State) → Fits r s → (u : Uid) → message_in r u ≡ message_of s u
 message_same r s fits u = found_mapped u r.part.kept ∙ ap (find (λ (m : Message). uid_eq m.id u)) fits.messages.kept_in
@@ -67,10 +76,14 @@ due_same r s fits = λ i. (fits.core i).moment + (fits.core i).quotas.resend
 -- a frame is owed from now on, or was sent again now
 
 pub fits_note_owed : (r : Records) (s : State) → Fits r s → (key : OwedKey) → Fits (note_owed_in r key) (noting_owed s key)
-fits_note_owed r s fits key = fits_owed r s fits (with_owed r.part.owed key (next_due_in r)) (with_owed s.owed key (next_due s)) (λ i. with_owed (fits.core i).owed key (due_same r s fits i))
+fits_note_owed r s fits key =
+    fits_owed r s fits (with_owed r.part.owed key (next_due_in r)) (with_owed s.owed key (next_due s))
+    (λ i. with_owed (fits.core i).owed key (due_same r s fits i))
 
 pub fits_note_resent : (r : Records) (s : State) → Fits r s → (key : OwedKey) → Fits (note_resent_in r key) (noting_resent s key)
-fits_note_resent r s fits key = fits_owed r s fits (renew r.part.owed key (next_due_in r)) (renew s.owed key (next_due s)) (λ i. renew (fits.core i).owed key (due_same r s fits i))
+fits_note_resent r s fits key =
+    fits_owed r s fits (renew r.part.owed key (next_due_in r)) (renew s.owed key (next_due s))
+    (λ i. renew (fits.core i).owed key (due_same r s fits i))
 
 -- time passes
 pub fits_moment : (r : Records) (s : State) → Fits r s → (t : ℕ) → Fits (note_moment_in r t) (at_moment s t)

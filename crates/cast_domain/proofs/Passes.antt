@@ -42,7 +42,8 @@ pub led_pass : (w v : Records) → v ≡ rest.pass records resting_records w →
 led_pass w v made s led = led_on Stands pass w v s led (stands_pass w v made)
 
 -- a pass that changes no record is the end
-pub led_end : (w v : Records) → v ≡ rest.pass records resting_records w → v ≡ w → (s : State) → Led Stands pass w s → (t : State) × RestsAt s t × Fits v t
+pub led_end : (w v : Records) → v ≡ rest.pass records resting_records w → v ≡ w → (s : State) → Led Stands pass w s →
+    (t : State) × RestsAt s t × Fits v t
 led_end w v made still s led =
     let rest = led_rests Stands pass w v s led (stands_pass w v made)
     (λ t h. still_pass w t h.0 h.1 (subst (λ r. Fits r (pass t)) still (stands_pass w v made t h).0)) in

@@ -1,5 +1,7 @@
--- What rules do to the records, but that a session opens or is gone, leaves the processes of the queue's rows and the sessions that are gone.
-use Rattle.std.proofs.Common.{◌≡◌, ℕ, Bool, true, false, List, [], ◌∷◌, map, filter, Option, Some, None, inl, inr, refl, sym, ap, subst, ◌∙◌}
+-- What rules do to the records, but that a session opens or is gone, leaves the processes of the queue's rows and the sessions that are
+-- gone.
+use Rattle.std.proofs.Common.{◌≡◌, ℕ, Bool, true, false, List, [], ◌∷◌, map, filter}
+use Rattle.std.proofs.Common.{Option, Some, None, inl, inr, refl, sym, ap, subst, ◌∙◌}
 use Rattle.std.specs.Prelude.{◌==◌, ◌&&◌, if◌then◌else◌}
 use Rattle.std.specs.List.{fold}
 use Rattle.std.proofs.lemmas.Bool.{false≢true, cases_Bool, eqb-true}
@@ -38,10 +40,13 @@ use Rattle.cast_domain.proofs.Rows.{names_of}
 use Rattle.cast_domain.proofs.ProcessChanges.{told_keeps, same_names}
 
 -- a delivery leaves the rows of the same processes
-pub names_after : (offered : List Offered) (p : Proc) (key : Key) (rows : List Row) → map (λ (row : Row). row.process) (after_delivery offered p key rows) ≡ map (λ (row : Row). row.process) rows
+pub names_after : (offered : List Offered) (p : Proc) (key : Key) (rows : List Row) →
+    map (λ (row : Row). row.process) (after_delivery offered p key rows) ≡ map (λ (row : Row). row.process) rows
 names_after offered p key rows = names_found (offered_under offered key)
   where
-    names_found : (o : Option Offered) → map (λ (row : Row). row.process) (elim o as (λ _. List Row) [ Some x ↦ change_row p (delivered_row x.id x.times) rows | None ↦ rows ]) ≡ map (λ (row : Row). row.process) rows
+    names_found : (o : Option Offered) → map (λ (row : Row). row.process)
+        (elim o as (λ _. List Row) [ Some x ↦ change_row p (delivered_row x.id x.times) rows | None ↦ rows ])
+        ≡ map (λ (row : Row). row.process) rows
     names_found (Some x) = same_names p (delivered_row x.id x.times) (λ _. refl) rows
     names_found None = refl
 
@@ -70,7 +75,8 @@ closed_not : (x : SessionRecord) (k : ℕ) → x.serial == k ≡ false → with_
 closed_not x k other = ap (λ b. if b then record x { status = Closed } else x) other
 
 same_serial : (x : SessionRecord) (k : ℕ) → (with_status k Closed x).serial ≡ x.serial
-same_serial x k = elim (x.serial == k) as (λ b. (if b then record x { status = Closed } else x).serial ≡ x.serial) [ true ↦ refl | false ↦ refl ]
+same_serial x k =
+    elim (x.serial == k) as (λ b. (if b then record x { status = Closed } else x).serial ≡ x.serial) [ true ↦ refl | false ↦ refl ]
 
 open_not_gone : (status : Status) → is_open_status status ≡ true → false ≡ is_gone_status status
 open_not_gone Open is = refl
@@ -78,11 +84,13 @@ open_not_gone Closed is = refl
 open_not_gone Gone is = absurd (false≢true is)
 
 -- the later records say of it what others do
-later_same : (b : Bool) (first : SessionRecord) (some others : List SessionRecord) (j : ℕ) → status_in some j ≡ status_in others j → found_first b first some j ≡ found_first b first others j
+later_same : (b : Bool) (first : SessionRecord) (some others : List SessionRecord) (j : ℕ) → status_in some j ≡ status_in others j →
+    found_first b first some j ≡ found_first b first others j
 later_same true first some others j same = refl
 later_same false first some others j same = same
 
-closed_gone : (rows : List SessionRecord) (k : ℕ) → is_open_status (status_in rows k) ≡ true → (j : ℕ) → is_gone_status (status_in (map (with_status k Closed) rows) j) ≡ is_gone_status (status_in rows j)
+closed_gone : (rows : List SessionRecord) (k : ℕ) → is_open_status (status_in rows k) ≡ true → (j : ℕ) →
+    is_gone_status (status_in (map (with_status k Closed) rows) j) ≡ is_gone_status (status_in rows j)
 closed_gone rows k is j = by_serial (k == j) refl
   where
     other : (xs : List SessionRecord) → k == j ≡ false → status_in (map (with_status k Closed) xs) j ≡ status_in xs j
@@ -99,7 +107,8 @@ closed_gone rows k is j = by_serial (k == j) refl
           ∙ later_same (x.serial == j) x (map (with_status k Closed) xs) xs j (other xs apart)
     ]
 
-    own : (xs : List SessionRecord) → is_open_status (status_in xs k) ≡ true → is_gone_status (status_in (map (with_status k Closed) xs) k) ≡ is_gone_status (status_in xs k)
+    own : (xs : List SessionRecord) → is_open_status (status_in xs k) ≡ true →
+        is_gone_status (status_in (map (with_status k Closed) xs) k) ≡ is_gone_status (status_in xs k)
     own [] none = absurd (false≢true none)
     own (x ∷ xs) there = elim (cases_Bool (x.serial == k)) [
       | inl here ↦
@@ -107,14 +116,17 @@ closed_gone rows k is j = by_serial (k == j) refl
           ∙ ap (λ b. is_gone_status (found_first b (record x { status = Closed }) (map (with_status k Closed) xs) k)) here
           ∙ open_not_gone (status_in (x ∷ xs) k) there
       | inr elsewhere ↦
-          ap (λ (y : SessionRecord). is_gone_status (found_first (y.serial == k) y (map (with_status k Closed) xs) k)) (closed_not x k elsewhere)
+          ap (λ (y : SessionRecord). is_gone_status (found_first (y.serial == k) y (map (with_status k Closed) xs) k))
+          (closed_not x k elsewhere)
           ∙ ap (λ b. is_gone_status (found_first b x (map (with_status k Closed) xs) k)) elsewhere
           ∙ own xs (ap (λ b. is_open_status (found_first b x xs k)) (sym elsewhere) ∙ there)
           ∙ sym (ap (λ b. is_gone_status (found_first b x xs k)) elsewhere)
     ]
 
     by_serial : (b : Bool) → k == j ≡ b → is_gone_status (status_in (map (with_status k Closed) rows) j) ≡ is_gone_status (status_in rows j)
-    by_serial true same = subst (λ i. is_gone_status (status_in (map (with_status k Closed) rows) i) ≡ is_gone_status (status_in rows i)) (eqb-true k j same) (own rows is)
+    by_serial true same =
+        subst (λ i. is_gone_status (status_in (map (with_status k Closed) rows) i) ≡ is_gone_status (status_in rows i)) (eqb-true k j same)
+        (own rows is)
     by_serial false apart = ap is_gone_status (other rows apart)
 
 module _ (site : SiteNo) (names : List Proc) (gone : ℕ → Bool) where
@@ -124,35 +136,42 @@ module _ (site : SiteNo) (names : List Proc) (gone : ℕ → Bool) where
   pub remain_tell : (r : Records) → Same r → (p : Proc) (f : ProcessUpdate) → Same (tell_in r p f)
   remain_tell r h p f = (h.0, same_names p (told_row f) (told_keeps f) r.delay.rows ∙ h.1, h.2)
 
-  pub remain_fold : {X : Type 0} (f : Records → X → Records) → ((r : Records) → Same r → (x : X) → Same (f r x)) → (xs : List X) (r : Records) → Same r → Same (fold f r xs)
+  pub remain_fold : {X : Type 0} (f : Records → X → Records) → ((r : Records) → Same r → (x : X) → Same (f r x)) →
+      (xs : List X) (r : Records) → Same r → Same (fold f r xs)
   remain_fold f each [] r h = h
   remain_fold f each (x ∷ xs) r h = remain_fold f each xs (f r x) (each r h x)
 
   pub remain_release : (r : Records) → Same r → (passes : Uid → Bool) → Same (release_all_in r passes)
-  remain_release r h passes = remain_fold release_in (λ x same key. same) (map (λ x. x.key) (filter (λ x. passes x.message.id) r.part.kept)) r h
+  remain_release r h passes =
+      remain_fold release_in (λ x same key. same) (map (λ x. x.key) (filter (λ x. passes x.message.id) r.part.kept)) r h
 
   -- a member is put out
-  pub remain_put_out : (g : GroupNo) (skips : Bool) (members : Membership) (r : Records) → Same r → (k : ℕ) → Same (put_out_if_in g skips members r k)
-  remain_put_out g skips members r h k = elim (is_put_out_in g skips members r k) as (λ b. Same (if b then put_out_in g r (local_in r k) else r)) [
-    | true ↦ remain_tell r h (local_in r k) (fact.Standing g Outside)
-    | false ↦ h
-  ]
+  pub remain_put_out : (g : GroupNo) (skips : Bool) (members : Membership) (r : Records) → Same r → (k : ℕ) →
+      Same (put_out_if_in g skips members r k)
+  remain_put_out g skips members r h k =
+      elim (is_put_out_in g skips members r k) as (λ b. Same (if b then put_out_in g r (local_in r k) else r)) [
+        | true ↦ remain_tell r h (local_in r k) (fact.Standing g Outside)
+        | false ↦ h
+      ]
 
   -- processes enter a view
   remain_take : (g : GroupNo) (n : ℕ) (request : ℕ) (r : Records) → Same r → (p : Proc) → Same (take_in g n request r p)
-  remain_take g n request r h p = elim (site_eq p.site r.site && is_taken_in request (standing_of r.delay p g)) as (λ b. Same (if b then enter_in g n r p else r)) [
-    | true ↦
-        let timed : Records = tell_in r p (fact.Time (entering (time_of r.delay p) g n)) in
-        remain_tell timed (remain_tell r h p (fact.Time (entering (time_of r.delay p) g n))) p (fact.Standing g Member)
-    | false ↦ h
-  ]
+  remain_take g n request r h p =
+      elim (site_eq p.site r.site && is_taken_in request (standing_of r.delay p g)) as (λ b. Same (if b then enter_in g n r p else r)) [
+        | true ↦
+            let timed : Records = tell_in r p (fact.Time (entering (time_of r.delay p) g n)) in
+            remain_tell timed (remain_tell r h p (fact.Time (entering (time_of r.delay p) g n))) p (fact.Standing g Member)
+        | false ↦ h
+      ]
 
-  pub remain_pass_to : (r : Records) → Same r → (i : ℕ) (skips : Bool) (n : ℕ) (members : Membership) (request : ℕ) → Same (pass_in r i skips n members request)
+  pub remain_pass_to : (r : Records) → Same r → (i : ℕ) (skips : Bool) (n : ℕ) (members : Membership) (request : ℕ) →
+      Same (pass_in r i skips n members request)
   remain_pass_to r h i skips n members request =
       let g : GroupNo = (record_at r.groups i).name in
       let left : Records = put_out_all_in g skips members r in
       let out : Same left = remain_fold (put_out_if_in g skips members) (remain_put_out g skips members) (serials_in r) r h in
-      remain_fold (take_in (record_at left.groups i).name n request) (remain_take (record_at left.groups i).name n request) members.list (view_in left i n members)
+      remain_fold (take_in (record_at left.groups i).name n request) (remain_take (record_at left.groups i).name n request)
+      members.list (view_in left i n members)
       (out.0, names_ended (record_at left.groups i).name n left.delay.rows ∙ out.1, out.2)
 
   pub moves_remain : IsInvariant records Same

@@ -21,33 +21,40 @@ use Rattle.cast_domain.specs.PartCalls.{place_in, send_in, note_resent_in, next_
 use Rattle.cast_domain.specs.Calls.{records}
 
 -- what a frame says does not hang on what is owed
-kind_same : (r : Records) (k x : OwedKey) (h : ℕ) (kind : OwedKind) → frame_of_kind records (note_resent_in r k) h x kind ≡ frame_of_kind records r h x kind
+kind_same : (r : Records) (k x : OwedKey) (h : ℕ) (kind : OwedKind)
+    → frame_of_kind records (note_resent_in r k) h x kind ≡ frame_of_kind records r h x kind
 kind_same r k x h Ask = refl
 kind_same r k x h Data = refl
 kind_same r k x h Prepare = refl
-kind_same r k x h Want = elim x.side as (λ side. frame_of_kind records (note_resent_in r k) h (record x { side = side }) Want ≡ frame_of_kind records r h (record x { side = side }) Want) [
-  | Site ↦ refl
-  | Home ↦ refl
-]
+kind_same r k x h Want =
+    elim x.side as (λ side. frame_of_kind records (note_resent_in r k) h (record x { side = side }) Want
+    ≡ frame_of_kind records r h (record x { side = side }) Want) [
+      | Site ↦ refl
+      | Home ↦ refl
+    ]
 kind_same r k x h Install = refl
 kind_same r k x h Ack = refl
 
 frame_same : (r : Records) (k x : OwedKey) → frame_for records (note_resent_in r k) x ≡ frame_for records r x
-frame_same r k x = elim (place_in r x.group) as (λ o. option_and_then (λ h. frame_of_kind records (note_resent_in r k) h x x.kind) o ≡ option_and_then (λ h. frame_of_kind records r h x x.kind) o) [
-  | None ↦ refl
-  | Some h ↦ kind_same r k x h x.kind
-]
+frame_same r k x =
+    elim (place_in r x.group) as (λ o. option_and_then (λ h. frame_of_kind records (note_resent_in r k) h x x.kind) o
+    ≡ option_and_then (λ h. frame_of_kind records r h x x.kind) o) [
+      | None ↦ refl
+      | Some h ↦ kind_same r k x h x.kind
+    ]
 
 -- and what is owed does not hang on what was sent
 sent_noted : (r : Records) (k x : OwedKey) → send_for records (note_resent_in r k) x ≡ note_resent_in (send_for records r x) k
 sent_noted r k x =
     ap (λ o. option_map_or (send_in (note_resent_in r k) x.site) o (note_resent_in r k)) (frame_same r k x)
-    ∙ (elim (frame_for records r x) as (λ (o : Option SiteFrame). option_map_or (send_in (note_resent_in r k) x.site) o (note_resent_in r k) ≡ note_resent_in (option_map_or (send_in r x.site) o r) k) [
+    ∙ (elim (frame_for records r x) as (λ (o : Option SiteFrame).
+    option_map_or (send_in (note_resent_in r k) x.site) o (note_resent_in r k) ≡ note_resent_in (option_map_or (send_in r x.site) o r) k) [
       | None ↦ refl
       | Some f ↦ refl
     ])
 
-all_sent_noted : (keys : List OwedKey) (r : Records) (k : OwedKey) → fold (send_for records) (note_resent_in r k) keys ≡ note_resent_in (fold (send_for records) r keys) k
+all_sent_noted : (keys : List OwedKey) (r : Records) (k : OwedKey)
+    → fold (send_for records) (note_resent_in r k) keys ≡ note_resent_in (fold (send_for records) r keys) k
 all_sent_noted [] r k = refl
 all_sent_noted (x ∷ keys) r k = ap (λ s. fold (send_for records) s keys) (sent_noted r k x) ∙ all_sent_noted keys (send_for records r x) k
 
@@ -57,7 +64,8 @@ one_by_one (x ∷ keys) r =
     ap (λ s. fold note_resent_in s keys) (sym (all_sent_noted keys (send_for records r x) x))
     ∙ one_by_one keys (note_resent_in (send_for records r x) x)
 
-noted : (keys : List OwedKey) (r : Records) → fold note_resent_in r keys ≡ record r { part = record r.part { owed = fold (λ os k. renew os k (next_due_in r)) r.part.owed keys } }
+noted : (keys : List OwedKey) (r : Records)
+    → fold note_resent_in r keys ≡ record r { part = record r.part { owed = fold (λ os k. renew os k (next_due_in r)) r.part.owed keys } }
 noted [] r = refl
 noted (x ∷ keys) r = noted keys (note_resent_in r x)
 
@@ -98,7 +106,8 @@ site_alike r x s is =
     ap (λ kind. option_and_then (λ h. frame_of_kind records r h (record x { site = s }) kind) (place_in r x.group)) is
     ∙ ap (λ kind. option_and_then (λ h. frame_of_kind records r h x kind) (place_in r x.group)) (sym is)
 
-pub same_frame : (r : Records) (key other : OwedKey) → is_same_message key other ≡ true → frame_for records r key ≡ frame_for records r other
+pub same_frame : (r : Records) (key other : OwedKey) → is_same_message key other ≡ true
+    → frame_for records r key ≡ frame_for records r other
 same_frame r key other same =
     let parts = and_parts (kind_rank key.kind == kind_rank Data) (key_eq (record other { site = key.site }) key) same in
     let is : record other { site = key.site } ≡ key = same_key (record other { site = key.site }) key parts.1 in
@@ -106,7 +115,8 @@ same_frame r key other same =
     ap (frame_for records r) (sym is) ∙ site_alike r other key.site kind
 
 -- what a key stands for, with the key
-pub stands_found : (r : Records) (key : OwedKey) (o : Option SiteFrame) → frame_for records r key ≡ o → IsFrameOf r (option_map (λ x. (key, x)) o)
+pub stands_found : (r : Records) (key : OwedKey) (o : Option SiteFrame) → frame_for records r key ≡ o
+    → IsFrameOf r (option_map (λ x. (key, x)) o)
 stands_found r key None is = cc
 stands_found r key (Some f) is = is
 

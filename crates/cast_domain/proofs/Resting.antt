@@ -54,13 +54,16 @@ at_listed (h ∷ gs) zero g at = or_left (group_eq g h) (is_among group_eq g gs)
 at_listed (h ∷ gs) (suc i) g at = or_right (group_eq g h) (is_among group_eq g gs) (at_listed gs i g at)
 
 -- what is free is let go on both sides
-stands_let_go : (groups : List GroupNo) (r : Records) (s : State) → StandsIn groups r s → StandsIn groups (release.let_go records resting_records r) (let_go s)
+stands_let_go : (groups : List GroupNo) (r : Records) (s : State) → StandsIn groups r s →
+    StandsIn groups (release.let_go records resting_records r) (let_go s)
 stands_let_go groups r s f = ((fits_let_go r s f.0.0 f.1, f.0.1), lawful_let_go s f.1)
 
 -- the Install that waits is completed on both sides, or the same is wanted
-stands_go_on : (groups : List GroupNo) (r : Records) (s : State) → StandsIn groups r s → (i : ℕ) (g : GroupNo) → IsAt groups i g → StandsIn groups (go_on records resting_records r i) (go_on history resting s g)
+stands_go_on : (groups : List GroupNo) (r : Records) (s : State) → StandsIn groups r s → (i : ℕ) (g : GroupNo) → IsAt groups i g →
+    StandsIn groups (go_on records resting_records r i) (go_on history resting s g)
 stands_go_on groups r s f i g at =
-    subst (λ (x : GroupRecord). StandsIn groups (elim x.here.pending [ Some p ↦ complete_or_want records resting_records r i p | None ↦ r ]) (go_on history resting s g)) (sym (record_there r s f.0.0 i g here))
+    subst (λ (x : GroupRecord). StandsIn groups (elim x.here.pending [ Some p ↦ complete_or_want records resting_records r i p | None ↦ r ])
+    (go_on history resting s g)) (sym (record_there r s f.0.0 i g here))
     (waits (s.group g).pending (f.1.waiting g))
   where
     here : slice_get s.config.groups i ≡ Some g
@@ -69,14 +72,19 @@ stands_go_on groups r s f i g at =
     placed : (if is_group s g then Some g else None) ≡ Some g
     placed = ap (λ b. if b then Some g else None) (at_listed s.config.groups i g here)
 
-    waits : (o : Option Pending) → Waits (s.group g).frozen o → StandsIn groups (elim o [ Some p ↦ complete_or_want records resting_records r i p | None ↦ r ]) (elim o [ Some p ↦ complete_or_want history resting s g p | None ↦ s ])
+    waits : (o : Option Pending) →
+        Waits (s.group g).frozen o → StandsIn groups (elim o [ Some p ↦ complete_or_want records resting_records r i p | None ↦ r ])
+        (elim o [ Some p ↦ complete_or_want history resting s g p | None ↦ s ])
     waits None known = f
     waits (Some p) known =
-        choose (StandsIn groups) (has_cut_of r (record_at r.groups i) p.cut) (has_delivered_cut s g p.cut) _ _ _ _ (cut_there r s f.0.0 i g here p.cut)
+        choose (StandsIn groups) (has_cut_of r (record_at r.groups i) p.cut) (has_delivered_cut s g p.cut)
+        _ _ _ _ (cut_there r s f.0.0 i g here p.cut)
         (λ _. stands_let_go groups (complete records r i p) (complete history s g p)
         (complete_follows records history (StandsIn groups) (IsAt groups) (records_follow_all groups) r s f i g at g placed p known.1))
-        (λ _. subst (λ es. StandsIn groups (fold (want_own records i) r es) (fold (want_own history g) s (missing_in s g p.cut))) (sym (missing_there r s f.0.0 f.1 i g here p.cut))
-        (each (StandsIn groups) (want_own records i) (want_own history g) (want_own_follows records history (StandsIn groups) (IsAt groups) (records_follow_all groups) i g at) (missing_in s g p.cut) r s f))
+        (λ _. subst (λ es. StandsIn groups (fold (want_own records i) r es) (fold (want_own history g) s (missing_in s g p.cut)))
+        (sym (missing_there r s f.0.0 f.1 i g here p.cut))
+        (each (StandsIn groups) (want_own records i) (want_own history g)
+        (want_own_follows records history (StandsIn groups) (IsAt groups) (records_follow_all groups) i g at) (missing_in s g p.cut) r s f))
 
 -- the records where each round goes over all serials
 abbrev by_serials : Resting Records ℕ
@@ -91,7 +99,8 @@ records_follow_to_rest groups = record {
     (fits_deliver_all r s f.0.0 f.1 k (was_given_in s.used k at), ap (λ c. c.groups) (kept_all s k).config ∙ f.0.1),
     lawful_deliver_all s k f.1,
   );
-  holders = λ r s f i g at. ap (λ (x : GroupRecord). holders_in r x.name) (record_there r s f.0.0 i g (there groups r s f i g at)) ∙ holders_there r s f.0.0 g;
+  holders = λ r s f i g at. ap (λ (x : GroupRecord). holders_in r x.name) (record_there r s f.0.0 i g (there groups r s f i g at))
+      ∙ holders_there r s f.0.0 g;
   orders = λ r s f i g at k. (
     (fits_set_order_by r s f.0.0 f.1 i g (there groups r s f i g at) k, ap (λ c. c.groups) (kept_set_order_by s g k).config ∙ f.0.1),
     lawful_set_order_by s g k f.1,
@@ -102,5 +111,8 @@ records_follow_to_rest groups = record {
 -- so the records go on standing for the history by each pass
 pub fits_pass : (r : Records) (s : State) → Fits r s → IsLawful s → Fits (rest.pass records resting_records r) (pass s)
 fits_pass r s f l =
-    subst (λ x. Fits x (pass s)) (sym (ap (λ x. lead records (go_on_all records by_serials (set_orders records by_serials x))) (round_settle r s f ∙ ap (λ n. fold (rest.deliver_all records resting_records) r (range_with_len 1 n)) (sym (ap (λ c. c.used) f.core)))))
-    (pass_follows records history by_serials resting (StandsIn s.config.groups) (IsAt s.config.groups) (records_follow_to_rest s.config.groups) r s ((f, refl), l)).0.0
+    subst (λ x. Fits x (pass s))
+    (sym (ap (λ x. lead records (go_on_all records by_serials (set_orders records by_serials x))) (round_settle r s f
+    ∙ ap (λ n. fold (rest.deliver_all records resting_records) r (range_with_len 1 n)) (sym (ap (λ c. c.used) f.core)))))
+    (pass_follows records history by_serials resting (StandsIn s.config.groups) (IsAt s.config.groups)
+    (records_follow_to_rest s.config.groups) r s ((f, refl), l)).0.0

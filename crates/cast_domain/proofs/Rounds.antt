@@ -1,5 +1,6 @@
 -- Rules leave the processes of the queue's rows, so one round over those is one over all serials.
-use Rattle.std.proofs.Common.{◌≡◌, ℕ, zero, suc, cond, Bool, true, false, List, [], ◌∷◌, map, filter, Option, Some, None, drop, refl, sym, ap, ◌∙◌, inl, inr, append_assoc, arith}
+use Rattle.std.proofs.Common.{◌≡◌, ℕ, zero, suc, cond, Bool, true, false, List, [], ◌∷◌, map, filter}
+use Rattle.std.proofs.Common.{Option, Some, None, drop, refl, sym, ap, ◌∙◌, inl, inr, append_assoc, arith}
 use Rattle.std.specs.Prelude.{◌+◌, ◌≤◌, ◌++◌, ◌&&◌, ◌||◌, not, length, if◌then◌else◌, slice_get}
 use Rattle.std.specs.List.{fold}
 use Rattle.std.specs.Option.{option_map, option_map_or, option_and_then}
@@ -28,7 +29,8 @@ use Rattle.cast_domain.specs.Records.{Records}
 use Rattle.cast_domain.specs.PartCalls.{local_in, serials_in}
 use Rattle.cast_domain.specs.ViewCalls.{put_out_in, put_out_if_in, put_out_all_in}
 use Rattle.cast_domain.specs.Calls.{records}
-use Rattle.cast_domain.specs.RestCalls.{take_delivery_in, weight_of, note_weight_in, note_delivered_under, ready_key_in, next_ready_in, turns_in, resting_records}
+use Rattle.cast_domain.specs.RestCalls.{take_delivery_in, weight_of, note_weight_in, note_delivered_under}
+use Rattle.cast_domain.specs.RestCalls.{ready_key_in, next_ready_in, turns_in, resting_records}
 use Rattle.cast_domain.specs.declared.rest.Weight.TheVariants.{Nothing, Placed, Hands}
 use Rattle.cast_domain.specs.Fits.{Fits}
 use Rattle.cast_domain.specs.Flags.{changes_over}
@@ -53,17 +55,24 @@ module _ (site : SiteNo) (names : List Proc) (gone : ℕ → Bool) where
       ]
 
   remain_first : (k : ℕ) (r : Records) → Same r → Same (deliver_first records resting_records k r)
-  remain_first k r h = elim (next_ready_in r k) as (λ o. Same (elim o [ Some m ↦ let_go records resting_records (tell_if records (resting_records.note_delivered r k m) k (told_of m.id m.body)) | None ↦ r ])) [
-    | Some m ↦
-        let noted : Same (resting_records.note_delivered r k m) = elim (ready_key_in r (local_in r k)) as (λ o. Same (option_map_or (λ key. note_delivered_under r (local_in r k) key m) o r)) [
-          | Some key ↦ remain_delivered r h (local_in r k) key m
-          | None ↦ h
-        ] in
-        let pushed = told_if_keeps records Same (all_remain site names gone) (resting_records.note_delivered r k m) noted k (told_of m.id m.body) in
-        let now : Records = tell_if records (resting_records.note_delivered r k m) k (told_of m.id m.body) in
-        remain_let_go site names gone now pushed
-    | None ↦ h
-  ]
+  remain_first k r h =
+      elim (next_ready_in r k) as (λ o. Same (elim o [
+        | Some m ↦
+            let_go records resting_records (tell_if records (resting_records.note_delivered r k m) k (told_of m.id m.body))
+        | None ↦ r
+      ])) [
+        | Some m ↦
+            let noted : Same (resting_records.note_delivered r k m) =
+            elim (ready_key_in r (local_in r k)) as (λ o. Same (option_map_or (λ key. note_delivered_under r (local_in r k) key m) o r)) [
+              | Some key ↦ remain_delivered r h (local_in r k) key m
+              | None ↦ h
+            ] in
+            let pushed =
+            told_if_keeps records Same (all_remain site names gone) (resting_records.note_delivered r k m) noted k (told_of m.id m.body) in
+            let now : Records = tell_if records (resting_records.note_delivered r k m) k (told_of m.id m.body) in
+            remain_let_go site names gone now pushed
+        | None ↦ h
+      ]
 
   remain_turns : (n k : ℕ) (r : Records) → Same r → Same (iterate n (deliver_first records resting_records k) r)
   remain_turns zero k r h = h
@@ -83,25 +92,31 @@ same_serials r x h = serials_by_names x.delay.rows ∙ ap (map (λ (p : Proc). p
 -- A round goes from place to place
 
 -- the serial of a row at a place
-serial_there : (rows : List Row) (i : ℕ) (p : Proc) → option_map (λ row. row.process) (slice_get rows i) ≡ Some p → slice_get (map (λ row. row.process.serial) rows) i ≡ Some p.serial
+serial_there : (rows : List Row) (i : ℕ) (p : Proc) → option_map (λ row. row.process) (slice_get rows i) ≡ Some p →
+    slice_get (map (λ row. row.process.serial) rows) i ≡ Some p.serial
 serial_there rows i p at =
     slice_get-map (λ (row : Row). row.process.serial) rows i
     ∙ serial_at (slice_get rows i)
     ∙ ap (λ (o : Option Proc). option_map (λ (q : Proc). q.serial) o) at
   where
-    serial_at : (o : Option Row) → option_map (λ (row : Row). row.process.serial) o ≡ option_map (λ (q : Proc). q.serial) (option_map (λ (row : Row). row.process) o)
+    serial_at : (o : Option Row) →
+        option_map (λ (row : Row). row.process.serial) o ≡ option_map (λ (q : Proc). q.serial) (option_map (λ (row : Row). row.process) o)
     serial_at (Some row) = refl
     serial_at None = refl
 
 -- past the last row no serial is left
-none_left : (rows : List Row) (ks : List ℕ) → length ks ≡ length rows → (i : ℕ) → option_map (λ row. row.process) (slice_get rows i) ≡ None → drop (i + 1) ks ≡ drop i ks
+none_left : (rows : List Row) (ks : List ℕ) → length ks ≡ length rows → (i : ℕ) →
+    option_map (λ row. row.process) (slice_get rows i) ≡ None → drop (i + 1) ks ≡ drop i ks
 none_left rows ks long i none = elim (slice_get_cases rows i).1 [
-  | inl (row, within, at, here) ↦ absurd (none-some row.process (sym none ∙ ap (λ (o : Option Row). option_map (λ (y : Row). y.process) o) at))
+  | inl (row, within, at, here) ↦
+      absurd (none-some row.process (sym none ∙ ap (λ (o : Option Row). option_map (λ (y : Row). y.process) o) at))
   | inr (past, gone) ↦ drop_all (i + 1) ks (omega (arith, long, past)) ∙ sym (drop_all i ks (omega (arith, long, past)))
 ]
 
 -- the process at a place is the next one
-pub round_next : (f : Records → ℕ → Records) (r x : Records) → RemainAs r x → (i : ℕ) (p : Proc) → option_map (λ row. row.process) (slice_get x.delay.rows i) ≡ Some p → fold f (f x p.serial) (drop (i + 1) (serials_in r)) ≡ fold f x (drop i (serials_in r))
+pub round_next : (f : Records → ℕ → Records) (r x : Records) → RemainAs r x → (i : ℕ) (p : Proc) →
+    option_map (λ row. row.process) (slice_get x.delay.rows i) ≡ Some p →
+    fold f (f x p.serial) (drop (i + 1) (serials_in r)) ≡ fold f x (drop i (serials_in r))
 round_next f r x h i p at =
     ap (λ k. fold f (f x k) (drop (i + 1) (serials_in r))) (sym (get_or_from_slice_get (serials_in r) i p.serial 0 there))
     ∙ fold_item f x (serials_in r) i 0 (slice_get_within (serials_in r) i p.serial there)
@@ -110,7 +125,8 @@ round_next f r x h i p at =
     there = ap (λ ks. slice_get ks i) (sym (same_serials r x h)) ∙ serial_there x.delay.rows i p at
 
 -- so it is the first of those that are left, and of the steps one changes something: its own, or one of those behind it
-pub round_items : (r x : Records) → RemainAs r x → (i : ℕ) (p : Proc) → option_map (λ row. row.process) (slice_get x.delay.rows i) ≡ Some p → drop i (serials_in r) ≡ p.serial ∷ drop (i + 1) (serials_in r)
+pub round_items : (r x : Records) → RemainAs r x → (i : ℕ) (p : Proc) →
+    option_map (λ row. row.process) (slice_get x.delay.rows i) ≡ Some p → drop i (serials_in r) ≡ p.serial ∷ drop (i + 1) (serials_in r)
 round_items r x h i p at =
     drop_more (serials_in r) i 0 (slice_get_within (serials_in r) i p.serial there)
     ∙ ap (λ k. k ∷ drop (i + 1) (serials_in r)) (get_or_from_slice_get (serials_in r) i p.serial 0 there)
@@ -118,7 +134,10 @@ round_items r x h i p at =
     there : slice_get (serials_in r) i ≡ Some p.serial
     there = ap (λ ks. slice_get ks i) (sym (same_serials r x h)) ∙ serial_there x.delay.rows i p at
 
-pub round_changes : (flag : Records → ℕ → Bool) (step : Records → ℕ → Records) (r x v : Records) → RemainAs r x → (changed told : Bool) (i : ℕ) (p : Proc) → option_map (λ row. row.process) (slice_get x.delay.rows i) ≡ Some p → told ≡ flag x p.serial → v ≡ step x p.serial → ((changed || told) || changes_over flag step v (drop (i + 1) (serials_in r))) ≡ (changed || changes_over flag step x (drop i (serials_in r)))
+pub round_changes : (flag : Records → ℕ → Bool) (step : Records → ℕ → Records) (r x v : Records) → RemainAs r x →
+    (changed told : Bool) (i : ℕ) (p : Proc) → option_map (λ row. row.process) (slice_get x.delay.rows i) ≡ Some p →
+    told ≡ flag x p.serial → v ≡ step x p.serial → ((changed || told) || changes_over flag step v (drop (i + 1) (serials_in r)))
+    ≡ (changed || changes_over flag step x (drop i (serials_in r)))
 round_changes flag step r x v h changed told i p at is made =
     let later : List ℕ = drop (i + 1) (serials_in r) in
     either_of changed told (changes_over flag step v later)
@@ -126,11 +145,15 @@ round_changes flag step r x v h changed told i p at is made =
     ∙ sym (ap (λ ks. changed || changes_over flag step x ks) (round_items r x h i p at))
 
 -- past the last place there is none
-pub round_over : (r x : Records) → RemainAs r x → (i : ℕ) → option_map (λ row. row.process) (slice_get x.delay.rows i) ≡ None → drop (i + 1) (serials_in r) ≡ drop i (serials_in r)
+pub round_over : (r x : Records) → RemainAs r x → (i : ℕ) → option_map (λ row. row.process) (slice_get x.delay.rows i) ≡ None →
+    drop (i + 1) (serials_in r) ≡ drop i (serials_in r)
 round_over r x h i none =
-    none_left x.delay.rows (serials_in r) (ap length (sym (same_serials r x h)) ∙ length-map x.delay.rows (λ (row : Row). row.process.serial)) i none
+    none_left x.delay.rows (serials_in r)
+    (ap length (sym (same_serials r x h)) ∙ length-map x.delay.rows (λ (row : Row). row.process.serial)) i none
 
-pub round_past : (f : Records → ℕ → Records) (r x : Records) → RemainAs r x → (i : ℕ) → option_map (λ row. row.process) (slice_get x.delay.rows i) ≡ None → fold f x (drop (i + 1) (serials_in r)) ≡ fold f x (drop i (serials_in r))
+pub round_past : (f : Records → ℕ → Records) (r x : Records) → RemainAs r x → (i : ℕ) →
+    option_map (λ row. row.process) (slice_get x.delay.rows i) ≡ None →
+    fold f x (drop (i + 1) (serials_in r)) ≡ fold f x (drop i (serials_in r))
 round_past f r x h i none =
     ap (fold f x) (round_over r x h i none)
 
@@ -140,13 +163,17 @@ round_past f r x h i none =
 abbrev pub gathered : Bool → List ℕ → ℕ → List ℕ
 gathered b so_far k = if b then so_far ++ k ∷ [] else so_far
 
-pub gather_next : (test : ℕ → Bool) (rows : List Row) (i : ℕ) (p : Proc) (so_far : List ℕ) → option_map (λ row. row.process) (slice_get rows i) ≡ Some p → gathered (test p.serial) so_far p.serial ++ filter test (drop (i + 1) (map (λ row. row.process.serial) rows)) ≡ so_far ++ filter test (drop i (map (λ row. row.process.serial) rows))
+pub gather_next : (test : ℕ → Bool) (rows : List Row) (i : ℕ) (p : Proc) (so_far : List ℕ) →
+    option_map (λ row. row.process) (slice_get rows i) ≡ Some p → gathered (test p.serial) so_far p.serial ++ filter test
+    (drop (i + 1) (map (λ row. row.process.serial) rows)) ≡ so_far ++ filter test (drop i (map (λ row. row.process.serial) rows))
 gather_next test rows i p so_far at =
-    (elim (test p.serial) as (λ b. gathered b so_far p.serial ++ filter test later ≡ so_far ++ cond b (p.serial ∷ filter test later) (filter test later)) [
+    (elim (test p.serial)
+    as (λ b. gathered b so_far p.serial ++ filter test later ≡ so_far ++ cond b (p.serial ∷ filter test later) (filter test later)) [
       | true ↦ append_assoc so_far (p.serial ∷ []) (filter test later)
       | false ↦ refl
     ])
-    ∙ sym (ap (λ ks. so_far ++ filter test ks) (drop_more serials_of i 0 (slice_get_within serials_of i p.serial there) ∙ ap (λ k. k ∷ later) (get_or_from_slice_get serials_of i p.serial 0 there)))
+    ∙ sym (ap (λ ks. so_far ++ filter test ks) (drop_more serials_of i 0 (slice_get_within serials_of i p.serial there)
+    ∙ ap (λ k. k ∷ later) (get_or_from_slice_get serials_of i p.serial 0 there)))
   where
     serials_of : List ℕ
     serials_of = map (λ row. row.process.serial) rows
@@ -157,19 +184,26 @@ gather_next test rows i p so_far at =
     there : slice_get serials_of i ≡ Some p.serial
     there = serial_there rows i p at
 
-pub gather_past : (test : ℕ → Bool) (rows : List Row) (i : ℕ) (so_far : List ℕ) → option_map (λ row. row.process) (slice_get rows i) ≡ None → so_far ++ filter test (drop (i + 1) (map (λ row. row.process.serial) rows)) ≡ so_far ++ filter test (drop i (map (λ row. row.process.serial) rows))
+pub gather_past : (test : ℕ → Bool) (rows : List Row) (i : ℕ) (so_far : List ℕ) →
+    option_map (λ row. row.process) (slice_get rows i) ≡ None → so_far ++ filter test (drop (i + 1) (map (λ row. row.process.serial) rows))
+    ≡ so_far ++ filter test (drop i (map (λ row. row.process.serial) rows))
 gather_past test rows i so_far none =
-    ap (λ ks. so_far ++ filter test ks) (none_left rows (map (λ row. row.process.serial) rows) (length-map rows (λ (row : Row). row.process.serial)) i none)
+    ap (λ ks. so_far ++ filter test ks)
+    (none_left rows (map (λ row. row.process.serial) rows) (length-map rows (λ (row : Row). row.process.serial)) i none)
 
 -- in the end none is left
-pub gather_end : (test : ℕ → Bool) (rows : List Row) (i : ℕ) (so_far : List ℕ) → length rows ≤ i → so_far ≡ so_far ++ filter test (drop i (map (λ row. row.process.serial) rows))
+pub gather_end : (test : ℕ → Bool) (rows : List Row) (i : ℕ) (so_far : List ℕ) → length rows ≤ i →
+    so_far ≡ so_far ++ filter test (drop i (map (λ row. row.process.serial) rows))
 gather_end test rows i so_far past =
     sym (append-nil so_far)
-    ∙ ap (λ ks. so_far ++ filter test ks) (sym (drop_all i (map (λ row. row.process.serial) rows) (omega (arith, past, length-map rows (λ (row : Row). row.process.serial)))))
+    ∙ ap (λ ks. so_far ++ filter test ks)
+    (sym (drop_all i (map (λ row. row.process.serial) rows) (omega (arith, past, length-map rows (λ (row : Row). row.process.serial)))))
 
 -- One round over the rows is one over all serials, where who has no row has nothing to do
 
-round_filter : (f : Records → ℕ → Records) (holds : Records → Type 0) (test : ℕ → Bool) → ((r : Records) → holds r → (k : ℕ) → holds (f r k)) → ((r : Records) → holds r → (k : ℕ) → test k ≡ false → f r k ≡ r) → (ks : List ℕ) (r : Records) → holds r → fold f r (filter test ks) ≡ fold f r ks
+round_filter : (f : Records → ℕ → Records) (holds : Records → Type 0) (test : ℕ → Bool) →
+    ((r : Records) → holds r → (k : ℕ) → holds (f r k)) → ((r : Records) → holds r → (k : ℕ) → test k ≡ false → f r k ≡ r) →
+    (ks : List ℕ) (r : Records) → holds r → fold f r (filter test ks) ≡ fold f r ks
 round_filter f holds test keeps nothing [] r h = refl
 round_filter f holds test keeps nothing (k ∷ ks) r h =
     elim (test k) as (λ b. test k ≡ b → fold f r (cond b (k ∷ filter test ks) (filter test ks)) ≡ fold f (f r k) ks) [
@@ -181,7 +215,9 @@ round_filter f holds test keeps nothing (k ∷ ks) r h =
 pub serials_there : (r : Records) (s : State) (fits : Fits r s) → serials_in r ≡ filter fits.processes.has_row (serials s)
 serials_there r s fits = serials_named s r.delay.rows (filter fits.processes.has_row (serials s)) fits.processes.rows
 
-round_all : (f : Records → ℕ → Records) → ((r : Records) (x : Records) → RemainAs r x → (k : ℕ) → RemainAs r (f x k)) → ((r : Records) (k : ℕ) → row_of r.delay.rows (local_in r k) ≡ None → f r k ≡ r) → (r : Records) (s : State) → Fits r s → fold f r (serials_in r) ≡ fold f r (serials s)
+round_all : (f : Records → ℕ → Records) → ((r : Records) (x : Records) → RemainAs r x → (k : ℕ) → RemainAs r (f x k)) →
+    ((r : Records) (k : ℕ) → row_of r.delay.rows (local_in r k) ≡ None → f r k ≡ r) → (r : Records) (s : State) → Fits r s →
+    fold f r (serials_in r) ≡ fold f r (serials s)
 round_all f keeps nothing r s fits =
     ap (fold f r) (serials_there r s fits)
     ∙ round_filter f (RemainAs r) fits.processes.has_row (keeps r)
@@ -191,15 +227,18 @@ round_all f keeps nothing r s fits =
     (serials s) r (remain_as r)
 
 -- who has no row is not put out
-pub round_put_out : (g : GroupNo) (skips : Bool) (members : Membership) (r : Records) (s : State) → Fits r s → put_out_all_in g skips members r ≡ fold (put_out_if_in g skips members) r (serials s)
+pub round_put_out : (g : GroupNo) (skips : Bool) (members : Membership) (r : Records) (s : State) → Fits r s →
+    put_out_all_in g skips members r ≡ fold (put_out_if_in g skips members) r (serials s)
 round_put_out g skips members =
     round_all (put_out_if_in g skips members)
     (λ r x h k. remain_put_out r.site (names_of r.delay.rows) (gone_of r) g skips members x h k)
     (λ r k none. ap (λ b. if b then put_out_in g r (local_in r k) else r)
-    (ap (λ (o : Option Row). is_member (option_map_or (λ row. standing_in row g) o Outside) && (skips || not (is_among proc_eq (local_in r k) members.list))) none))
+    (ap (λ (o : Option Row). is_member (option_map_or (λ row. standing_in row g) o Outside)
+    && (skips || not (is_among proc_eq (local_in r k) members.list))) none))
 
 -- nor does it deliver
-pub round_settle : (r : Records) (s : State) → Fits r s → settle records resting_records r ≡ fold (deliver_all records resting_records) r (serials s)
+pub round_settle : (r : Records) (s : State) → Fits r s →
+    settle records resting_records r ≡ fold (deliver_all records resting_records) r (serials s)
 round_settle =
     round_all (deliver_all records resting_records)
     (λ r x h k. remain_deliver_all r.site (names_of r.delay.rows) (gone_of r) x h k)
@@ -207,6 +246,11 @@ round_settle =
   where
     first_none : (r : Records) (k : ℕ) → row_of r.delay.rows (local_in r k) ≡ None → deliver_first records resting_records k r ≡ r
     first_none r k none =
-        ap (λ (o : Option Message). elim o [ Some m ↦ let_go records resting_records (tell_if records (resting_records.note_delivered r k m) k (told_of m.id m.body)) | None ↦ r ])
+        ap (λ (o : Option Message). elim o [
+          | Some m ↦
+              let_go records resting_records (tell_if records (resting_records.note_delivered r k m) k (told_of m.id m.body))
+          | None ↦ r
+        ])
         (ap (λ (o : Option Key). option_map_or (message_under r.part.kept) o None)
-        (ap (λ (o : Option Row). option_map (λ x. x.key) (option_and_then (first_for (turns_in r (local_in r k)) r.delay.gates r.delay.offered) o)) none))
+        (ap (λ (o : Option Row).
+        option_map (λ x. x.key) (option_and_then (first_for (turns_in r (local_in r k)) r.delay.gates r.delay.offered) o)) none))

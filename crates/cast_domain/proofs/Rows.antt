@@ -1,5 +1,6 @@
 -- The rows of a domain's queue are those of serials that were given, in their order.
-use Rattle.std.proofs.Common.{◌≡◌, ℕ, zero, suc, ◌+◌, ◌<◌, ◌≤◌, Bool, true, false, cond, List, [], ◌∷◌, map, filter, Some, None, refl, sym, ap, ◌∙◌, inl, inr, arith}
+use Rattle.std.proofs.Common.{◌≡◌, ℕ, zero, suc, ◌+◌, ◌<◌, ◌≤◌, Bool, true, false, cond, List, []}
+use Rattle.std.proofs.Common.{◌∷◌, map, filter, Some, None, refl, sym, ap, ◌∙◌, inl, inr, arith}
 use Rattle.std.specs.Prelude.{◌==◌, nat_lt, nat_le, is_some}
 use Rattle.std.specs.List.{range_with_len}
 use Rattle.std.specs.Option.{IsSome}
@@ -23,7 +24,8 @@ serial_of s a b same = ap (λ (p : Proc). p.serial) same
 other_name : (s : State) (row : Row) (a k : ℕ) → row.process ≡ local s a → (a ≡ k → ⊥) → proc_eq row.process (local s k) ≡ false
 other_name s row a k is apart =
     ap (λ p. proc_eq p (local s k)) is
-    ∙ false_from_ne_true (proc_eq (local s a) (local s k)) (λ same. apart (eqb-true a k (and_parts (site_eq s.here s.here) (a == k) same).1))
+    ∙ false_from_ne_true (proc_eq (local s a) (local s k))
+    (λ same. apart (eqb-true a k (and_parts (site_eq s.here s.here) (a == k) same).1))
 
 -- Serials in order
 
@@ -39,10 +41,11 @@ rise_before a b (k ∷ ks) within rises = (omega (arith, rises.0), rises.1)
 -- those of a range that pass a test
 pub rise_filter : (test : ℕ → Bool) (a n : ℕ) → Rise a (filter test (range_with_len a n))
 rise_filter test a zero = tt
-rise_filter test a (suc n) = elim (test a) as (λ b. Rise a (cond b (a ∷ filter test (range_with_len (a + 1) n)) (filter test (range_with_len (a + 1) n)))) [
-  | true ↦ (omega arith, rise_filter test (a + 1) n)
-  | false ↦ rise_before a (a + 1) (filter test (range_with_len (a + 1) n)) (omega arith) (rise_filter test (a + 1) n)
-]
+rise_filter test a (suc n) =
+    elim (test a) as (λ b. Rise a (cond b (a ∷ filter test (range_with_len (a + 1) n)) (filter test (range_with_len (a + 1) n)))) [
+      | true ↦ (omega arith, rise_filter test (a + 1) n)
+      | false ↦ rise_before a (a + 1) (filter test (range_with_len (a + 1) n)) (omega arith) (rise_filter test (a + 1) n)
+    ]
 
 -- what is in a range is within it
 pub in_range : (a n k : ℕ) → In k (range_with_len a n) → (a ≤ k) × (k < a + n)
@@ -68,10 +71,12 @@ in_filter test (x ∷ xs) k at =
     ] refl at
 
 -- a test that a weaker one passes alone finds the same among what that passes
-pub filter_within : (test weaker : ℕ → Bool) → ((k : ℕ) → weaker k ≡ false → test k ≡ false) → (xs : List ℕ) → filter test (filter weaker xs) ≡ filter test xs
+pub filter_within : (test weaker : ℕ → Bool) → ((k : ℕ) → weaker k ≡ false → test k ≡ false) → (xs : List ℕ) →
+    filter test (filter weaker xs) ≡ filter test xs
 filter_within test weaker fails [] = refl
 filter_within test weaker fails (x ∷ xs) =
-    elim (weaker x) as (λ b. weaker x ≡ b → filter test (cond b (x ∷ filter weaker xs) (filter weaker xs)) ≡ cond (test x) (x ∷ filter test xs) (filter test xs)) [
+    elim (weaker x) as (λ b. weaker x ≡ b →
+    filter test (cond b (x ∷ filter weaker xs) (filter weaker xs)) ≡ cond (test x) (x ∷ filter test xs) (filter test xs)) [
       | true ↦ λ _. ap (λ ys. cond (test x) (x ∷ ys) ys) (filter_within test weaker fails xs)
       | false ↦ λ is. filter_within test weaker fails xs ∙ sym (ap (λ b. cond b (x ∷ filter test xs) (filter test xs)) (fails x is))
     ] refl
@@ -79,7 +84,8 @@ filter_within test weaker fails (x ∷ xs) =
 -- Rows of serials in order
 
 -- each is the first of its process
-pub row_found : (s : State) (rows : List Row) (ks : List ℕ) (a : ℕ) → names_of rows ≡ map (local s) ks → Rise a ks → (row : Row) → In row rows → (k : ℕ) × (a ≤ k) × (row.process ≡ local s k) × (row_of rows (local s k) ≡ Some row)
+pub row_found : (s : State) (rows : List Row) (ks : List ℕ) (a : ℕ) → names_of rows ≡ map (local s) ks → Rise a ks → (row : Row) →
+    In row rows → (k : ℕ) × (a ≤ k) × (row.process ≡ local s k) × (row_of rows (local s k) ≡ Some row)
 row_found s [] ks a names rises row at = absurd at
 row_found s (x ∷ rows) [] a names rises row at = absurd (no_names names)
   where
@@ -90,7 +96,8 @@ row_found s (x ∷ rows) (j ∷ ks) a names rises row (inl here) =
       j,
       rises.0,
       ap (λ (y : Row). y.process) here ∙ first,
-      ap (λ b. cond b (Some x) (row_of rows (local s j))) (ap (λ p. proc_eq p (local s j)) first ∙ proc_itself (local s j)) ∙ ap Some (sym here),
+      ap (λ b. cond b (Some x) (row_of rows (local s j))) (ap (λ p. proc_eq p (local s j)) first ∙ proc_itself (local s j))
+          ∙ ap Some (sym here),
     )
 row_found s (x ∷ rows) (j ∷ ks) a names rises row (inr there) =
     let first : x.process ≡ local s j = cc in
@@ -99,11 +106,13 @@ row_found s (x ∷ rows) (j ∷ ks) a names rises row (inr there) =
       found.0,
       omega (arith, found.1, rises.0),
       found.2,
-      ap (λ b. cond b (Some x) (row_of rows (local s found.0))) (other_name s x j found.0 first (λ same. omega (arith, found.1, same))) ∙ found.3,
+      ap (λ b. cond b (Some x) (row_of rows (local s found.0))) (other_name s x j found.0 first (λ same. omega (arith, found.1, same)))
+          ∙ found.3,
     )
 
 -- who is none of them has no row
-row_missing : (s : State) (rows : List Row) (ks : List ℕ) (k : ℕ) → names_of rows ≡ map (local s) ks → (In k ks → ⊥) → row_of rows (local s k) ≡ None
+row_missing : (s : State) (rows : List Row) (ks : List ℕ) (k : ℕ) → names_of rows ≡ map (local s) ks → (In k ks → ⊥) →
+    row_of rows (local s k) ≡ None
 row_missing s [] ks k names none = refl
 row_missing s (x ∷ rows) [] k names none = absurd (no_names names)
   where
@@ -117,14 +126,19 @@ row_missing s (x ∷ rows) (j ∷ ks) k names none =
 
 -- The rows of a queue, of those serials that pass a test
 
-module _ (s : State) (rows : List Row) (has_row : ℕ → Bool) (used : ℕ) (names : names_of rows ≡ map (local s) (filter has_row (range_with_len 1 used))) where
+module _ (s : State) (rows : List Row) (has_row : ℕ → Bool) (used : ℕ)
+    (names : names_of rows ≡ map (local s) (filter has_row (range_with_len 1 used))) where
   -- a serial that does not pass has none
   pub row_untested : (k : ℕ) → has_row k ≡ false → row_of rows (local s k) ≡ None
-  row_untested k fails = row_missing s rows (filter has_row (range_with_len 1 used)) k names (λ at. false≢true (sym fails ∙ (in_filter has_row (range_with_len 1 used) k at).0))
+  row_untested k fails =
+      row_missing s rows (filter has_row (range_with_len 1 used))
+      k names (λ at. false≢true (sym fails ∙ (in_filter has_row (range_with_len 1 used) k at).0))
 
   -- nor has one that was not given
   pub row_ungiven : (k : ℕ) → was_given used k ≡ false → row_of rows (local s k) ≡ None
-  row_ungiven k ungiven = row_missing s rows (filter has_row (range_with_len 1 used)) k names (λ at. false≢true (sym ungiven ∙ was_given_in used k (in_filter has_row (range_with_len 1 used) k at).1))
+  row_ungiven k ungiven =
+      row_missing s rows (filter has_row (range_with_len 1 used))
+      k names (λ at. false≢true (sym ungiven ∙ was_given_in used k (in_filter has_row (range_with_len 1 used) k at).1))
 
   -- so who has a row was given
   pub row_given : (k : ℕ) → IsSome (row_of rows (local s k)) → was_given used k ≡ true
@@ -134,7 +148,8 @@ module _ (s : State) (rows : List Row) (has_row : ℕ → Bool) (used : ℕ) (na
   ]
 
 -- the serials of rows by the names of their processes
-pub serials_named : (s : State) (rows : List Row) (ks : List ℕ) → names_of rows ≡ map (local s) ks → map (λ (row : Row). row.process.serial) rows ≡ ks
+pub serials_named : (s : State) (rows : List Row) (ks : List ℕ) → names_of rows ≡ map (local s) ks →
+    map (λ (row : Row). row.process.serial) rows ≡ ks
 serials_named s [] [] names = refl
 serials_named s [] (j ∷ ks) names = absurd (no_names names)
   where

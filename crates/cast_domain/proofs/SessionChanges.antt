@@ -22,7 +22,8 @@ use Rattle.cast_domain.specs.Shared.{part_boxing, part_pushing}
 use Rattle.cast_domain.specs.Records.{Records}
 use Rattle.cast_domain.specs.PartCalls.{push_in, with_status, close_in, go_in, take_entries_in}
 use Rattle.cast_domain.specs.Fits.{with_domain, session_for, is_there, Fits}
-use Rattle.cast_domain.proofs.Statuses.{open_remains, status_given, roster, same_roster, set_one, same_status, roster_closed, roster_gone, boxes_set, unused_set}
+use Rattle.cast_domain.proofs.Statuses.{open_remains, status_given, roster, same_roster, set_one}
+use Rattle.cast_domain.proofs.Statuses.{same_status, roster_closed, roster_gone, boxes_set, unused_set}
 use Rattle.cast_domain.proofs.Standing.{orders_same}
 
 -- the records say of each serial how its session stands
@@ -49,12 +50,17 @@ open_given r s fits k is_so = elim (cases_Bool (was_given s.used k)) [
 ]
 
 -- what was pushed is noted on both sides
-pub pushed_more : (r : Records) (s : State) → Fits r s → (k : ℕ) (p : Push) → r.pushed ++ (r.config.domain, k, p) ∷ [] ≡ with_domain s.config.domain (s.pushes ++ (k, p) ∷ [])
+pub pushed_more : (r : Records) (s : State) → Fits r s → (k : ℕ) (p : Push) →
+    r.pushed ++ (r.config.domain, k, p) ∷ [] ≡ with_domain s.config.domain (s.pushes ++ (k, p) ∷ [])
 pushed_more r s fits k p =
-    (λ i. fits.pushed i ++ ((fits.core i).config.domain, k, p) ∷ []) ∙ sym (map-append (λ (x : ℕ × Push). (s.config.domain, x.0, x.1)) s.pushes ((k, p) ∷ []))
+    (λ i. fits.pushed i ++ ((fits.core i).config.domain, k, p) ∷ [])
+    ∙ sym (map-append (λ (x : ℕ × Push). (s.config.domain, x.0, x.1)) s.pushes ((k, p) ∷ []))
 
 -- one session is another, and is not gone where it was not
-fits_session : (r : Records) (s : State) → Fits r s → (k : ℕ) (v : Session) → was_given s.used k ≡ true → (is_gone v ≡ false → is_gone (s.session k) ≡ false) → (rows : List SessionRecord) → rows ≡ roster (set_one s.session k v) (serials s) → (entries : List Push) → entries ≡ v.outbox → Fits (record r { sessions = rows; part = part_boxing r.part k entries }) (set_session s k v)
+fits_session : (r : Records) (s : State) → Fits r s → (k : ℕ) (v : Session) → was_given s.used k ≡ true →
+    (is_gone v ≡ false → is_gone (s.session k) ≡ false) → (rows : List SessionRecord) → rows ≡ roster (set_one s.session k v) (serials s) →
+    (entries : List Push) → entries ≡ v.outbox →
+    Fits (record r { sessions = rows; part = part_boxing r.part k entries }) (set_session s k v)
 fits_session r s fits k v given remains rows listed entries boxed = record {
   core = fits.core;
   opened = record {
@@ -66,10 +72,12 @@ fits_session r s fits k v given remains rows listed entries boxed = record {
   messages = fits.messages;
   processes = record {
     delay = fits.processes.delay;
-    admitted = λ j there. fits.processes.admitted j (elim (k == j) as (λ b. k == j ≡ b → is_gone (if b then v else s.session j) ≡ false → is_gone (s.session j) ≡ false) [
-      | true ↦ λ is left. ap (λ i. is_gone (s.session i)) (sym (eqb-true k j is)) ∙ remains left
-      | false ↦ λ _ left. left
-    ] refl there);
+    admitted = λ j there.
+        fits.processes.admitted j
+        (elim (k == j) as (λ b. k == j ≡ b → is_gone (if b then v else s.session j) ≡ false → is_gone (s.session j) ≡ false) [
+          | true ↦ λ is left. ap (λ i. is_gone (s.session i)) (sym (eqb-true k j is)) ∙ remains left
+          | false ↦ λ _ left. left
+        ] refl there);
     has_row = fits.processes.has_row;
     rows = fits.processes.rows;
     idle = fits.processes.idle;
@@ -82,13 +90,20 @@ fits_session r s fits k v given remains rows listed entries boxed = record {
 }
 
 -- and it is noted that an entry was pushed
-fits_noted_push : (r : Records) (s : State) → Fits r s → (pushed : List (DomainNo × ℕ × Push)) (pushes : List (ℕ × Push)) → pushed ≡ with_domain s.config.domain pushes → Fits (record r { pushed = pushed }) (record s { pushes = pushes })
+fits_noted_push : (r : Records) (s : State) → Fits r s → (pushed : List (DomainNo × ℕ × Push)) (pushes : List (ℕ × Push)) →
+    pushed ≡ with_domain s.config.domain pushes → Fits (record r { pushed = pushed }) (record s { pushes = pushes })
 fits_noted_push r s fits pushed pushes same = record {
   core = fits.core;
   opened = record { rows = fits.opened.rows; boxes = fits.opened.boxes; unused = fits.opened.unused };
   groups = fits.groups;
   messages = fits.messages;
-  processes = record { delay = fits.processes.delay; admitted = fits.processes.admitted; has_row = fits.processes.has_row; rows = fits.processes.rows; idle = fits.processes.idle };
+  processes = record {
+    delay = fits.processes.delay;
+    admitted = fits.processes.admitted;
+    has_row = fits.processes.has_row;
+    rows = fits.processes.rows;
+    idle = fits.processes.idle;
+  };
   acks = fits.acks;
   orders = orders_same s (record s { pushes = pushes }) r.orders refl refl refl refl refl refl refl refl (λ u is. is) fits.orders;
   frames = fits.frames;
@@ -97,7 +112,8 @@ fits_noted_push r s fits pushed pushes same = record {
 }
 
 -- an open session is told of an entry
-pub fits_push : (r : Records) (s : State) → Fits r s → (k : ℕ) → is_open (s.session k) ≡ true → (p : Push) → Fits (push_in r k p) (pushing s k p)
+pub fits_push : (r : Records) (s : State) → Fits r s → (k : ℕ) → is_open (s.session k) ≡ true → (p : Push) →
+    Fits (push_in r k p) (pushing s k p)
 fits_push r s fits k is p =
     let v : Session = pushed_to (s.session k) p in
     subst (λ b. Fits (push_in r k p) (if b then with_push s k v p else s)) (sym is)
@@ -108,19 +124,23 @@ fits_push r s fits k is p =
     (r.pushed ++ (r.config.domain, k, p) ∷ []) (s.pushes ++ (k, p) ∷ []) (pushed_more r s fits k p))
 
 -- it is closed
-pub fits_close : (r : Records) (s : State) → Fits r s → (k : ℕ) → is_open (s.session k) ≡ true → (refusal : Refusal) → Fits (close_in r k refusal) (closing s k refusal)
+pub fits_close : (r : Records) (s : State) → Fits r s → (k : ℕ) → is_open (s.session k) ≡ true → (refusal : Refusal) →
+    Fits (close_in r k refusal) (closing s k refusal)
 fits_close r s fits k is refusal =
     let v : Session = tell_end refusal (s.session k) in
     let there : is_there s.session k ≡ true = ap not (open_remains (s.session k) is) in
     subst (λ b. Fits (close_in r k refusal) (if b then with_push s k v (push.Closed refusal) else s)) (sym is)
-    (fits_noted_push (record r { sessions = map (with_status k Closed) r.sessions; part = part_pushing r.part k (push.Closed refusal) }) (set_session s k v)
+    (fits_noted_push (record r { sessions = map (with_status k Closed) r.sessions; part = part_pushing r.part k (push.Closed refusal) })
+    (set_session s k v)
     (fits_session r s fits k v (open_given r s fits k is) (λ _. open_remains (s.session k) is) (map (with_status k Closed) r.sessions)
     (ap (map (with_status k Closed)) fits.opened.rows ∙ roster_closed s.session k v refl there (serials s))
     (r.part.outboxes k ++ push.Closed refusal ∷ []) (ap (λ entries. entries ++ push.Closed refusal ∷ []) (box_there r s fits k)))
-    (r.pushed ++ (r.config.domain, k, push.Closed refusal) ∷ []) (s.pushes ++ (k, push.Closed refusal) ∷ []) (pushed_more r s fits k (push.Closed refusal)))
+    (r.pushed ++ (r.config.domain, k, push.Closed refusal) ∷ []) (s.pushes ++ (k, push.Closed refusal) ∷ [])
+    (pushed_more r s fits k (push.Closed refusal)))
 
 -- the first entries of its outbox are taken, where it is not gone
-pub fits_take_entries : (r : Records) (s : State) → Fits r s → (k most : ℕ) → is_gone (s.session k) ≡ false → Fits (take_entries_in r k most) (taking s k most)
+pub fits_take_entries : (r : Records) (s : State) → Fits r s → (k most : ℕ) → is_gone (s.session k) ≡ false →
+    Fits (take_entries_in r k most) (taking s k most)
 fits_take_entries r s fits k most remains =
     let v : Session = taken_from most (s.session k) in
     fits_session r s fits k v given (λ left. left) r.sessions
@@ -140,16 +160,19 @@ fits_go r s fits k = record {
   opened = record {
     rows = ap (filter (λ (x : SessionRecord). not (x.serial == k))) fits.opened.rows ∙ roster_gone s.session k (serials s);
     boxes = boxes_set s.session r.part.outboxes fits.opened.boxes k no_session [] refl;
-    unused = λ j none. elim (k == j) as (λ b. (if b then no_session else s.session j) ≡ no_session) [ true ↦ refl | false ↦ fits.opened.unused j none ];
+    unused = λ j none.
+        elim (k == j) as (λ b. (if b then no_session else s.session j) ≡ no_session) [ true ↦ refl | false ↦ fits.opened.unused j none ];
   };
   groups = fits.groups;
   messages = fits.messages;
   processes = record {
     delay = fits.processes.delay;
-    admitted = λ j there. fits.processes.admitted j (elim (k == j) as (λ b. is_gone (if b then no_session else s.session j) ≡ false → is_gone (s.session j) ≡ false) [
-      | true ↦ λ left. absurd (false≢true (sym left))
-      | false ↦ λ left. left
-    ] there);
+    admitted = λ j there.
+        fits.processes.admitted j
+        (elim (k == j) as (λ b. is_gone (if b then no_session else s.session j) ≡ false → is_gone (s.session j) ≡ false) [
+          | true ↦ λ left. absurd (false≢true (sym left))
+          | false ↦ λ left. left
+        ] there);
     has_row = fits.processes.has_row;
     rows = fits.processes.rows;
     idle = fits.processes.idle;
@@ -162,15 +185,23 @@ fits_go r s fits k = record {
 }
 
 -- what both may use, and how many casts they count, is another
-pub fits_counted : (r : Records) (s : State) → Fits r s → (quotas : Quotas → Quotas) (casts : ℕ → ℕ) → Fits (record r { quotas = quotas r.quotas; casts = casts r.casts }) (record s { quotas = quotas s.quotas; casts = casts s.casts })
+pub fits_counted : (r : Records) (s : State) → Fits r s → (quotas : Quotas → Quotas) (casts : ℕ → ℕ) →
+    Fits (record r { quotas = quotas r.quotas; casts = casts r.casts }) (record s { quotas = quotas s.quotas; casts = casts s.casts })
 fits_counted r s fits quotas casts = record {
   core = λ i. record (fits.core i) { quotas = quotas (fits.core i).quotas; casts = casts (fits.core i).casts };
   opened = record { rows = fits.opened.rows; boxes = fits.opened.boxes; unused = fits.opened.unused };
   groups = fits.groups;
   messages = fits.messages;
-  processes = record { delay = fits.processes.delay; admitted = fits.processes.admitted; has_row = fits.processes.has_row; rows = fits.processes.rows; idle = fits.processes.idle };
+  processes = record {
+    delay = fits.processes.delay;
+    admitted = fits.processes.admitted;
+    has_row = fits.processes.has_row;
+    rows = fits.processes.rows;
+    idle = fits.processes.idle;
+  };
   acks = fits.acks;
-  orders = orders_same s (record s { quotas = quotas s.quotas; casts = casts s.casts }) r.orders refl refl refl refl refl refl refl refl (λ u is. is) fits.orders;
+  orders = orders_same s (record s { quotas = quotas s.quotas; casts = casts s.casts }) r.orders refl refl refl refl refl refl refl refl
+      (λ u is. is) fits.orders;
   frames = fits.frames;
   delivered = fits.delivered;
   pushed = fits.pushed;

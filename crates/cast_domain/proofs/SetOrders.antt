@@ -59,11 +59,15 @@ sent_at r p x places =
     } in
     send_message records (note_sent_by r p m) m
 
-fits_places : (r : Records) (s : State) → Fits r s → IsLawful s → (k : ℕ) (g : GroupNo) → is_member ((s.process k).standing g) ≡ true → may_raise (s.process k).time g (local s k) ≡ true → (q : Placement) → Fits (sent_at r (local s k) (record_for s g) q) (sending s g k (body.Order q))
+fits_places : (r : Records) (s : State) → Fits r s → IsLawful s → (k : ℕ) (g : GroupNo) → is_member ((s.process k).standing g) ≡ true →
+    may_raise (s.process k).time g (local s k) ≡ true → (q : Placement) →
+    Fits (sent_at r (local s k) (record_for s g) q) (sending s g k (body.Order q))
 fits_places r s f l k g member raises q =
     subst (λ x. Fits x (sending s g k (body.Order q))) (sym same)
-    (fits_send_message_with (note_sent_by r p m) s1 noted m (next_sound s g k (body.Order q) l member) (live_now s1 (source_of m.id) refl (local_speaks s1 g k)) (learn_in (note_sent_by r p m).orders g (body.Order q))
-    (logs_receive s1 m (note_sent_by r p m).orders noted.orders (eq-eqb (s.group g).number (s.group g).number refl) (noted_new r s f l k g (body.Order q) member raises)))
+    (fits_send_message_with (note_sent_by r p m) s1 noted m (next_sound s g k (body.Order q) l member)
+    (live_now s1 (source_of m.id) refl (local_speaks s1 g k)) (learn_in (note_sent_by r p m).orders g (body.Order q))
+    (logs_receive s1 m (note_sent_by r p m).orders noted.orders (eq-eqb (s.group g).number (s.group g).number refl)
+    (noted_new r s f l k g (body.Order q) member raises)))
   where
     p : Proc
     p = local s k
@@ -93,7 +97,10 @@ fits_places r s f l k g member raises q =
             send_message records (note_sent_by r p x) x
 
 -- six tests, one after another
-choose : (m w o e h y : Bool) (x : Placement → Records) (z : Placement → State) (q : Placement) (r : Records) (s : State) → Fits r s → (m ≡ true → w ≡ true → o ≡ true → e ≡ true → h ≡ true → y ≡ true → Fits (x q) (z q)) → Fits (if m && (w && o) then option_map_or (λ p. if y then x p else r) (if e && h then Some q else None) r else r) (if m && (w && o) then option_map_or (λ p. if y then z p else s) (if e && h then Some q else None) s else s)
+choose : (m w o e h y : Bool) (x : Placement → Records) (z : Placement → State) (q : Placement) (r : Records) (s : State) → Fits r s →
+    (m ≡ true → w ≡ true → o ≡ true → e ≡ true → h ≡ true → y ≡ true → Fits (x q) (z q)) →
+    Fits (if m && (w && o) then option_map_or (λ p. if y then x p else r) (if e && h then Some q else None) r else r)
+    (if m && (w && o) then option_map_or (λ p. if y then z p else s) (if e && h then Some q else None) s else s)
 choose false w o e h y x z q r s f go = f
 choose true false o e h y x z q r s f go = f
 choose true true false e h y x z q r s f go = f
@@ -106,15 +113,20 @@ choose true true true true true true x z q r s f go = go refl refl refl refl ref
 abbrev set_at_hand : Records → Proc → GroupRecord → Records
 set_at_hand r p x =
     if is_member (standing_of r.delay p x.name) && (not x.here.frozen && may_order records r)
-    then option_map_or (λ places. if may_raise (time_of r.delay p) x.name p then release.let_go records resting_records (sent_at r p x places) else r) (next_places (log_in r x.name) p) r
+    then option_map_or (λ places. if may_raise (time_of r.delay p) x.name p
+    then release.let_go records resting_records (sent_at r p x places)
+    else r) (next_places (log_in r x.name) p) r
     else r
 
-pub fits_set_order_by : (r : Records) (s : State) → Fits r s → IsLawful s → (i : ℕ) (g : GroupNo) → slice_get s.config.groups i ≡ Some g → (k : ℕ) → Fits (order.set_order_by records resting_records r i k) (set_order_by s g k)
+pub fits_set_order_by : (r : Records) (s : State) → Fits r s → IsLawful s → (i : ℕ) (g : GroupNo) → slice_get s.config.groups i ≡ Some g →
+    (k : ℕ) → Fits (order.set_order_by records resting_records r i k) (set_order_by s g k)
 fits_set_order_by r s f l i g at k =
-    subst (λ t. Fits (set_at_hand r (record { site = t; serial = k }) (record_at r.groups i)) (set_order_by s g k)) (sym (ap (λ c. c.site) f.core))
+    subst (λ t. Fits (set_at_hand r (record { site = t; serial = k }) (record_at r.groups i)) (set_order_by s g k))
+    (sym (ap (λ c. c.site) f.core))
     (subst (λ x. Fits (set_at_hand r p x) (set_order_by s g k)) (sym (record_there r s f i g at))
     (subst (λ x. Fits x (set_order_by s g k)) (sym tested)
-    (choose member unfrozen room some place raised (λ q. release.let_go records resting_records (sent_at r p (record_for s g) q)) (λ q. let_go (sending s g k (body.Order q))) (places_of s g k) r s f sets)))
+    (choose member unfrozen room some place raised (λ q. release.let_go records resting_records (sent_at r p (record_for s g) q))
+    (λ q. let_go (sending s g k (body.Order q))) (places_of s g k) r s f sets)))
   where
     p : Proc
     p = local s k
@@ -139,10 +151,15 @@ fits_set_order_by r s f l i g at k =
 
     -- where it may list
     at_hand : Records
-    at_hand = option_map_or (λ q. if may_raise (time_of r.delay p) g p then release.let_go records resting_records (sent_at r p (record_for s g) q) else r) (next_places (log_in r g) p) r
+    at_hand =
+        option_map_or (λ q. if may_raise (time_of r.delay p) g p
+        then release.let_go records resting_records (sent_at r p (record_for s g) q)
+        else r) (next_places (log_in r g) p) r
 
     listing : Records
-    listing = option_map_or (λ q. if raised then release.let_go records resting_records (sent_at r p (record_for s g) q) else r) (if some && place then Some (places_of s g k) else None) r
+    listing =
+        option_map_or (λ q. if raised then release.let_go records resting_records (sent_at r p (record_for s g) q) else r)
+        (if some && place then Some (places_of s g k) else None) r
 
     tested : set_at_hand r p (record_for s g) ≡ (if member && (unfrozen && room) then listing else r)
     tested = elim (cases_Bool member) [
@@ -151,7 +168,8 @@ fits_set_order_by r s f l i g at k =
             let row = member_row r s f k g is in
             (λ j.
             if is_member (standing_there r s f k g j) && (unfrozen && order_room_there r s f j)
-            then option_map_or (λ q. if may_raise (time_there r s f k row j) g p then release.let_go records resting_records (sent_at r p (record_for s g) q) else r) (places_there r s f g k (unfrozen_waits s l g goes) j) r
+            then option_map_or (λ q. if may_raise (time_there r s f k row j) g p then release.let_go records resting_records
+            (sent_at r p (record_for s g) q) else r) (places_there r s f g k (unfrozen_waits s l g goes) j) r
             else r)
         | inr frozen ↦
             ap (λ b. if is_member (standing_of r.delay p g) && (b && may_order records r) then at_hand else r) frozen
@@ -163,10 +181,13 @@ fits_set_order_by r s f l i g at k =
           ∙ sym (ap (λ b. if b && (unfrozen && room) then listing else r) away)
     ]
 
-    sets : member ≡ true → unfrozen ≡ true → room ≡ true → some ≡ true → place ≡ true → raised ≡ true → Fits (release.let_go records resting_records (sent_at r p (record_for s g) (places_of s g k))) (let_go (sending s g k (body.Order (places_of s g k))))
+    sets : member ≡ true → unfrozen ≡ true → room ≡ true → some ≡ true →
+        place ≡ true → raised ≡ true → Fits (release.let_go records resting_records (sent_at r p (record_for s g) (places_of s g k)))
+        (let_go (sending s g k (body.Order (places_of s g k))))
     sets a w b c d e =
         let q : Placement = places_of s g k in
-        let may : may_set_order s g k ≡ true = and_from member _ a (and_from unfrozen _ w (and_from room _ b (and_from some _ c (and_from place raised d e)))) in
+        let may : may_set_order s g k ≡ true =
+        and_from member _ a (and_from unfrozen _ w (and_from room _ b (and_from some _ c (and_from place raised d e)))) in
         fits_let_go (sent_at r p (record_for s g) q) (sending s g k (body.Order q))
         (fits_places r s f l k g a e q)
         (lawful_order_sent s g k (body.Order q) l may)

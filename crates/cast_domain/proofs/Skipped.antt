@@ -1,5 +1,6 @@
 -- Processes that are in no group are passed over: a round that goes on behind them is the round that goes on with them.
-use Rattle.std.proofs.Common.{◌≡◌, ◌≤◌, ◌<◌, ◌+◌, ◌-◌, ℕ, zero, suc, Bool, false, drop, Some, None, refl, sym, ap, subst, ◌∙◌, inl, inr, arith}
+use Rattle.std.proofs.Common.{◌≡◌, ◌≤◌, ◌<◌, ◌+◌, ◌-◌, ℕ, zero, suc, Bool, false, drop}
+use Rattle.std.proofs.Common.{Some, None, refl, sym, ap, subst, ◌∙◌, inl, inr, arith}
 use Rattle.std.specs.Prelude.{◌||◌, slice_get}
 use Rattle.std.specs.List.{fold}
 use Rattle.std.specs.Option.{option_map}
@@ -28,7 +29,9 @@ delivers_from first r i = changes_over has_ready (deliver_all records resting_re
 
 -- from a place to another the rows are of processes of this site for which no message is ready
 abbrev AreIdle : Records → ℕ → ℕ → Type 0
-AreIdle r from upto = (i : ℕ) (row : Row) → from ≤ i → i < upto → slice_get r.delay.rows i ≡ Some row → (row.process.site ≡ r.site) × SaysMayDeliver r.delay row.process false
+AreIdle r from upto =
+    (i : ℕ) (row : Row) → from ≤ i → i < upto → slice_get r.delay.rows i ≡ Some row →
+    (row.process.site ≡ r.site) × SaysMayDeliver r.delay row.process false
 
 abbrev AreAlike : Records → Records → ℕ → ℕ → Type 0
 AreAlike first r i j = (rest_from first r i ≡ rest_from first r j) × (delivers_from first r i ≡ delivers_from first r j)
@@ -44,9 +47,12 @@ module _ (first r : Records) (same : RemainAs first r) where
         let none : ready_key_in r (local_in r p.serial) ≡ None = ap (ready_key_in r) own ∙ is.1 refl (turns_in r p) in
         let items = round_items first r same i p (ap (option_map (λ (y : Row). y.process)) at) in
         let left = drop (i + 1) (serials_in first) in (
-          ap (fold (deliver_all records resting_records) r) items ∙ ap (λ t. fold (deliver_all records resting_records) t left) (delivers_none r p.serial none),
+          ap (fold (deliver_all records resting_records) r) items
+              ∙ ap (λ t. fold (deliver_all records resting_records) t left) (delivers_none r p.serial none),
           ap (changes_over has_ready (deliver_all records resting_records) r) items
-              ∙ ap (λ b. b || changes_over has_ready (deliver_all records resting_records) (deliver_all records resting_records r p.serial) left) (not_ready r p.serial none)
+              ∙ ap
+              (λ b. b || changes_over has_ready (deliver_all records resting_records) (deliver_all records resting_records r p.serial) left)
+              (not_ready r p.serial none)
               ∙ ap (λ t. changes_over has_ready (deliver_all records resting_records) t left) (delivers_none r p.serial none),
         )
     | inr (past, gone) ↦
@@ -80,7 +86,8 @@ pub record IsRound (first : Records) (r : Records) (changed : Bool) (i : ℕ) : 
 pub round_begins : (r : Records) → IsRound r r false 0
 round_begins r = record { remain = remain_as r; left = refl; told = refl; still = λ e. refl }
 
-pub round_skips : (first r : Records) (changed : Bool) (from upto : ℕ) → IsRound first r changed from → from ≤ upto → AreIdle r from upto → IsRound first r changed upto
+pub round_skips : (first r : Records) (changed : Bool) (from upto : ℕ) → IsRound first r changed from → from ≤ upto → AreIdle r from upto →
+    IsRound first r changed upto
 round_skips first r changed from upto so_far le idle =
     let over = passed_over first r so_far.remain from upto le idle in
     record {
@@ -91,22 +98,27 @@ round_skips first r changed from upto so_far le idle =
     }
 
 -- the process at a place delivers
-pub round_delivers : (first r v : Records) (changed delivered : Bool) (i : ℕ) (p : Proc) → IsRound first r changed i → option_map (λ row. row.process) (slice_get r.delay.rows i) ≡ Some p → v ≡ deliver_all records resting_records r p.serial → delivered ≡ has_ready r p.serial → (delivered ≡ false → v ≡ r) → IsRound first v (changed || delivered) (i + 1)
+pub round_delivers : (first r v : Records) (changed delivered : Bool) (i : ℕ) (p : Proc) → IsRound first r changed i →
+    option_map (λ row. row.process) (slice_get r.delay.rows i) ≡ Some p → v ≡ deliver_all records resting_records r p.serial →
+    delivered ≡ has_ready r p.serial → (delivered ≡ false → v ≡ r) → IsRound first v (changed || delivered) (i + 1)
 round_delivers first r v changed delivered i p so_far at made told still =
     record {
-      remain = subst (RemainAs first) (sym made) (remain_deliver_all first.site (names_of first.delay.rows) (gone_of first) r so_far.remain p.serial);
+      remain = subst (RemainAs first) (sym made)
+          (remain_deliver_all first.site (names_of first.delay.rows) (gone_of first) r so_far.remain p.serial);
       left =
           ap (λ x. fold (deliver_all records resting_records) x (drop (i + 1) (serials_in first))) made
           ∙ round_next (deliver_all records resting_records) first r so_far.remain i p at
           ∙ so_far.left;
-      told = round_changes has_ready (deliver_all records resting_records) first r v so_far.remain changed delivered i p at told made ∙ so_far.told;
+      told = round_changes has_ready (deliver_all records resting_records) first r v so_far.remain changed delivered i p at told made
+          ∙ so_far.told;
       still = λ e.
           let parts = or_parts changed delivered e in
           still parts.1 ∙ so_far.still parts.0;
     }
 
 -- there is none
-pub round_passes : (first r : Records) (changed : Bool) (i : ℕ) → IsRound first r changed i → option_map (λ row. row.process) (slice_get r.delay.rows i) ≡ None → IsRound first r changed (i + 1)
+pub round_passes : (first r : Records) (changed : Bool) (i : ℕ) → IsRound first r changed i →
+    option_map (λ row. row.process) (slice_get r.delay.rows i) ≡ None → IsRound first r changed (i + 1)
 round_passes first r changed i so_far none =
     let over = round_over first r so_far.remain i none in
     record {

@@ -3,7 +3,8 @@
 -- is. The messages received are the same before and after, so no message was sent; a row that is
 -- the same tells of the same deliveries; a process without a row is in no group, and delivers
 -- nothing. As many Installs wait and as many Wants are to be owed, so nothing else was done.
-use Rattle.std.proofs.Common.{◌≡◌, ℕ, zero, suc, ◌+◌, ◌*◌, ◌<◌, Bool, true, false, not, List, [], ◌∷◌, ◌++◌, length, map, Option, Some, None, refl, sym, ap, subst, ◌∙◌, inl, inr, arith}
+use Rattle.std.proofs.Common.{◌≡◌, ℕ, zero, suc, ◌+◌, ◌*◌, ◌<◌, Bool, true, false, not, List, [], ◌∷◌, ◌++◌}
+use Rattle.std.proofs.Common.{length, map, Option, Some, None, refl, sym, ap, subst, ◌∙◌, inl, inr, arith}
 use Rattle.std.specs.Prelude.{◌&&◌, ◌||◌, ◌==◌, if◌then◌else◌, filter}
 use Rattle.std.specs.List.{fold, find, flat_map, range_with_len}
 use Rattle.std.proofs.lemmas.Bool.{cases_lt, and_parts, or_left, or_right, eqb-true, false≢true, false_from_ne_true}
@@ -46,7 +47,8 @@ use Rattle.cast_view.specs.Home.{wants_in}
 use Rattle.cast_rules.specs.Rules.Keys.{want_key, message_key}
 use Rattle.cast_rules.specs.Rules.Flushes.{go_on_all}
 use Rattle.cast_rules.specs.Rules.Home.{lead}
-use Rattle.cast_rules.specs.Endings.{total, one_if, left_count, rank, ranks, undelivered_count, is_to_come, to_list_by, to_list_in, to_list, to_do, site_unowed, unowed_in, unowed_count, pendings}
+use Rattle.cast_rules.specs.Endings.{total, one_if, left_count, rank, ranks, undelivered_count, is_to_come, to_list_by}
+use Rattle.cast_rules.specs.Endings.{to_list_in, to_list, to_do, site_unowed, unowed_in, unowed_count, pendings}
 use Rattle.cast_domain.specs.Records.{Records}
 use Rattle.cast_domain.specs.Fits.{record_for, process_named, Fits}
 use Rattle.cast_rules.proofs.Alikes.{Alike, alike_sending}
@@ -85,7 +87,13 @@ pub record Goes (s t : State) : Type 0 where
   pub noted : (k : ℕ) → HasSame s t k → t.abcasts k ≡ s.abcasts k
 
 goes_self : (s : State) → Goes s s
-goes_self s = record { got = same_on s.got s.got refl; number = λ g. refl; ended = λ k u old. refl; more = λ k u is. is; noted = λ k same. refl }
+goes_self s = record {
+  got = same_on s.got s.got refl;
+  number = λ g. refl;
+  ended = λ k u old. refl;
+  more = λ k u is. is;
+  noted = λ k same. refl;
+}
 
 goes_then : (s t x : State) → Goes s t → Goes t x → Goes s x
 goes_then s t x a b = record {
@@ -94,7 +102,8 @@ goes_then s t x a b = record {
   ended = λ k u old. b.ended k u (subst (λ n. u.view < n) (sym (a.number u.group)) old) ∙ a.ended k u old;
   more = λ k u is. b.more k u (a.more k u is);
   noted = λ k same.
-      let first : HasSame s t k = λ u. same_bools (has_delivered (t.process k) u) (has_delivered (s.process k) u) (λ is. sym (same u) ∙ b.more k u is) (a.more k u) in
+      let first : HasSame s t k =
+      λ u. same_bools (has_delivered (t.process k) u) (has_delivered (s.process k) u) (λ is. sym (same u) ∙ b.more k u is) (a.more k u) in
       b.noted k (λ u. same u ∙ sym (first u)) ∙ a.noted k first;
 }
 
@@ -119,10 +128,12 @@ goes_delivery s k m ready = record {
     d : Delivers k m s (delivering_one s k m)
     d = delivers s k m
 
-    has_more : (j : ℕ) (u : Uid) → has_delivered (s.process j) u ≡ true → (b : Bool) → (k == j) ≡ b → is_among uid_eq u (if b then (s.process k).delivered ++ m.id ∷ [] else (s.process j).delivered) ≡ true
+    has_more : (j : ℕ) (u : Uid) → has_delivered (s.process j) u ≡ true → (b : Bool) → (k == j) ≡ b →
+        is_among uid_eq u (if b then (s.process k).delivered ++ m.id ∷ [] else (s.process j).delivered) ≡ true
     has_more j u is true same =
         list_any-append (uid_eq u) (s.process k).delivered (m.id ∷ [])
-        ∙ or_left (has_delivered (s.process k) u) (is_among uid_eq u (m.id ∷ [])) (ap (λ i. has_delivered (s.process i) u) (eqb-true k j same) ∙ is)
+        ∙ or_left (has_delivered (s.process k) u) (is_among uid_eq u (m.id ∷ []))
+        (ap (λ i. has_delivered (s.process i) u) (eqb-true k j same) ∙ is)
     has_more j u is false other = is
 
     -- who delivered it has delivered more
@@ -131,15 +142,19 @@ goes_delivery s k m ready = record {
         ap (is_among uid_eq m.id) (d.delivered j)
         ∙ ap (λ b. is_among uid_eq m.id (if b then (s.process k).delivered ++ m.id ∷ [] else (s.process j).delivered)) same
         ∙ list_any-append (uid_eq m.id) (s.process k).delivered (m.id ∷ [])
-        ∙ or_right (has_delivered (s.process k) m.id) (is_among uid_eq m.id (m.id ∷ [])) (or_left (uid_eq m.id m.id) false (uid_itself m.id))
+        ∙ or_right (has_delivered (s.process k) m.id) (is_among uid_eq m.id (m.id ∷ []))
+        (or_left (uid_eq m.id m.id) false (uid_itself m.id))
 
     not_noted : (j : ℕ) → HasSame s (delivering_one s k m) j → (b : Bool) → (k == j) ≡ b → abcasts_with s k m j ≡ s.abcasts j
     not_noted j same true this =
-        absurd (false≢true (sym (ap (λ i. has_delivered (s.process i) m.id) (sym (eqb-true k j this)) ∙ ready_new s k m ready) ∙ sym (same m.id) ∙ now_delivered j this))
-    not_noted j same false other = elim (is_atomic (kind_of m.body)) as (λ b. (if b then set_at (λ x y. x == y) s.abcasts k (s.abcasts k ++ m.id ∷ []) else s.abcasts) j ≡ s.abcasts j) [
-      | true ↦ ap (λ b. if b then s.abcasts k ++ m.id ∷ [] else s.abcasts j) other
-      | false ↦ refl
-    ]
+        absurd (false≢true (sym (ap (λ i. has_delivered (s.process i) m.id) (sym (eqb-true k j this)) ∙ ready_new s k m ready)
+        ∙ sym (same m.id) ∙ now_delivered j this))
+    not_noted j same false other =
+        elim (is_atomic (kind_of m.body))
+        as (λ b. (if b then set_at (λ x y. x == y) s.abcasts k (s.abcasts k ++ m.id ∷ []) else s.abcasts) j ≡ s.abcasts j) [
+          | true ↦ ap (λ b. if b then s.abcasts k ++ m.id ∷ [] else s.abcasts j) other
+          | false ↦ refl
+        ]
 
     current : m.id.view ≡ (s.group m.id.group).number
     current =
@@ -153,7 +168,8 @@ goes_delivery s k m ready = record {
         let number = ap (λ (x : Uid). (s.group x.group).number) is in
         omega (arith, view, number, old, current))
 
-    still : (j : ℕ) (u : Uid) → u.view < (s.group u.group).number → (b : Bool) → (k == j) ≡ b → is_among uid_eq u (if b then (s.process k).delivered ++ m.id ∷ [] else (s.process j).delivered) ≡ has_delivered (s.process j) u
+    still : (j : ℕ) (u : Uid) → u.view < (s.group u.group).number → (b : Bool) → (k == j) ≡ b →
+        is_among uid_eq u (if b then (s.process k).delivered ++ m.id ∷ [] else (s.process j).delivered) ≡ has_delivered (s.process j) u
     still j u old true same =
         list_any-append (uid_eq u) (s.process k).delivered (m.id ∷ [])
         ∙ or_neither (has_delivered (s.process k) u) (uid_eq u m.id) (other u old)
@@ -163,13 +179,16 @@ goes_delivery s k m ready = record {
 goes_first : (k : ℕ) (s : State) → Goes s (deliver_first k s)
 goes_first k s = found (find (is_ready_for s k) s.got) refl
   where
-    found : (o : Option Message) → find (is_ready_for s k) s.got ≡ o → Goes s (elim o as (λ _. State) [ Some m ↦ delivering_one s k m | None ↦ s ])
+    found : (o : Option Message) → find (is_ready_for s k) s.got ≡ o →
+        Goes s (elim o as (λ _. State) [ Some m ↦ delivering_one s k m | None ↦ s ])
     found (Some m) is = goes_delivery s k m (found_passes (is_ready_for s k) s.got m is)
     found None is = goes_self s
 
 goes_iterate : (n k : ℕ) (s : State) → Goes s (iterate n (deliver_first k) s)
 goes_iterate zero k s = goes_self s
-goes_iterate (suc n) k s = goes_then s (deliver_first k s) (iterate n (deliver_first k) (deliver_first k s)) (goes_first k s) (goes_iterate n k (deliver_first k s))
+goes_iterate (suc n) k s =
+    goes_then s (deliver_first k s) (iterate n (deliver_first k) (deliver_first k s)) (goes_first k s)
+    (goes_iterate n k (deliver_first k s))
 
 goes_order_by : (g : GroupNo) (s : State) (k : ℕ) → Goes s (set_order_by s g k)
 goes_order_by g s k =
@@ -248,11 +267,15 @@ idle_first s k j out = found (find (is_ready_for s j) s.got) refl
     by_serial : (m : Message) → is_ready_for s j m ≡ true → (b : Bool) → (j == k) ≡ b → (with_delivery s j m).process k ≡ s.process k
     by_serial m ready true same =
         let member = (and_parts (is_member ((s.process j).standing m.id.group)) _ (ready_causally s j m ready)).0 in
-        absurd (false≢true (sym (out m.id.group) ∙ ap (λ i. is_member ((s.process i).standing m.id.group)) (sym (eqb-true j k same)) ∙ member))
+        absurd
+        (false≢true (sym (out m.id.group) ∙ ap (λ i. is_member ((s.process i).standing m.id.group)) (sym (eqb-true j k same)) ∙ member))
     by_serial m ready false other =
-        ap (λ b. if b then record (s.process j) { time = join (s.process j).time m.times; delivered = (s.process j).delivered ++ m.id ∷ [] } else s.process k) other
+        ap (λ b. if b
+        then record (s.process j) { time = join (s.process j).time m.times; delivered = (s.process j).delivered ++ m.id ∷ [] }
+        else s.process k) other
 
-    found : (o : Option Message) → find (is_ready_for s j) s.got ≡ o → StaysIdle s (elim o as (λ _. State) [ Some m ↦ delivering_one s j m | None ↦ s ]) k
+    found : (o : Option Message) → find (is_ready_for s j) s.got ≡ o →
+        StaysIdle s (elim o as (λ _. State) [ Some m ↦ delivering_one s j m | None ↦ s ]) k
     found (Some m) is =
         let same = by_serial m (found_passes (is_ready_for s j) s.got m is) (j == k) refl in
         let told = tells_told_if (with_delivery s j m) j (told_of m.id m.body) in record {
@@ -266,7 +289,8 @@ idle_turns : (n j : ℕ) (s : State) (k : ℕ) → IsNoMember s k → StaysIdle 
 idle_turns zero j s k out = record { delivered = refl; outside = λ none. none }
 idle_turns (suc n) j s k out =
     let first = idle_first s k j out in
-    stays_then s (deliver_first j s) (iterate n (deliver_first j) (deliver_first j s)) k first (idle_turns n j (deliver_first j s) k (first.outside out))
+    stays_then s (deliver_first j s) (iterate n (deliver_first j) (deliver_first j s))
+    k first (idle_turns n j (deliver_first j s) k (first.outside out))
 
 idle_settle : (ks : List ℕ) (s : State) (k : ℕ) → IsNoMember s k → StaysIdle s (fold deliver_all s ks) k
 idle_settle [] s k out = record { delivered = refl; outside = λ none. none }
@@ -279,12 +303,14 @@ idle_order_by : (s : State) (g : GroupNo) (j k : ℕ) → ((set_order_by s g j).
 idle_order_by s g j k =
     let content : Body = body.Order (places_of s g j) in
     subst (λ (t : State). (t.process k).delivered ≡ (s.process k).delivered) (sym (set_order_is s g j))
-    (elim (may_set_order s g j) as (λ b. ((if b then let_go (sending s g j content) else s).process k).delivered ≡ (s.process k).delivered) [
+    (elim (may_set_order s g j)
+    as (λ b. ((if b then let_go (sending s g j content) else s).process k).delivered ≡ (s.process k).delivered) [
       | true ↦ (alike_sending s g j content).delivered k
       | false ↦ refl
     ])
 
-idle_holders : (g : GroupNo) (js : List ℕ) (s : State) (k : ℕ) → ((fold (λ t j. set_order_by t g j) s js).process k).delivered ≡ (s.process k).delivered
+idle_holders : (g : GroupNo) (js : List ℕ) (s : State) (k : ℕ) →
+    ((fold (λ t j. set_order_by t g j) s js).process k).delivered ≡ (s.process k).delivered
 idle_holders g [] s k = refl
 idle_holders g (j ∷ js) s k = idle_holders g js (set_order_by s g j) k ∙ idle_order_by s g j k
 
@@ -295,7 +321,8 @@ idle_orders : (gs : List GroupNo) (s : State) (k : ℕ) → ((fold set_order s g
 idle_orders [] s k = refl
 idle_orders (g ∷ gs) s k = idle_orders gs (set_order s g) k ∙ idle_order s g k
 
-idle_pass : (s : State) → pendings (pass s) ≡ pendings s → (k : ℕ) → IsNoMember s k → ((pass s).process k).delivered ≡ (s.process k).delivered
+idle_pass : (s : State) → pendings (pass s) ≡ pendings s → (k : ℕ) → IsNoMember s k →
+    ((pass s).process k).delivered ≡ (s.process k).delivered
 idle_pass s as_many k out =
     let t : State = settle s in
     let u : State = set_orders t in
@@ -323,7 +350,8 @@ no_more before after (more, is) same = is ∙ at more (let long = ap length is �
 -- Histories of the same messages and records
 
 -- they have the same to do, where one goes on from the other
-pub same_to_do : (r : Records) (s t : State) → Fits r s → Fits r t → Goes s t → ((k : ℕ) → IsNoMember s k → (t.process k).delivered ≡ (s.process k).delivered) → t.got ≡ s.got → to_do t ≡ to_do s
+pub same_to_do : (r : Records) (s t : State) → Fits r s → Fits r t → Goes s t →
+    ((k : ℕ) → IsNoMember s k → (t.process k).delivered ≡ (s.process k).delivered) → t.got ≡ s.got → to_do t ≡ to_do s
 same_to_do r s t a b goes idle got = λ i. undelivered_same i + ranks_same i + (used_same i + 1) * lists_same i
   where
     here_same : t.here ≡ s.here
@@ -344,8 +372,10 @@ same_to_do r s t a b goes idle got = λ i. undelivered_same i + ranks_same i + (
         | inr stands ↦
             let number = goes.number u.group in
             ap (λ p. has_delivered p u) (sym (named_same k))
-            ∙ sym (delivered_by t.config.groups (gate_of t) (process_named t) r.part.kept r.delay b.processes.delay (local s k) row at u (omega (arith, stands, number)))
-            ∙ delivered_by s.config.groups (gate_of s) (process_named s) r.part.kept r.delay a.processes.delay (local s k) row at u (omega (arith, stands))
+            ∙ sym (delivered_by t.config.groups (gate_of t) (process_named t) r.part.kept r.delay b.processes.delay (local s k)
+            row at u (omega (arith, stands, number)))
+            ∙ delivered_by s.config.groups (gate_of s) (process_named s) r.part.kept r.delay a.processes.delay (local s k)
+            row at u (omega (arith, stands))
             ∙ ap (λ p. has_delivered p u) (process_here s k)
       ]
       | inl none ↦ ap (is_among uid_eq u) (idle k (member_of_none r s a k none))
@@ -358,13 +388,15 @@ same_to_do r s t a b goes idle got = λ i. undelivered_same i + ranks_same i + (
     undelivered_same : undelivered_count t ≡ undelivered_count s
     undelivered_same =
         (λ i. total (λ k. left_count (t.process k).delivered (got i)) (range_with_len 1 (used_same i)))
-        ∙ total_same (λ k. left_count (t.process k).delivered s.got) (λ k. left_count (s.process k).delivered s.got) (range_with_len 1 s.used) (λ k. left_same k s.got)
+        ∙ total_same (λ k. left_count (t.process k).delivered s.got) (λ k. left_count (s.process k).delivered s.got)
+        (range_with_len 1 s.used) (λ k. left_same k s.got)
 
     -- what is kept of the groups is the same
     records_same : map (record_for t) t.config.groups ≡ map (record_for s) s.config.groups
     records_same = sym b.groups ∙ a.groups
 
-    ranks_in : (u : State) (gs : List GroupNo) → total (λ g. rank (u.home g)) gs ≡ total (λ (x : GroupRecord). rank x.home) (map (record_for u) gs)
+    ranks_in : (u : State) (gs : List GroupNo) →
+        total (λ g. rank (u.home g)) gs ≡ total (λ (x : GroupRecord). rank x.home) (map (record_for u) gs)
     ranks_in u [] = refl
     ranks_in u (g ∷ gs) = ap (λ n. rank (u.home g) + n) (ranks_in u gs)
 
@@ -375,10 +407,13 @@ same_to_do r s t a b goes idle got = λ i. undelivered_same i + ranks_same i + (
         ∙ sym (ranks_in s s.config.groups)
 
     -- one ABCAST is to come on both sides, or on neither, where the group is the same
-    come_same : (g : GroupNo) → t.group g ≡ s.group g → (k : ℕ) (ms : List Message) → filter (is_to_come t g k) ms ≡ filter (is_to_come s g k) ms
+    come_same : (g : GroupNo) → t.group g ≡ s.group g → (k : ℕ) (ms : List Message) →
+        filter (is_to_come t g k) ms ≡ filter (is_to_come s g k) ms
     come_same g same k [] = refl
     come_same g same k (m ∷ ms) =
-        λ i. filter_step ((group_eq m.id.group g && (m.id.view == (same i).number)) && (is_atomic (kind_of m.body) && not (has_same k m.id i))) m (come_same g same k ms i)
+        λ i.
+        filter_step ((group_eq m.id.group g && (m.id.view == (same i).number)) && (is_atomic (kind_of m.body) && not (has_same k m.id i)))
+        m (come_same g same k ms i)
       where
         filter_step : Bool → Message → List Message → List Message
         filter_step x y ys = if x then y ∷ ys else ys
@@ -391,7 +426,8 @@ same_to_do r s t a b goes idle got = λ i. undelivered_same i + ranks_same i + (
     list_same g same =
         (λ i. total (to_list_by t g) (range_with_len 1 (used_same i)))
         ∙ total_same (to_list_by t g) (to_list_by s g) (serials s)
-        (λ k i. listing (same i).number (noted_same k i) (got i) + length (((λ j. filter (is_to_come t g k) (got j)) ∙ come_same g same k s.got) i))
+        (λ k i.
+        listing (same i).number (noted_same k i) (got i) + length (((λ j. filter (is_to_come t g k) (got j)) ∙ come_same g same k s.got) i))
       where
         listing : ℕ → List Uid → List Message → ℕ
         listing n abcasts ms =
@@ -415,7 +451,9 @@ same_to_do r s t a b goes idle got = λ i. undelivered_same i + ranks_same i + (
 
 -- and as many Wants still to be owed
 same_unowed : (r : Records) (s t : State) → Fits r s → Fits r t → unowed_count t ≡ unowed_count s
-same_unowed r s t a b = (λ i. total (unowed_in t) (config_same i).groups) ∙ unowed_groups s.config.groups ((λ i. map (record_for t) (sym config_same i).groups) ∙ (sym b.groups ∙ a.groups))
+same_unowed r s t a b =
+    (λ i. total (unowed_in t) (config_same i).groups)
+    ∙ unowed_groups s.config.groups ((λ i. map (record_for t) (sym config_same i).groups) ∙ (sym b.groups ∙ a.groups))
   where
     config_same : t.config ≡ s.config
     config_same = sym (ap (λ c. c.config) b.core) ∙ (ap (λ c. c.config) a.core)
@@ -425,7 +463,9 @@ same_unowed r s t a b = (λ i. total (unowed_in t) (config_same i).groups) ∙ u
 
     site_same : (g : GroupNo) → t.group g ≡ s.group g → site_unowed t g ≡ site_unowed s g
     site_same g same = λ i. elim (same i).pending as (λ _. ℕ) [
-      | Some p ↦ total (λ e. one_if (not (is_owed (owed_same i) (message_key Want (uid_in g (same i).number e) (config_same i).home)))) (covered_entries p.cut)
+      | Some p ↦
+          total (λ e. one_if (not (is_owed (owed_same i) (message_key Want (uid_in g (same i).number e) (config_same i).home))))
+          (covered_entries p.cut)
       | None ↦ 0
     ]
 
@@ -435,16 +475,20 @@ same_unowed r s t a b = (λ i. total (unowed_in t) (config_same i).groups) ∙ u
         let first : record_for t g ≡ record_for s g = cc in
         let rest : map (record_for t) gs ≡ map (record_for s) gs = cc in
         let home : t.home g ≡ s.home g = ap (λ (x : GroupRecord). x.home) first in
-        λ i. (total (λ w. one_if (not (is_owed (owed_same i) (want_key g w)))) (wants_in g (home i) (home i).phase) + site_same g (ap (λ (x : GroupRecord). x.here) first) i) + unowed_groups gs rest i
+        λ i. (total (λ w. one_if (not (is_owed (owed_same i) (want_key g w)))) (wants_in g (home i) (home i).phase)
+        + site_same g (ap (λ (x : GroupRecord). x.here) first) i) + unowed_groups gs rest i
 
 -- as many Installs wait
 same_pendings : (r : Records) (s t : State) → Fits r s → Fits r t → pendings t ≡ pendings s
-same_pendings r s t a b = (λ i. total (λ g. one_if (is_pending (t.group g))) (config_same i).groups) ∙ in_groups s.config.groups ((λ i. map (record_for t) (sym config_same i).groups) ∙ (sym b.groups ∙ a.groups))
+same_pendings r s t a b =
+    (λ i. total (λ g. one_if (is_pending (t.group g))) (config_same i).groups)
+    ∙ in_groups s.config.groups ((λ i. map (record_for t) (sym config_same i).groups) ∙ (sym b.groups ∙ a.groups))
   where
     config_same : t.config ≡ s.config
     config_same = sym (ap (λ c. c.config) b.core) ∙ (ap (λ c. c.config) a.core)
 
-    in_groups : (gs : List GroupNo) → map (record_for t) gs ≡ map (record_for s) gs → total (λ g. one_if (is_pending (t.group g))) gs ≡ total (λ g. one_if (is_pending (s.group g))) gs
+    in_groups : (gs : List GroupNo) → map (record_for t) gs ≡ map (record_for s) gs →
+        total (λ g. one_if (is_pending (t.group g))) gs ≡ total (λ g. one_if (is_pending (s.group g))) gs
     in_groups [] same = refl
     in_groups (g ∷ gs) same =
         let first : record_for t g ≡ record_for s g = cc in
@@ -460,5 +504,6 @@ still_pass r s before lawful after = elim (moves_pass s).way [
       let goes : Goes s (pass s) = goes_pass s as_many in
       let got : (pass s).got ≡ s.got = no_more s.got (pass s).got goes.got (sym after.messages.counted ∙ before.messages.counted) in
       let same = same_to_do r s (pass s) before after goes (idle_pass s as_many) got in absurd (omega (arith, less, same))
-  | inr (inr (as_many, inr fewer)) ↦ let less = fewer.1 in let same = same_unowed r s (pass s) before after in absurd (omega (arith, less, same))
+  | inr (inr (as_many, inr fewer)) ↦
+      let less = fewer.1 in let same = same_unowed r s (pass s) before after in absurd (omega (arith, less, same))
 ]

@@ -1,5 +1,6 @@
 -- What a domain forgets of its orders is nothing that its history tells: the records stand for the same history.
-use Rattle.std.proofs.Common.{◌≡◌, ℕ, zero, suc, ◌+◌, ◌-◌, ◌<◌, ◌≤◌, min, Bool, true, false, not, ◌&&◌, ◌||◌, List, [], ◌∷◌, length, take, drop, Some, refl, sym, ap, subst, ◌∙◌, inl, inr, arith}
+use Rattle.std.proofs.Common.{◌≡◌, ℕ, zero, suc, ◌+◌, ◌-◌, ◌<◌, ◌≤◌, min, Bool, true, false, not, ◌&&◌, ◌||◌}
+use Rattle.std.proofs.Common.{List, [], ◌∷◌, length, take, drop, Some, refl, sym, ap, subst, ◌∙◌, inl, inr, arith}
 use Rattle.std.specs.Prelude.{nat_lt, nat_le, if◌then◌else◌, slice_get, is_some}
 use Rattle.std.specs.List.{fold, list_all, list_any, range_with_len, position_or_len}
 use Rattle.std.proofs.lemmas.Bool.{cases_Bool, false≢true, not-true, and_parts, and_from, or_cases, ltb-true, leb-true}
@@ -49,7 +50,8 @@ first_pass test ids =
     ∙ none_left test (take (position_or_len (λ e. not (test e)) ids) ids) (none_before (λ e. not (test e)) ids)
 
 first_within : (test : Entry → Bool) (ids : List Entry) → count_first test ids ≤ length ids
-first_within test ids = subst (λ n. n ≤ length ids) (sym (position_or_len_found (λ e. not (test e)) ids)) (position_or_len_within (λ e. not (test e)) ids)
+first_within test ids =
+    subst (λ n. n ≤ length ids) (sym (position_or_len_found (λ e. not (test e)) ids)) (position_or_len_within (λ e. not (test e)) ids)
 
 -- the first of the first are the first
 take_first : (n m : ℕ) (xs : List Entry) → n ≤ m → take n (take m xs) ≡ take n xs
@@ -68,7 +70,8 @@ one_of_all test (x ∷ xs) all e among =
       | inr later ↦ one_of_all test xs parts.1 e later
     ]
 
-all_then : (test next : Entry → Bool) → ((e : Entry) → test e ≡ true → next e ≡ true) → (xs : List Entry) → list_all test xs ≡ true → list_all next xs ≡ true
+all_then : (test next : Entry → Bool) → ((e : Entry) → test e ≡ true → next e ≡ true) → (xs : List Entry) → list_all test xs ≡ true →
+    list_all next xs ≡ true
 all_then test next follows [] all = refl
 all_then test next follows (x ∷ xs) all =
     let parts = and_parts (test x) (list_all test xs) all in
@@ -96,11 +99,14 @@ module _ (r : Records) (s : State) (fits : Fits r s) (lawful : IsLawful s) (g : 
       any_message (λ m. uid_eq m.id (uid_in g (s.group g).number e)) r.part.kept
       ∙ ap (list_any (λ m. uid_eq m.id (uid_in g (s.group g).number e))) fits.messages.kept_in
 
-  counted_there : (n k : ℕ) → is_counted_of r (record_for s g) (local s k, n) ≡ true → is_member ((s.process k).standing g) ≡ true → n ≤ count_in (s.process k).time g (local s k)
+  counted_there : (n k : ℕ) → is_counted_of r (record_for s g) (local s k, n) ≡ true → is_member ((s.process k).standing g) ≡ true →
+      n ≤ count_in (s.process k).time g (local s k)
   counted_there n k counted member =
       let here : site_eq s.here r.site ≡ true = ap (λ x. site_eq s.here x) (ap (λ c. c.site) fits.core) ∙ site_itself s.here in
       let stands : is_member (standing_of r.delay (local s k) g) ≡ true = ap is_member (standing_there r s fits k g) ∙ member in
-      let (row, at) = member_admitted s.config.groups (gate_of s) (process_named s) r.part.kept r.delay fits.processes.delay (local s k) g (ap (λ p. is_member (p.standing g)) (process_here s k) ∙ member) in
+      let (row, at) =
+      member_admitted s.config.groups (gate_of s) (process_named s) r.part.kept r.delay fits.processes.delay (local s k)
+      g (ap (λ p. is_member (p.standing g)) (process_here s k) ∙ member) in
       let time = time_there r s fits k (ap is_some at) in
       let is : nat_le n (count_in (time_of r.delay (local s k)) g (local s k)) ≡ true =
       sym (λ i. not (here i && stands i) || nat_le n (count_in (time_of r.delay (local s k)) g (local s k))) ∙ counted in
@@ -128,20 +134,24 @@ module _ (r : Records) (s : State) (fits : Fits r s) (lawful : IsLawful s) (g : 
       record {
         received = sym (received_same r s fits g lawful e (ltb-true 0 e.1 parts.some)) ∙ parts.received;
         let_go = sym (kept_there e) ∙ not-true (is_kept_among r.part.kept (uid_in g (s.group g).number e)) parts.let_go;
-        counted = λ k member own. counted_there e.1 k (subst (λ p. is_counted_of r (record_for s g) (p, e.1) ≡ true) own parts.counted) member;
+        counted =
+            λ k member own. counted_there e.1 k (subst (λ p. is_counted_of r (record_for s g) (p, e.1) ≡ true) own parts.counted) member;
       }
 
   -- and each member here has delivered it
   passed_here : (e : Entry) → is_delivered_here s g e ≡ true → (p : Proc) → goes_on s g p ≡ true → has_passed s g p e ≡ true
   passed_here e all p on = at (site_eq p.site s.here) on
     where
-      at : (b : Bool) → is_member ((if b then s.process p.serial else no_process).standing g) ≡ true → has_delivered (if b then s.process p.serial else no_process) (uid_in g (s.group g).number e) ≡ true
+      at : (b : Bool) → is_member ((if b then s.process p.serial else no_process).standing g) ≡ true →
+          has_delivered (if b then s.process p.serial else no_process) (uid_in g (s.group g).number e) ≡ true
       at true member =
-          let given = row_given s r.delay.rows fits.processes.has_row s.used fits.processes.rows p.serial (member_row r s fits p.serial g member) in
+          let given =
+          row_given s r.delay.rows fits.processes.has_row s.used fits.processes.rows p.serial (member_row r s fits p.serial g member) in
           let parts = and_parts (nat_lt 0 p.serial) (nat_le p.serial s.used) given in
           let low = ltb-true 0 p.serial parts.0 in
           let high = leb-true p.serial s.used parts.1 in
-          range_all (λ k. is_member ((s.process k).standing g)) (λ k. has_delivered (s.process k) (uid_in g (s.group g).number e)) 1 s.used all p.serial (omega (arith, low)) (omega (arith, high)) member
+          range_all (λ k. is_member ((s.process k).standing g)) (λ k. has_delivered (s.process k) (uid_in g (s.group g).number e))
+          1 s.used all p.serial (omega (arith, low)) (omega (arith, high)) member
       at false member = absurd (false≢true member)
 
   passed_there : (p : Proc) → goes_on s g p ≡ true → (e : Entry) → over_test e ≡ true → has_passed s g p e ≡ true
@@ -163,7 +173,8 @@ module _ (r : Records) (s : State) (fits : Fits r s) (lawful : IsLawful s) (g : 
   all_over : list_all over_test (take over log.window) ≡ true
   all_over =
       let ids : List Entry = oldest_in log in
-      sym (ap (λ xs. list_all over_test (take over xs)) oldest.first ∙ ap (list_all over_test) (take_first over (length ids) log.window (first_within over_test ids)))
+      sym (ap (λ xs. list_all over_test (take over xs)) oldest.first
+      ∙ ap (list_all over_test) (take_first over (length ids) log.window (first_within over_test ids)))
       ∙ first_pass over_test ids
 
   tells_trimmed : TellsOrder s g log → TellsOrder s g (forgot over log)
@@ -175,23 +186,29 @@ module _ (r : Records) (s : State) (fits : Fits r s) (lawful : IsLawful s) (g : 
             (λ p on. all_then over_test (has_passed s g p) (passed_there p on) (take over log.window) all_over)
             (omega (arith, few, most));
         hands = f.hands;
-        gone = λ e among. elim (or_cases (is_among entry_eq e (take log.base (order_told s g))) (is_among entry_eq e (take more log.window)) (sym (parted f e) ∙ among)) [
-          | inl before ↦ f.gone e before
-          | inr now ↦ over_there e (one_of_all over_test (take more log.window) (all_first over_test more over log.window (omega arith) all_over) e now)
-        ];
+        gone = λ e among.
+            elim (or_cases (is_among entry_eq e (take log.base (order_told s g))) (is_among entry_eq e (take more log.window))
+            (sym (parted f e) ∙ among)) [
+              | inl before ↦ f.gone e before
+              | inr now ↦
+                  over_there e
+                  (one_of_all over_test (take more log.window) (all_first over_test more over log.window (omega arith) all_over) e now)
+            ];
       }
     where
       more : ℕ
       more = min (MAX_POSITION - log.base) (min over (length log.window))
 
-      parted : TellsOrder s g log → (e : Entry) → is_among entry_eq e (take (log.base + more) (order_told s g)) ≡ (is_among entry_eq e (take log.base (order_told s g)) || is_among entry_eq e (take more log.window))
+      parted : TellsOrder s g log → (e : Entry) → is_among entry_eq e (take (log.base + more) (order_told s g))
+          ≡ (is_among entry_eq e (take log.base (order_told s g)) || is_among entry_eq e (take more log.window))
       parted f e =
           ap (is_among entry_eq e) (take_on log.base more (order_told s g))
           ∙ list_any-append (entry_eq e) (take log.base (order_told s g)) (take more (drop log.base (order_told s g)))
           ∙ ap (λ rest. is_among entry_eq e (take log.base (order_told s g)) || is_among entry_eq e (take more rest)) (sym f.fits.window)
 
   -- of a closed order nothing is forgotten
-  closed_stays : FitsClosed (s.closed g) (goes_on s g) (has_passed s g) log → FitsClosed (s.closed g) (goes_on s g) (has_passed s g) (forgot over log)
+  closed_stays : FitsClosed (s.closed g) (goes_on s g) (has_passed s g) log →
+      FitsClosed (s.closed g) (goes_on s g) (has_passed s g) (forgot over log)
   closed_stays f =
       let none : over ≡ 0 = ap (count_first over_test) (oldest.ended f.closed) in
       subst (FitsClosed (s.closed g) (goes_on s g) (has_passed s g)) (sym (ap (λ n. forgot n log) none ∙ forgot_none log)) f
@@ -218,9 +235,12 @@ module _ (r : Records) (s : State) (fits : Fits r s) (lawful : IsLawful s) (g : 
 
 -- over a record of the group that is at hand
 abbrev trimmed_at : Records → GroupRecord → Records
-trimmed_at r x = record r { orders = change_in x.name (forgot (count_first (is_over_of r x r.part.kept) (oldest_in (log_in r x.name)))) r.orders }
+trimmed_at r x = record r {
+  orders = change_in x.name (forgot (count_first (is_over_of r x r.part.kept) (oldest_in (log_in r x.name)))) r.orders;
+}
 
-fits_trim : (r : Records) (s : State) → Fits r s → IsLawful s → (i : ℕ) (g : GroupNo) → slice_get s.config.groups i ≡ Some g → Fits (trim_in r.part.kept r i) s
+fits_trim : (r : Records) (s : State) → Fits r s → IsLawful s → (i : ℕ) (g : GroupNo) → slice_get s.config.groups i ≡ Some g →
+    Fits (trim_in r.part.kept r i) s
 fits_trim r s fits lawful i g at =
     subst (λ x. Fits (trimmed_at r x) s) (sym (record_there r s fits i g at))
     (record {
@@ -237,7 +257,8 @@ fits_trim r s fits lawful i g at =
     })
 
 -- each place from one on has a group
-fits_trim_from : (n a : ℕ) (r : Records) (s : State) → Fits r s → IsLawful s → a + n ≤ length s.config.groups → Fits (fold (trim_in r.part.kept) r (range_with_len a n)) s
+fits_trim_from : (n a : ℕ) (r : Records) (s : State) → Fits r s → IsLawful s → a + n ≤ length s.config.groups →
+    Fits (fold (trim_in r.part.kept) r (range_with_len a n)) s
 fits_trim_from zero a r s fits lawful within = fits
 fits_trim_from (suc n) a r s fits lawful within =
     let (g, at) = group_at s.config.groups a (omega arith) in
@@ -251,4 +272,5 @@ fits_trim_from (suc n) a r s fits lawful within =
 -- what is over is forgotten of all orders, and the records stand for the same history
 pub fits_trim_all : (r : Records) (s : State) → Fits r s → IsLawful s → Fits (trim_all_in r.part.kept r) s
 fits_trim_all r s fits lawful =
-    fits_trim_from (length r.groups) 0 r s fits lawful (let same = ap length fits.groups in let mapped = length-map s.config.groups (record_for s) in omega (arith, same, mapped))
+    fits_trim_from (length r.groups) 0 r s fits lawful
+    (let same = ap length fits.groups in let mapped = length-map s.config.groups (record_for s) in omega (arith, same, mapped))

@@ -3,7 +3,8 @@
 -- its rows tell what each process awaits. Delivering it changes the records and the history alike
 -- (`fits_first`). A message that was delivered is ready no more, so that as many turns as there
 -- are kept messages are enough on both sides (`settled_kept`).
-use Rattle.std.proofs.Common.{◌≡◌, ℕ, zero, suc, ◌<◌, ◌≤◌, Bool, true, false, cond, not, List, [], ◌∷◌, ◌++◌, length, Contains, Option, Some, None, refl, sym, ap, subst, ◌∙◌, inl, inr, arith}
+use Rattle.std.proofs.Common.{◌≡◌, ℕ, zero, suc, ◌<◌, ◌≤◌, Bool, true, false, cond, not, List, [], ◌∷◌, ◌++◌}
+use Rattle.std.proofs.Common.{length, Contains, Option, Some, None, refl, sym, ap, subst, ◌∙◌, inl, inr, arith}
 use Rattle.std.specs.Prelude.{◌&&◌, ◌||◌, ◌==◌, if◌then◌else◌, filter, take}
 use Rattle.std.specs.List.{find, list_any}
 use Rattle.std.specs.Option.{IsSome, option_map_or}
@@ -49,13 +50,15 @@ use Rattle.cast_rules.specs.Endings.{left_count}
 use Rattle.cast_domain.specs.Records.{Records}
 use Rattle.cast_rules.specs.Rules.Release as release
 use Rattle.cast_domain.specs.Calls.{records}
-use Rattle.cast_domain.specs.RestCalls.{resting_records, sets_order_in, turns_in, told_in, weight_of, note_weight_in, note_delivered_under, ready_key_in}
+use Rattle.cast_domain.specs.RestCalls.{resting_records, sets_order_in, turns_in, told_in, weight_of}
+use Rattle.cast_domain.specs.RestCalls.{note_weight_in, note_delivered_under, ready_key_in}
 use Rattle.cast_domain.specs.declared.rest.Weight.{Weight}
 use Rattle.cast_domain.specs.declared.rest.Weight.TheVariants.{Nothing, Placed, Hands}
 use Rattle.cast_rules.specs.Rules.Rest as rest
 use Rattle.cast_rules.specs.Lawful.{IsSpent, AreKept, IsLawful}
 use Rattle.cast_domain.specs.Fits.{process_named, is_still_kept, Fits}
-use Rattle.cast_rules.proofs.Settles.{delivering_one, delivers, ready_causally, ready_new, delivered_first, delivered_none, turns_are_enough}
+use Rattle.cast_rules.proofs.Settles.{delivering_one, delivers, ready_causally, ready_new}
+use Rattle.cast_rules.proofs.Settles.{delivered_first, delivered_none, turns_are_enough}
 use Rattle.cast_domain.proofs.LogSteps.{noting, logs_deliver}
 use Rattle.cast_domain.proofs.Ordering.{order_unclosed, sets_order_there, turns_there}
 use Rattle.cast_rules.proofs.Totals.{left_found, left_le}
@@ -107,10 +110,12 @@ kept_all s k = kept_iterate (length s.got) (deliver_first k) (kept_first k) s
 -- Deliveries
 
 -- who has a row has one still after a delivery
-still_after : (offered : List Offered) (p : Proc) (key : Key) (q : Proc) (rows : List Row) → IsSome (row_of rows q) → IsSome (row_of (after_delivery offered p key rows) q)
+still_after : (offered : List Offered) (p : Proc) (key : Key) (q : Proc) (rows : List Row) → IsSome (row_of rows q) →
+    IsSome (row_of (after_delivery offered p key rows) q)
 still_after offered p key q rows was = still_found (offered_under offered key)
   where
-    still_found : (o : Option Offered) → IsSome (row_of (elim o [ Some x ↦ change_row p (delivered_row x.id x.times) rows | None ↦ rows ]) q)
+    still_found : (o : Option Offered) →
+        IsSome (row_of (elim o [ Some x ↦ change_row p (delivered_row x.id x.times) rows | None ↦ rows ]) q)
     still_found (Some x) = still_in p (delivered_row x.id x.times) (λ _. refl) q rows was
     still_found None = was
 
@@ -136,7 +141,8 @@ ready_member s k m ready = (and_parts (is_member ((s.process k).standing m.id.gr
 ready_current : (s : State) (k : ℕ) (m : Message) → is_ready_for s k m ≡ true → is_of_view s m.id.group m.id ≡ true
 ready_current s k m ready =
     let a = and_parts (is_member ((s.process k).standing m.id.group)) _ (ready_causally s k m ready) in
-    ap (λ b. b && (m.id.view == (s.group m.id.group).number)) (group_itself m.id.group) ∙ (and_parts (m.id.view == (s.group m.id.group).number) _ a.1).0
+    ap (λ b. b && (m.id.view == (s.group m.id.group).number)) (group_itself m.id.group)
+    ∙ (and_parts (m.id.view == (s.group m.id.group).number) _ a.1).0
 
 -- and its group delivers it
 ready_opens : (s : State) (k : ℕ) (m : Message) → is_ready_for s k m ≡ true → is_open_to (gate_of s m.id.group) (entry_of m.id) ≡ true
@@ -151,11 +157,14 @@ ready_listed s k m l ready =
     l.known k m.id.group (ap is_outside (only_member ((s.process k).standing m.id.group) a.0))
 
 -- an ABCAST that is ready for a process without the token is the next of the order
-ready_placed : (s : State) (k : ℕ) (m : Message) → is_ready_for s k m ≡ true → is_atomic (kind_of m.body) ≡ true → holds s m.id.group k ≡ false → is_pending (s.group m.id.group) ≡ false → is_among entry_eq (entry_of m.id) (order_told s m.id.group) ≡ true
+ready_placed : (s : State) (k : ℕ) (m : Message) → is_ready_for s k m ≡ true → is_atomic (kind_of m.body) ≡ true →
+    holds s m.id.group k ≡ false → is_pending (s.group m.id.group) ≡ false →
+    is_among entry_eq (entry_of m.id) (order_told s m.id.group) ≡ true
 ready_placed s k m ready atomic away none =
     next_among (order_told s g) (
     ap (λ order. has_turn (Following (next_of has order)) (entry_of m.id)) (sym (order_unclosed s g none))
-    ∙ sym (ap (λ b. has_turn (if b && not (s.group g).frozen then Holding (has_room_for_order s g k) else Following (next_of has (order_of s g))) (entry_of m.id)) away)
+    ∙ sym (ap (λ b. has_turn (if b && not (s.group g).frozen then Holding (has_room_for_order s g k)
+    else Following (next_of has (order_of s g))) (entry_of m.id)) away)
     ∙ in_turn)
   where
     g : GroupNo
@@ -167,9 +176,11 @@ ready_placed s k m ready atomic away none =
     in_turn : has_turn (turn_of s k g) (entry_of m.id) ≡ true
     in_turn =
         sym (ap (λ b. not b || has_turn (turn_of s k g) (entry_of m.id)) atomic)
-        ∙ (and_parts (is_causally_ready s.config.groups (gate_of s) (s.process k) m) (not (is_atomic (kind_of m.body)) || has_turn (turn_of s k g) (entry_of m.id)) ready).1
+        ∙ (and_parts (is_causally_ready s.config.groups (gate_of s) (s.process k) m)
+        (not (is_atomic (kind_of m.body)) || has_turn (turn_of s k g) (entry_of m.id)) ready).1
 
-    next_among : (order : List Entry) → has_turn (Following (next_of has order)) (entry_of m.id) ≡ true → is_among entry_eq (entry_of m.id) order ≡ true
+    next_among : (order : List Entry) → has_turn (Following (next_of has order)) (entry_of m.id) ≡ true →
+        is_among entry_eq (entry_of m.id) order ≡ true
     next_among [] is = absurd (false≢true is)
     next_among (e ∷ order) is = elim (cases_Bool (has e)) [
       | inl done ↦
@@ -187,11 +198,15 @@ found_still t (x ∷ kept) m found = elim (cases_Bool (t x)) [
   | inl here ↦
       let same : x ≡ m = same_Some x m (sym (ap (λ b. cond b (Some x) (find t kept)) here) ∙ found) in
       or_left (uid_eq x.id m.id) (list_any (λ y. uid_eq y.id m.id) kept) (ap (λ (y : Message). uid_eq y.id m.id) same ∙ uid_itself m.id)
-  | inr other ↦ or_right (uid_eq x.id m.id) (list_any (λ y. uid_eq y.id m.id) kept) (found_still t kept m (sym (ap (λ b. cond b (Some x) (find t kept)) other) ∙ found))
+  | inr other ↦
+      or_right (uid_eq x.id m.id) (list_any (λ y. uid_eq y.id m.id) kept)
+      (found_still t kept m (sym (ap (λ b. cond b (Some x) (find t kept)) other) ∙ found))
 ]
 
 -- before the process is told
-fits_turn : (r : Records) (s : State) → Fits r s → IsLawful s → (k : ℕ) → was_given s.used k ≡ true → (key : Key) (m : Message) → message_under r.part.kept key ≡ Some m → Contains s.got m → is_still_kept s m.id ≡ true → is_ready_for s k m ≡ true → Fits (record (turned r s k key m) { orders = noting (weight_of m.body) s k m (passing r s k key m) r.orders }) (with_delivery s k m)
+fits_turn : (r : Records) (s : State) → Fits r s → IsLawful s → (k : ℕ) → was_given s.used k ≡ true → (key : Key) (m : Message) →
+    message_under r.part.kept key ≡ Some m → Contains s.got m → is_still_kept s m.id ≡ true → is_ready_for s k m ≡ true →
+    Fits (record (turned r s k key m) { orders = noting (weight_of m.body) s k m (passing r s k key m) r.orders }) (with_delivery s k m)
 fits_turn r s fits l k given key m under at kept ready = record {
   core = fits.core;
   opened = fits.opened;
@@ -205,13 +220,20 @@ fits_turn r s fits l k given key m under at kept ready = record {
     idle = still_idle s k (delivering_to m (s.process k)) given fits.processes.idle;
   };
   acks = fits.acks;
-  orders = logs_deliver s k m (passing r s k key m) r.orders fits.orders kept (ready_current s k m ready) (ready_opens s k m ready) (ready_placed s k m ready)
-      (subst (λ v. find (λ e. not (has_delivered (process_named (with_delivery s k m) (local s k)) (uid_in m.id.group v e))) (take (passing r s k key m) ids) ≡ None) view
-      (passed_delivered s.config.groups (gate_of s) (process_named (with_delivery s k m)) r.part.kept (turned r s k key m).delay delay_now (local s k) m.id.group m.id.view ids
-      (still_after r.delay.offered (local s k) key (local s k) r.delay.rows (member_row r s fits k m.id.group (ready_member s k m ready))) (omega (arith, view))))
-      (λ g member. join_counts_on (s.process k).time m.times g (local s k) (l.stamped m at) (delivered_view s k m l at ready g member ∙ sym (l.current k g member)));
+  orders =
+      logs_deliver s k m (passing r s k key m) r.orders fits.orders kept (ready_current s k m ready) (ready_opens s k m ready)
+      (ready_placed s k m ready)
+      (subst (λ v. find (λ e. not (has_delivered (process_named (with_delivery s k m) (local s k)) (uid_in m.id.group v e)))
+      (take (passing r s k key m) ids) ≡ None) view
+      (passed_delivered s.config.groups (gate_of s) (process_named (with_delivery s k m)) r.part.kept (turned r s k key m).delay delay_now
+      (local s k) m.id.group m.id.view ids
+      (still_after r.delay.offered (local s k) key (local s k) r.delay.rows (member_row r s fits k m.id.group (ready_member s k m ready)))
+      (omega (arith, view))))
+      (λ g member. join_counts_on (s.process k).time m.times g (local s k) (l.stamped m at)
+      (delivered_view s k m l at ready g member ∙ sym (l.current k g member)));
   frames = fits.frames;
-  delivered = (λ i. fits.delivered i ++ ((fits.core i).config.domain, local s k, m.id) ∷ []) ∙ sym (map-append (λ (x : Proc × Uid). (s.config.domain, x.0, x.1)) s.deliveries ((local s k, m.id) ∷ []));
+  delivered = (λ i. fits.delivered i ++ ((fits.core i).config.domain, local s k, m.id) ∷ [])
+      ∙ sym (map-append (λ (x : Proc × Uid). (s.config.domain, x.0, x.1)) s.deliveries ((local s k, m.id) ∷ []));
   pushed = fits.pushed;
 }
   where
@@ -219,7 +241,9 @@ fits_turn r s fits l k given key m under at kept ready = record {
     ids = next_in (log_of r.orders m.id.group) (local s k)
 
     view : m.id.view ≡ (s.group m.id.group).number
-    view = eqb-true m.id.view (s.group m.id.group).number (and_parts (group_eq m.id.group m.id.group) (m.id.view == (s.group m.id.group).number) (ready_current s k m ready)).1
+    view =
+        eqb-true m.id.view (s.group m.id.group).number
+        (and_parts (group_eq m.id.group m.id.group) (m.id.view == (s.group m.id.group).number) (ready_current s k m ready)).1
 
     delay_now : QueueFits s.config.groups (gate_of s) (process_named (with_delivery s k m)) r.part.kept (turned r s k key m).delay
     delay_now =
@@ -228,7 +252,9 @@ fits_turn r s fits l k given key m under at kept ready = record {
         (ap (λ p. is_causally_ready s.config.groups (gate_of s) p m) (process_here s k) ∙ ready_causally s k m ready))
 
 -- what is noted of a delivery is what the history notes
-noted_as : (r : Records) (s : State) → Fits r s → IsLawful s → (k : ℕ) (key : Key) (m : Message) → is_ready_for s k m ≡ true → note_weight_in (weight_of m.body) (turned r s k key m) (local s k) m.id ≡ record (turned r s k key m) { orders = noting (weight_of m.body) s k m (passing r s k key m) r.orders }
+noted_as : (r : Records) (s : State) → Fits r s →
+    IsLawful s → (k : ℕ) (key : Key) (m : Message) → is_ready_for s k m ≡ true → note_weight_in (weight_of m.body) (turned r s k key m)
+    (local s k) m.id ≡ record (turned r s k key m) { orders = noting (weight_of m.body) s k m (passing r s k key m) r.orders }
 noted_as r s fits l k key m ready = at (weight_of m.body)
   where
     g : GroupNo
@@ -240,23 +266,32 @@ noted_as r s fits l k key m ready = at (weight_of m.body)
     same : sets_order_in (turned r s k key m) g (local s k) ≡ sets_order s g k
     same = sets_order_there r s fits g (ready_listed s k m l ready) k
 
-    at : (w : Weight) → note_weight_in w (turned r s k key m) (local s k) m.id ≡ record (turned r s k key m) { orders = noting w s k m (passing r s k key m) r.orders }
+    at : (w : Weight) → note_weight_in w (turned r s k key m) (local s k) m.id
+        ≡ record (turned r s k key m) { orders = noting w s k m (passing r s k key m) r.orders }
     at Nothing = refl
     at Placed = λ i. record (turned r s k key m) { orders = if same i then told_in g (local s k) (entry_of m.id) r.orders else passes }
     at (Hands q first) = refl
 
 -- the program is told on both sides, or nothing is told
-fits_tell : (r : Records) (s : State) → Fits r s → IsLawful s → (k : ℕ) (o : Option Push) → Fits (tell_if records r k o) (tell_if history s k o)
-fits_tell r s fits l k (Some p) = (tell_follows records history (StandsIn s.config.groups) (IsAt s.config.groups) (records_follow_all s.config.groups) r s ((fits, refl), l) k p).0.0
+fits_tell : (r : Records) (s : State) → Fits r s → IsLawful s → (k : ℕ) (o : Option Push) →
+    Fits (tell_if records r k o) (tell_if history s k o)
+fits_tell r s fits l k (Some p) =
+    (tell_follows records history (StandsIn s.config.groups) (IsAt s.config.groups) (records_follow_all s.config.groups)
+    r s ((fits, refl), l) k p).0.0
 fits_tell r s fits l k None = fits
 
 -- a process delivers a message that is ready, and is told; what is free then is let go
-pub fits_delivering : (r : Records) (s : State) → Fits r s → IsLawful s → (k : ℕ) → was_given s.used k ≡ true → (key : Key) (m : Message) → message_under r.part.kept key ≡ Some m → Contains s.got m → is_still_kept s m.id ≡ true → is_ready_for s k m ≡ true → IsLawful (delivering s k m) → Fits (release.let_go records resting_records (tell_if records (note_delivered_under r (local s k) key m) k (told_of m.id m.body))) (delivering_one s k m)
+pub fits_delivering : (r : Records) (s : State) → Fits r s → IsLawful s → (k : ℕ) → was_given s.used k ≡ true → (key : Key) (m : Message) →
+    message_under r.part.kept key ≡ Some m → Contains s.got m → is_still_kept s m.id ≡ true → is_ready_for s k m ≡ true →
+    IsLawful (delivering s k m) →
+    Fits (release.let_go records resting_records (tell_if records (note_delivered_under r (local s k) key m) k (told_of m.id m.body)))
+    (delivering_one s k m)
 fits_delivering r s fits l k given key m under at kept ready lawful =
     let next : Records = record (turned r s k key m) { orders = noting (weight_of m.body) s k m (passing r s k key m) r.orders } in
     fits_let_go (tell_if records (note_delivered_under r (local s k) key m) k (told_of m.id m.body)) (delivering s k m)
     (subst (λ x. Fits (tell_if records x k (told_of m.id m.body)) (delivering s k m)) (sym (noted_as r s fits l k key m ready))
-    (fits_tell next (with_delivery s k m) (fits_turn r s fits l k given key m under at kept ready) (lawful_delivery s k m l at ready) k (told_of m.id m.body)))
+    (fits_tell next (with_delivery s k m) (fits_turn r s fits l k given key m under at kept ready) (lawful_delivery s k m l at ready)
+    k (told_of m.id m.body)))
     lawful
 
 -- a spent message is ready for nobody
@@ -270,95 +305,137 @@ spent_not_ready s k given m spent = false_from_ne_true (is_ready_for s k m) (λ 
     false≢true (sym (ap not done) ∙ c.0))
 
 -- what is found among all that was received is found among what is kept
-found_kept : (P : Message → Type 0) (test : Message → Bool) → ((m : Message) → P m → test m ≡ false) → (got kept : List Message) → AreKept P got kept → find test got ≡ find test kept
+found_kept : (P : Message → Type 0) (test : Message → Bool) → ((m : Message) → P m → test m ≡ false) → (got kept : List Message) →
+    AreKept P got kept → find test got ≡ find test kept
 found_kept P test fails [] kept none = sym (ap (find test) none)
-found_kept P test fails (m ∷ got) kept (inl (rest, is, more)) = ap (λ o. cond (test m) (Some m) o) (found_kept P test fails got rest more) ∙ sym (ap (find test) is)
-found_kept P test fails (m ∷ got) kept (inr (spent, more)) = ap (λ b. cond b (Some m) (find test got)) (fails m spent) ∙ found_kept P test fails got kept more
+found_kept P test fails (m ∷ got) kept (inl (rest, is, more)) =
+    ap (λ o. cond (test m) (Some m) o) (found_kept P test fails got rest more) ∙ sym (ap (find test) is)
+found_kept P test fails (m ∷ got) kept (inr (spent, more)) =
+    ap (λ b. cond b (Some m) (find test got)) (fails m spent) ∙ found_kept P test fails got kept more
 
-pub ready_kept : (s : State) (k : ℕ) → was_given s.used k ≡ true → IsLawful s → find (is_ready_for s k) s.got ≡ find (is_ready_for s k) s.kept
+pub ready_kept : (s : State) (k : ℕ) → was_given s.used k ≡ true → IsLawful s →
+    find (is_ready_for s k) s.got ≡ find (is_ready_for s k) s.kept
 ready_kept s k given l = found_kept (IsSpent s) (is_ready_for s k) (spent_not_ready s k given) s.got s.kept l.spent
 
 -- over the name of the process
 abbrev first_of : Records → ℕ → Proc → Records
 first_of r k p =
     elim (option_map_or (message_under r.part.kept) (ready_key_in r p) None) [
-      | Some m ↦ release.let_go records resting_records (tell_if records (option_map_or (λ key. note_delivered_under r p key m) (ready_key_in r p) r) k (told_of m.id m.body))
+      | Some m ↦
+          release.let_go records resting_records
+          (tell_if records (option_map_or (λ key. note_delivered_under r p key m) (ready_key_in r p) r) k (told_of m.id m.body))
       | None ↦ r
     ]
 
 -- the queue names the message that the rule names
-pub fits_first : (r : Records) (s : State) → Fits r s → IsLawful s → (k : ℕ) → was_given s.used k ≡ true → Fits (rest.deliver_first records resting_records k r) (deliver_first k s)
+pub fits_first : (r : Records) (s : State) → Fits r s → IsLawful s → (k : ℕ) → was_given s.used k ≡ true →
+    Fits (rest.deliver_first records resting_records k r) (deliver_first k s)
 fits_first r s fits l k given =
     subst (λ h. Fits (first_of r k (record { site = h; serial = k })) (deliver_first k s)) (sym (ap (λ c. c.site) fits.core))
-    (fits_next (ready_key_in r (local s k)) (next_rules s.config.groups (gate_of s) (process_named s) r.part.kept r.delay fits.processes.delay (local s k) (turns_in r (local s k)) (turn_of s k) turns))
+    (fits_next (ready_key_in r (local s k)) (next_rules s.config.groups (gate_of s) (process_named s)
+    r.part.kept r.delay fits.processes.delay (local s k) (turns_in r (local s k)) (turn_of s k) turns))
   where
     -- the turns of the groups that it is a member of
     turns : HasTurns (process_named s (local s k)) (turns_in r (local s k)) (turn_of s k)
-    turns g member = turns_there r s fits l k (member_row r s fits k g (ap (λ p. is_member (p.standing g)) (sym (process_here s k)) ∙ member)) g (l.known k g (ap is_outside (only_member ((s.process k).standing g) (ap (λ p. is_member (p.standing g)) (sym (process_here s k)) ∙ member)))) member
+    turns g member =
+        turns_there r s fits l k (member_row r s fits k g (ap (λ p. is_member (p.standing g)) (sym (process_here s k)) ∙ member)) g (l.known
+        k g (ap is_outside (only_member ((s.process k).standing g) (ap (λ p. is_member (p.standing g)) (sym (process_here s k)) ∙ member))))
+        member
 
-    found_is : first_ready s.config.groups (gate_of s) (turn_of s k) (process_named s (local s k)) (messages r.part.kept) ≡ find (is_ready_for s k) s.got
-    found_is = (λ i. find (is_ready s.config.groups (gate_of s) (turn_of s k) (process_here s k i)) (fits.messages.kept_in i)) ∙ sym (ready_kept s k given l)
+    found_is : first_ready s.config.groups (gate_of s) (turn_of s k) (process_named s (local s k)) (messages r.part.kept)
+        ≡ find (is_ready_for s k) s.got
+    found_is =
+        (λ i. find (is_ready s.config.groups (gate_of s) (turn_of s k) (process_here s k i)) (fits.messages.kept_in i))
+        ∙ sym (ready_kept s k given l)
 
     -- with the key that is named, and the message under it
     named_key : Option Key → Option Message → Records
     named_key o found =
-        elim found [ Some m ↦ release.let_go records resting_records (tell_if records (option_map_or (λ key. note_delivered_under r (local s k) key m) o r) k (told_of m.id m.body)) | None ↦ r ]
+        elim found [
+          | Some m ↦
+              release.let_go records resting_records
+              (tell_if records (option_map_or (λ key. note_delivered_under r (local s k) key m) o r) k (told_of m.id m.body))
+          | None ↦ r
+        ]
 
-    fits_next : (o : Option Key) → FirstReady s.config.groups (gate_of s) (turn_of s k) (process_named s (local s k)) r.part.kept o → Fits (named_key o (option_map_or (message_under r.part.kept) o None)) (deliver_first k s)
+    fits_next : (o : Option Key) → FirstReady s.config.groups (gate_of s) (turn_of s k) (process_named s (local s k)) r.part.kept o →
+        Fits (named_key o (option_map_or (message_under r.part.kept) o None)) (deliver_first k s)
     fits_next None none = subst (Fits r) (sym (delivered_none s k (sym found_is ∙ none))) fits
     fits_next (Some key) (m, under, first) =
         let found : find (is_ready_for s k) s.got ≡ Some m = sym found_is ∙ first in
         let ready : is_ready_for s k m ≡ true = found_passes (is_ready_for s k) s.got m found in
         let at : Contains s.got m = found_in (is_ready_for s k) s.got m found in
         subst (λ x. Fits (named_key (Some key) x) (deliver_first k s)) (sym under)
-        (subst (Fits (release.let_go records resting_records (tell_if records (note_delivered_under r (local s k) key m) k (told_of m.id m.body)))) (sym (delivered_first s k m found))
-        (fits_delivering r s fits l k given key m under at (found_still (is_ready_for s k) s.kept m (sym (ready_kept s k given l) ∙ found)) ready (told_if_keeps history IsLawful all_lawful (with_delivery s k m) (lawful_delivery s k m l at ready) k (told_of m.id m.body))))
+        (subst
+        (Fits (release.let_go records resting_records (tell_if records (note_delivered_under r (local s k) key m) k (told_of m.id m.body))))
+        (sym (delivered_first s k m found))
+        (fits_delivering r s fits l k given key m under at (found_still (is_ready_for s k) s.kept m (sym (ready_kept s k given l) ∙ found))
+        ready (told_if_keeps history IsLawful all_lawful (with_delivery s k m) (lawful_delivery s k m l at ready) k (told_of m.id m.body))))
 
 -- so many turns of one process
-fits_turns : (n : ℕ) (r : Records) (s : State) → Fits r s → IsLawful s → (k : ℕ) → was_given s.used k ≡ true → Fits (iterate n (rest.deliver_first records resting_records k) r) (iterate n (deliver_first k) s)
+fits_turns : (n : ℕ) (r : Records) (s : State) → Fits r s → IsLawful s → (k : ℕ) → was_given s.used k ≡ true →
+    Fits (iterate n (rest.deliver_first records resting_records k) r) (iterate n (deliver_first k) s)
 fits_turns zero r s fits l k given = fits
 fits_turns (suc n) r s fits l k given =
-    fits_turns n (rest.deliver_first records resting_records k r) (deliver_first k s) (fits_first r s fits l k given) (lawful_first s k l) k (ap (λ u. was_given u k) (kept_first k s).used ∙ given)
+    fits_turns n (rest.deliver_first records resting_records k r) (deliver_first k s) (fits_first r s fits l k given) (lawful_first s k l)
+    k (ap (λ u. was_given u k) (kept_first k s).used ∙ given)
 
 -- fewer are left of fewer
 left_filter : (ids : List Uid) (test : Message → Bool) (got : List Message) → left_count ids (filter test got) ≤ left_count ids got
 left_filter ids test [] = omega arith
-left_filter ids test (m ∷ got) = elim (test m) as (λ b. left_count ids (cond b (m ∷ filter test got) (filter test got)) ≤ left_count ids (m ∷ got)) [
-  | true ↦ let rest = left_filter ids test got in omega (arith, rest)
-  | false ↦ let rest = left_filter ids test got in omega (arith, rest)
-]
+left_filter ids test (m ∷ got) =
+    elim (test m) as (λ b. left_count ids (cond b (m ∷ filter test got) (filter test got)) ≤ left_count ids (m ∷ got)) [
+      | true ↦ let rest = left_filter ids test got in omega (arith, rest)
+      | false ↦ let rest = left_filter ids test got in omega (arith, rest)
+    ]
 
 -- a delivery leaves fewer of the kept messages undelivered
-kept_less : (s : State) (k : ℕ) (m : Message) → find (is_ready_for s k) s.kept ≡ Some m → left_count ((delivering_one s k m).process k).delivered (delivering_one s k m).kept < left_count (s.process k).delivered s.kept
+kept_less : (s : State) (k : ℕ) (m : Message) → find (is_ready_for s k) s.kept ≡ Some m →
+    left_count ((delivering_one s k m).process k).delivered (delivering_one s k m).kept < left_count (s.process k).delivered s.kept
 kept_less s k m e =
     let t : State = delivering_one s k m in
-    let same : (t.process k).delivered ≡ (s.process k).delivered ++ m.id ∷ [] = (delivers s k m).delivered k ∙ ap (λ b. if b then (s.process k).delivered ++ m.id ∷ [] else (s.process k).delivered) (eq-eqb k k refl) in
+    let same : (t.process k).delivered ≡ (s.process k).delivered ++ m.id ∷ [] =
+    (delivers s k m).delivered k
+    ∙ ap (λ b. if b then (s.process k).delivered ++ m.id ∷ [] else (s.process k).delivered) (eq-eqb k k refl) in
     let fewer = left_found (is_ready_for s k) (s.process k).delivered s.kept m (ready_new s k) e in
     let free : Message → Bool = λ x. not (is_free (delivering s k m) x.id) in
     let least = left_filter ((s.process k).delivered ++ m.id ∷ []) free s.kept in
     let before : (delivering s k m).kept ≡ s.kept = (tells_told_if (with_delivery s k m) k (told_of m.id m.body)).kept in
-    let now : left_count (t.process k).delivered t.kept ≡ left_count ((s.process k).delivered ++ m.id ∷ []) (filter free s.kept) = (λ i. left_count (same i) (filter free (before i))) in
+    let now : left_count (t.process k).delivered t.kept ≡ left_count ((s.process k).delivered ++ m.id ∷ []) (filter free s.kept) =
+    (λ i. left_count (same i) (filter free (before i))) in
     omega (arith, fewer, least, now)
 
 -- as many turns as messages are kept are enough
-settled_kept : (n : ℕ) (s : State) (k : ℕ) → IsLawful s → was_given s.used k ≡ true → left_count (s.process k).delivered s.kept ≤ n → find (is_ready_for (iterate n (deliver_first k) s) k) (iterate n (deliver_first k) s).got ≡ None
+settled_kept : (n : ℕ) (s : State) (k : ℕ) → IsLawful s → was_given s.used k ≡ true → left_count (s.process k).delivered s.kept ≤ n →
+    find (is_ready_for (iterate n (deliver_first k) s) k) (iterate n (deliver_first k) s).got ≡ None
 settled_kept zero s k l given enough =
     elim (find (is_ready_for s k) s.got) as (λ o. find (is_ready_for s k) s.got ≡ o → o ≡ None) [
       | None ↦ λ _. refl
       | Some m ↦ λ e. let less = kept_less s k m (sym (ready_kept s k given l) ∙ e) in absurd (omega (arith, less, enough))
     ] refl
 settled_kept (suc n) s k l given enough =
-    elim (find (is_ready_for s k) s.got) as (λ o. find (is_ready_for s k) s.got ≡ o → find (is_ready_for (iterate n (deliver_first k) (deliver_first k s)) k) (iterate n (deliver_first k) (deliver_first k s)).got ≡ None) [
-      | None ↦ λ e. subst (λ t. find (is_ready_for t k) t.got ≡ None) (sym (ap (iterate n (deliver_first k)) (delivered_none s k e) ∙ iterate_still n (deliver_first k) s (delivered_none s k e))) e
+    elim (find (is_ready_for s k) s.got) as (λ o. find (is_ready_for s k) s.got ≡ o →
+    find (is_ready_for (iterate n (deliver_first k) (deliver_first k s)) k) (iterate n (deliver_first k) (deliver_first k s)).got ≡ None) [
+      | None ↦ λ e.
+          subst (λ t. find (is_ready_for t k) t.got ≡ None)
+          (sym (ap (iterate n (deliver_first k)) (delivered_none s k e) ∙ iterate_still n (deliver_first k) s (delivered_none s k e))) e
       | Some m ↦ λ e.
           let less = kept_less s k m (sym (ready_kept s k given l) ∙ e) in
-          let less_first : left_count ((deliver_first k s).process k).delivered (deliver_first k s).kept < left_count (s.process k).delivered s.kept = subst (λ t. left_count (t.process k).delivered t.kept < left_count (s.process k).delivered s.kept) (sym (delivered_first s k m e)) less in
-          settled_kept n (deliver_first k s) k (lawful_first s k l) (ap (λ u. was_given u k) (kept_first k s).used ∙ given) (omega (arith, less_first, enough))
+          let less_first : left_count ((deliver_first k s).process k).delivered (deliver_first k s).kept
+          < left_count (s.process k).delivered s.kept =
+          subst (λ t. left_count (t.process k).delivered t.kept < left_count (s.process k).delivered s.kept)
+          (sym (delivered_first s k m e)) less in
+          settled_kept n (deliver_first k s) k (lawful_first s k l) (ap (λ u. was_given u k) (kept_first k s).used ∙ given)
+          (omega (arith, less_first, enough))
     ] refl
 
 -- all deliveries of one process
-pub fits_deliver_all : (r : Records) (s : State) → Fits r s → IsLawful s → (k : ℕ) → was_given s.used k ≡ true → Fits (rest.deliver_all records resting_records r k) (deliver_all s k)
+pub fits_deliver_all : (r : Records) (s : State) → Fits r s → IsLawful s → (k : ℕ) → was_given s.used k ≡ true →
+    Fits (rest.deliver_all records resting_records r k) (deliver_all s k)
 fits_deliver_all r s fits l k given =
     let n : ℕ = length r.part.kept in
-    let enough : left_count (s.process k).delivered s.kept ≤ n = subst (λ x. left_count (s.process k).delivered s.kept ≤ x) (ap length (sym fits.messages.kept_in) ∙ length-map r.part.kept (λ (x : Received). x.message)) (left_le (s.process k).delivered s.kept) in
-    subst (Fits (rest.deliver_all records resting_records r k)) (turns_are_enough s k n (settled_kept n s k l given enough)) (fits_turns n r s fits l k given)
+    let enough : left_count (s.process k).delivered s.kept ≤ n =
+    subst (λ x. left_count (s.process k).delivered s.kept ≤ x) (ap length (sym fits.messages.kept_in)
+    ∙ length-map r.part.kept (λ (x : Received). x.message)) (left_le (s.process k).delivered s.kept) in
+    subst (Fits (rest.deliver_all records resting_records r k)) (turns_are_enough s k n (settled_kept n s k l given enough))
+    (fits_turns n r s fits l k given)

@@ -26,16 +26,19 @@ module _ (r : Records) (k : ℕ) (none : ready_key_in r (local_in r k) ≡ None)
   pub delivers_none : deliver_all records resting_records r k ≡ r
   delivers_none =
       iterate_still (length r.part.kept) (deliver_first records resting_records k) r
-      (ap (λ (o : Option Message). elim o [ Some m ↦ let_go records resting_records (deliver records resting_records r k m) | None ↦ r ]) no_message)
+      (ap (λ (o : Option Message). elim o [ Some m ↦ let_go records resting_records (deliver records resting_records r k m) | None ↦ r ])
+      no_message)
 
 module _ (r : Records) (none : (p : Proc) → ready_key_in r p ≡ None) where
   pub none_deliver : (ks : List ℕ) → fold (deliver_all records resting_records) r ks ≡ r
   none_deliver [] = refl
-  none_deliver (k ∷ ks) = ap (λ t. fold (deliver_all records resting_records) t ks) (delivers_none r k (none (local_in r k))) ∙ none_deliver ks
+  none_deliver (k ∷ ks) =
+      ap (λ t. fold (deliver_all records resting_records) t ks) (delivers_none r k (none (local_in r k))) ∙ none_deliver ks
 
   pub none_delivers : (ks : List ℕ) → changes_over has_ready (deliver_all records resting_records) r ks ≡ false
   none_delivers [] = refl
   none_delivers (k ∷ ks) =
-      ap (λ b. b || changes_over has_ready (deliver_all records resting_records) (deliver_all records resting_records r k) ks) (not_ready r k (none (local_in r k)))
+      ap (λ b. b || changes_over has_ready (deliver_all records resting_records) (deliver_all records resting_records r k) ks)
+      (not_ready r k (none (local_in r k)))
       ∙ ap (λ t. changes_over has_ready (deliver_all records resting_records) t ks) (delivers_none r k (none (local_in r k)))
       ∙ none_delivers ks

@@ -26,10 +26,18 @@ use Rattle.cast_events.specs.declared.event.Event.{Event}
 use Rattle.cast_events.specs.declared.event.Event.TheVariants.{Gone}
 use Rattle.cast_events.specs.declared.event.Taken.{Taken}
 use Rattle.cast_domain.specs.Records.{Records}
-use Rattle.cast_domain.specs.PartCalls.{local_in, place_in, record_at, standing_of, time_of, send_in, push_in, close_in, go_in, is_full_in, take_entries_in, set_quota_in, count_cast_in, message_in, note_owed_in, note_resent_in, pay_in, pay_upto_in, note_moment_in, note_ack_in, note_stable_in, receive_in, note_request_in, note_answer_in, move_home_in, report_from_parts, note_joining_in, note_outside_in, note_sent_in, awaits_own_in}
+use Rattle.cast_domain.specs.PartCalls.{local_in, place_in, record_at, standing_of, time_of}
+use Rattle.cast_domain.specs.PartCalls.{send_in, push_in, close_in, go_in, is_full_in}
+use Rattle.cast_domain.specs.PartCalls.{take_entries_in, set_quota_in, count_cast_in, message_in}
+use Rattle.cast_domain.specs.PartCalls.{note_owed_in, note_resent_in, pay_in, pay_upto_in}
+use Rattle.cast_domain.specs.PartCalls.{note_moment_in, note_ack_in, note_stable_in, receive_in}
+use Rattle.cast_domain.specs.PartCalls.{note_request_in, note_answer_in, move_home_in}
+use Rattle.cast_domain.specs.PartCalls.{report_from_parts, note_joining_in, note_outside_in}
+use Rattle.cast_domain.specs.PartCalls.{note_sent_in, awaits_own_in}
 use Rattle.cast_domain.specs.ViewCalls.{pass_in, gone_in, members_in}
 use Rattle.cast_domain.specs.FlushCalls.{freeze_in, pending_of, pend_in, first_in, report_at}
-use Rattle.cast_domain.specs.ReleaseCalls.{release_all_in, is_ended_in, pay_view_in, place_to_pass_of}
+use Rattle.cast_domain.specs.ReleaseCalls.{release_all_in, is_ended_in}
+use Rattle.cast_domain.specs.ReleaseCalls.{pay_view_in, place_to_pass_of}
 
 -- The records as the rules see them: a group stands at a place
 
@@ -116,11 +124,14 @@ records_sessions = record {
 abbrev pub dismiss_in : Records → ℕ → Records
 dismiss_in r k = record r { delay = record r.delay { rows = but_row (local_in r k) r.delay.rows } }
 
--- a session whose program is gone ends by the rule, and then its process, which is in no group, is dismissed
+-- a session whose program is gone ends by the rule, and then its process, which is in no group, is
+-- dismissed
 abbrev pub end_in : Records → ℕ → Records
-end_in r k = if is_gone_status (status_in r.sessions k) then r else dismiss_in (end_session records r k) k
+end_in r k =
+    if is_gone_status (status_in r.sessions k) then r else dismiss_in (end_session records r k) k
 
--- what an event does at once: what its rule says, and the process of a session that ends is dismissed
+-- what an event does at once: what its rule says, and the process of a session that ends is
+-- dismissed
 abbrev pub acted_in : Records → Event → Records
 acted_in r (Gone d k) = end_in r k
 acted_in r e = acted records records_sessions r e
@@ -132,10 +143,12 @@ answered_in r e = answered records records_sessions r e
 -- Rules of what has many parts, by these
 
 abbrev pub on_flushed_in : Records → ℕ → SiteNo → ℕ → CountList → Tail → KeptList → Records
-on_flushed_in r i from view counts tail kept = on_flushed records r i from view (report_from_parts counts tail kept)
+on_flushed_in r i from view counts tail kept =
+    on_flushed records r i from view (report_from_parts counts tail kept)
 
 abbrev pub on_install_in : Records → ℕ → SiteNo → ℕ → Membership → ℕ → CountList → Tail → Records
-on_install_in r i from view members request cut tail = on_install records r i from view members request cut tail
+on_install_in r i from view members request cut tail =
+    on_install records r i from view members request cut tail
 
 abbrev pub complete_in : Records → ℕ → Membership → ℕ → CountList → Records
 complete_in r i members request cut = complete records r i (pending_of members request cut)

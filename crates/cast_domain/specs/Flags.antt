@@ -33,24 +33,30 @@ has_ready r k = is_some (next_ready_in r k)
 abbrev pub lists_some : Records → ℕ → ℕ → Bool
 lists_some r i k =
     may_list records resting_records r i k
-    && (is_some (resting_records.next_places r i k) && may_raise (time_of r.delay (local_in r k)) (record_at r.groups i).name (local_in r k))
+    && (is_some (resting_records.next_places r i k)
+    && may_raise (time_of r.delay (local_in r k)) (record_at r.groups i).name (local_in r k))
 
--- an Install that waits is completed, or one of the messages that the site lacks is wanted from now on
+-- an Install that waits is completed, or one of the messages that the site lacks is wanted from now
+-- on
 abbrev pub goes_on : Records → ℕ → Bool
 goes_on r i =
     elim (record_at r.groups i).here.pending [
-      | Some p ↦ resting_records.has_cut r i p.cut || list_any (wants_own_more r i) (resting_records.missing r i p.cut)
+      | Some p ↦
+          resting_records.has_cut r i p.cut
+          || list_any (wants_own_more r i) (resting_records.missing r i p.cut)
       | None ↦ false
     ]
 
 -- one of the steps over a list changes something, each told of what those before it leave
-abbrev pub changes_over : {X : Type 0} → (Records → X → Bool) → (Records → X → Records) → Records → List X → Bool
+abbrev pub changes_over : {X : Type 0} → (Records → X → Bool) → (Records → X → Records) → Records
+    → List X → Bool
 changes_over flag step r [] = false
 changes_over flag step r (x ∷ xs) = flag r x || changes_over flag step (step r x) xs
 
 -- one of these processes lists ABCASTs of the group at a place
 abbrev pub orders_each : Records → ℕ → List ℕ → Bool
-orders_each r i ks = changes_over (λ t k. lists_some t i k) (λ t k. set_order_by records resting_records t i k) r ks
+orders_each r i ks =
+    changes_over (λ t k. lists_some t i k) (λ t k. set_order_by records resting_records t i k) r ks
 
 -- a process of this site that holds the token of the group at a place does so
 abbrev pub orders_at : Records → ℕ → Bool
@@ -61,7 +67,8 @@ abbrev pub leads_in : Records → ℕ → Bool
 leads_in r i =
     let t : Records = start records r i in
     let u : Records = want_bodies records t i in
-    (may_start (record_at r.groups i).home || list_any (wants_more t i) (wants records t i)) || may_decide (record_at u.groups i).name (record_at u.groups i).home
+    (may_start (record_at r.groups i).home || list_any (wants_more t i) (wants records t i))
+    || may_decide (record_at u.groups i).name (record_at u.groups i).home
 
 abbrev pub leads_some : Records → Bool
 leads_some r = is_home records r && changes_over leads_in (lead_group records) r (records.places r)

@@ -1,12 +1,14 @@
 -- What the calls of a domain for a flush do to its records, and answer, exactly.
-use Rattle.std.specs.Prelude.{ℕ, min, Bool, false, not, ◌&&◌, ◌||◌, ◌==◌, if◌then◌else◌, List, [], ◌∷◌, ◌++◌, take, map, filter, Option, is_some}
+use Rattle.std.specs.Prelude.{ℕ, min, Bool, false, not, ◌&&◌, ◌||◌, ◌==◌, if◌then◌else◌}
+use Rattle.std.specs.Prelude.{List, [], ◌∷◌, ◌++◌, take, map, filter, Option, is_some}
 use Rattle.std.specs.List.{find, list_all}
 use Rattle.std.specs.Option.{option_map, option_map_or}
 use Rattle.cast_types.specs.declared.names.GroupNo.{GroupNo}
 use Rattle.cast_types.specs.declared.names.Proc.{Proc}
 use Rattle.cast_types.specs.declared.names.Uid.{Uid}
 use Rattle.cast_types.specs.declared.limits.TheConstants.{MAX_PLACED, MAX_POSITION}
-use Rattle.cast_types.specs.Names.{Entry, site_eq, group_eq, proc_eq, entry_eq, entry_cmp, is_atomic, uid_in, entry_of}
+use Rattle.cast_types.specs.Names.{Entry, site_eq, group_eq, proc_eq, entry_eq}
+use Rattle.cast_types.specs.Names.{entry_cmp, is_atomic, uid_in, entry_of}
 use Rattle.cast_types.specs.Sets.{is_among, with_item}
 use Rattle.cast_types.specs.Places.{update}
 use Rattle.cast_types.specs.Counts.{CountList, is_within}
@@ -21,7 +23,8 @@ use Rattle.cast_ready.specs.Ready.{frozen_gate, pending_gate, first_of, covered_
 use Rattle.cast_ready.specs.DeliveredCounts.{counts_in}
 use Rattle.cast_delay.specs.Queue.{queue_gating, is_awaited}
 use Rattle.cast_order.specs.Hand.{Hand}
-use Rattle.cast_order.specs.Log.{Log, log_of, change_log, hand_here, closed_by, whole_kept, tail_start_in, tail_ids_in}
+use Rattle.cast_order.specs.Log.{Log, log_of, change_log, hand_here, closed_by}
+use Rattle.cast_order.specs.Log.{whole_kept, tail_start_in, tail_ids_in}
 use Rattle.cast_stable.specs.Acks.{last_received_in, is_received_in}
 use Rattle.cast_message.specs.Receipts.{messages}
 use Rattle.cast_domain.specs.declared.record.GroupRecord.{GroupRecord}
@@ -64,7 +67,8 @@ pend_in r i p tail =
 abbrev pub last_sent_of : Records → GroupRecord → Proc → Entry
 last_sent_of r x p = (p, last_received_in r.acks (source x.name x.here.number p))
 
--- how far the messages of each process were delivered here in the view of a group, and the last ones that members here sent
+-- how far the messages of each process were delivered here in the view of a group, and the last
+-- ones that members here sent
 abbrev pub had_of : Records → GroupRecord → List Entry
 had_of r x =
     counts_in x.name x.here.number r.delay.reached
@@ -85,7 +89,8 @@ with_name_of x m names = if is_kept_of x m then with_item entry_cmp (entry_of m.
 abbrev pub is_abcast_named : Entry → Message → Bool
 is_abcast_named e m = is_atomic (kind_of m.body) && entry_eq (entry_of m.id) e
 
--- a process here holds the token of a group's view; the serials of those that do, and the first of them
+-- a process here holds the token of a group's view; the serials of those that do, and the first of
+-- them
 abbrev pub first_in : Records → GroupNo → ℕ → Option ℕ
 first_in r g k = (hand_here (log_of r.orders g) (local_in r k)).first
 
@@ -102,11 +107,14 @@ holders_in r g = holders_among r (log_of r.orders g).hands
 
 -- the first of them
 abbrev pub holder_in : Records → GroupNo → Option Proc
-holder_in r g = option_map (λ h. local_in r h.process.serial) (find (holds_here r) (log_of r.orders g).hands)
+holder_in r g =
+    option_map (λ h. local_in r h.process.serial) (find (holds_here r) (log_of r.orders g).hands)
 
--- a kept message of the group's view is an ABCAST of this name, for which the view's order has no place
+-- a kept message of the group's view is an ABCAST of this name, for which the view's order has no
+-- place
 abbrev pub is_unplaced_of : Records → GroupRecord → Option Proc → List Received → Entry → Bool
-is_unplaced_of r x holder kept e = is_unplaced (kept_of_view x kept) (whole_kept (log_of r.orders x.name) holder) e
+is_unplaced_of r x holder kept e =
+    is_unplaced (kept_of_view x kept) (whole_kept (log_of r.orders x.name) holder) e
 
 -- the end of the order that a log has
 abbrev pub tail_in : Log → Option Proc → Tail
@@ -115,7 +123,8 @@ tail_in l o = record { start = min MAX_POSITION (tail_start_in l o); ids = tail_
 abbrev pub report_at : Records → GroupRecord → Report
 report_at r x =
     report_of x.here (had_of r x) (tail_in (log_of r.orders x.name) (holder_in r x.name))
-    (kept_list (kept_of_view x r.part.kept) (whole_kept (log_of r.orders x.name) (holder_in r x.name)))
+    (kept_list (kept_of_view x r.part.kept)
+    (whole_kept (log_of r.orders x.name) (holder_in r x.name)))
 
 -- some member here has not delivered a message of the view of a group
 abbrev pub is_awaited_of : Records → GroupRecord → Entry → Bool
@@ -124,7 +133,8 @@ is_awaited_of r x e = is_awaited r.delay.rows (uid_in x.name x.here.number e)
 -- it was received: of a process that is no member, and of another site, nothing was
 abbrev pub is_received_of : Records → GroupRecord → Entry → Bool
 is_received_of r x e =
-    (is_among proc_eq e.0 (members_of x.here) || site_eq e.0.site r.site) && is_received_in r.acks (uid_in x.name x.here.number e)
+    (is_among proc_eq e.0 (members_of x.here) || site_eq e.0.site r.site)
+    && is_received_in r.acks (uid_in x.name x.here.number e)
 
 abbrev pub has_cut_of : Records → GroupRecord → CountList → Bool
 has_cut_of r x cut = list_all (λ e. not (is_awaited_of r x e)) cut

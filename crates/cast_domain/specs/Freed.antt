@@ -19,11 +19,14 @@ IsFreeKey r key = IsKeptOf (λ id. is_free records resting_records r id ≡ true
 
 -- none is free
 abbrev pub AreNotFree : Records → Type 0
-AreNotFree r = (x : Received) → Contains r.part.kept x → is_free records resting_records r x.message.id ≡ false
+AreNotFree r =
+    (x : Received) → Contains r.part.kept x → is_free records resting_records r x.message.id ≡ false
 
 -- none is free but such as are of a source
 abbrev pub AreNotFreeBut : Source → Records → Type 0
-AreNotFreeBut source r = (x : Received) → Contains r.part.kept x → source_of x.message.id ≢ source → is_free records resting_records r x.message.id ≡ false
+AreNotFreeBut source r =
+    (x : Received) → Contains r.part.kept x → source_of x.message.id ≢ source
+    → is_free records resting_records r x.message.id ≡ false
 
 -- the source of the only messages that an event can set free, where that is known
 abbrev pub source_freed : Event → Option Source
@@ -32,7 +35,8 @@ source_freed (event.Frame d from (frame.Ack u)) = Some (source_of u)
 source_freed (event.Frame d from (frame.Stable u)) = Some (source_of u)
 source_freed e = None
 
--- an event is one that sets no message free: entries of an outbox are taken, or a quota gets another value
+-- an event is one that sets no message free: entries of an outbox are taken, or a quota gets
+-- another value
 abbrev pub frees_nothing : Event → Bool
 frees_nothing (event.Quota d name value) = true
 frees_nothing (event.Take d k most) = true

@@ -1,6 +1,7 @@
 -- What contracts see of a domain's sessions.
 -- That is how many serials were given, and those that are not gone, in the order of their serials.
-use Rattle.std.specs.Prelude.{ℕ, ◌+◌, Bool, not, ◌==◌, nat_le, if◌then◌else◌, List, [], ◌∷◌, ◌++◌, filter}
+use Rattle.std.specs.Prelude.{ℕ, ◌+◌, Bool, not, ◌==◌, nat_le}
+use Rattle.std.specs.Prelude.{if◌then◌else◌, List, [], ◌∷◌, ◌++◌, filter}
 use Rattle.std.specs.List.{find, list_all}
 use Rattle.std.specs.Option.{option_map_or}
 use Rattle.cast_events.specs.declared.session.Status.{Status}
@@ -33,7 +34,10 @@ closed_if k e = if e.0 == k then Closed else e.1
 
 -- the session of the next serial is opened
 abbrev pub with_next : GivenSessions → GivenSessions
-with_next s = record { used = s.used + 1; records = s.records ++ record { serial = s.used + 1; status = Open } ∷ [] }
+with_next s = record {
+  used = s.used + 1;
+  records = s.records ++ record { serial = s.used + 1; status = Open } ∷ [];
+}
 
 -- one is gone
 abbrev pub without_serial : ℕ → GivenSessions → GivenSessions

@@ -13,7 +13,10 @@ use Rattle.cast_domain.specs.PartCalls.{is_current_in, is_own_in, record_at, sta
 
 -- a message of the view of a group of which its process is a member, and that has not delivered it
 abbrev pub is_due_in : Records → Uid → Bool
-is_due_in r u = is_current_in r u && (is_member (standing_of r.delay u.proc u.group) && not (delivered_in r.delay u.proc u))
+is_due_in r u =
+    is_current_in r u
+    && (is_member (standing_of r.delay u.proc u.group)
+    && not (delivered_in r.delay u.proc u))
 
 -- where the messages of a process in the view of the group at a place come from
 abbrev pub source_at : List GroupRecord → ℕ → Proc → Source
@@ -21,4 +24,6 @@ source_at groups i p = source (record_at groups i).name (record_at groups i).her
 
 -- of the messages of a source that are kept a process has delivered each ABCAST of its own
 abbrev pub AwaitsNoneOf : Records → Proc → Source → Type 0
-AwaitsNoneOf r p s = (x : Received) → Contains r.part.kept x → source_of x.message.id ≡ s → is_own_in r p x.message ≡ false
+AwaitsNoneOf r p s =
+    (x : Received) → Contains r.part.kept x → source_of x.message.id ≡ s
+    → is_own_in r p x.message ≡ false

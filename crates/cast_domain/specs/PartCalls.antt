@@ -1,5 +1,7 @@
 -- What the calls of a domain that change one part of its records do, exactly.
-use Rattle.std.specs.Prelude.{ℕ, ◌+◌, ◌-◌, min, max, Bool, false, not, ◌&&◌, ◌==◌, nat_le, if◌then◌else◌, List, [], ◌∷◌, ◌++◌, length, map, filter, get_or, Option, Some, None, is_some}
+use Rattle.std.specs.Prelude.{ℕ, ◌+◌, ◌-◌, min, max, Bool, false, not, ◌&&◌, ◌==◌}
+use Rattle.std.specs.Prelude.{nat_le, if◌then◌else◌, List, [], ◌∷◌, ◌++◌, length}
+use Rattle.std.specs.Prelude.{map, filter, get_or, Option, Some, None, is_some}
 use Rattle.std.specs.List.{find, list_any}
 use Rattle.std.specs.Option.{option_map, option_map_or}
 use Rattle.cast_types.specs.declared.names.SiteNo.{SiteNo}
@@ -47,7 +49,8 @@ use Rattle.cast_events.specs.declared.session.Status.TheVariants.{Closed}
 use Rattle.cast_domain.specs.GivenSessions.{SessionRecord}
 use Rattle.cast_view.specs.MemberSide.{no_group, is_current, with_request, with_answer}
 use Rattle.cast_view.specs.Home.{HomeMove, first_home, is_empty, apply_move}
-use Rattle.cast_domain.specs.Shared.{part_boxing, part_pushing, part_taking, part_with, part_owing, part_renewing, part_paying, part_paying_upto}
+use Rattle.cast_domain.specs.Shared.{part_boxing, part_pushing, part_taking, part_with}
+use Rattle.cast_domain.specs.Shared.{part_owing, part_renewing, part_paying, part_paying_upto}
 use Rattle.cast_rules.specs.Rules.Sending.{may_raise}
 use Rattle.cast_domain.specs.Records.{Records}
 
@@ -67,7 +70,8 @@ serials_in r = map (λ row. row.process.serial) r.delay.rows
 -- where a group stands
 abbrev pub place_among : GroupNo → List GroupRecord → Option ℕ
 place_among g [] = None
-place_among g (x ∷ groups) = if group_eq x.name g then Some 0 else option_map (λ i. i + 1) (place_among g groups)
+place_among g (x ∷ groups) =
+    if group_eq x.name g then Some 0 else option_map (λ i. i + 1) (place_among g groups)
 
 abbrev pub place_in : Records → GroupNo → Option ℕ
 place_in r g = place_among g r.groups
@@ -85,9 +89,13 @@ standing_of q p g = option_map_or (λ row. standing_in row g) (row_of q.rows p) 
 abbrev pub time_of : Queue → Proc → ClockList
 time_of q p = option_map_or (λ row. row.time) (row_of q.rows p) no_time
 
--- the time of a process with one more message of its own, and the stamp of that; none where the count cannot be raised
+-- the time of a process with one more message of its own, and the stamp of that; none where the
+-- count cannot be raised
 abbrev pub raised_in : Queue → Proc → GroupNo → Option (ClockList × ClockList)
-raised_in q p g = if may_raise (time_of q p) g p then Some (with_bump (time_of q p) g p, with_bump (time_of q p) g p) else None
+raised_in q p g =
+    if may_raise (time_of q p) g p
+    then Some (with_bump (time_of q p) g p, with_bump (time_of q p) g p)
+    else None
 
 -- Changes of one part
 
@@ -96,24 +104,32 @@ send_in r to f = record r { frames = r.frames ++ (r.config.domain, to, f) ∷ []
 
 -- an entry is pushed to the session of a serial
 abbrev pub push_in : Records → ℕ → Push → Records
-push_in r k p = record r { part = part_pushing r.part k p; pushed = r.pushed ++ (r.config.domain, k, p) ∷ [] }
+push_in r k p = record r {
+  part = part_pushing r.part k p;
+  pushed = r.pushed ++ (r.config.domain, k, p) ∷ [];
+}
 
 -- the session of a serial has another status
 abbrev pub with_status : ℕ → Status → SessionRecord → SessionRecord
 with_status k status x = if x.serial == k then record x { status = status } else x
 
 abbrev pub close_in : Records → ℕ → Refusal → Records
-close_in r k refusal = record (push_in r k (push.Closed refusal)) { sessions = map (with_status k Closed) r.sessions }
+close_in r k refusal =
+    record (push_in r k (push.Closed refusal)) { sessions = map (with_status k Closed) r.sessions }
 
 -- it is gone, and its outbox
 abbrev pub go_in : Records → ℕ → Records
-go_in r k = record r { sessions = filter (λ x. not (x.serial == k)) r.sessions; part = part_boxing r.part k [] }
+go_in r k = record r {
+  sessions = filter (λ x. not (x.serial == k)) r.sessions;
+  part = part_boxing r.part k [];
+}
 
 -- its outbox has as many entries as it may have
 abbrev pub is_full_in : Records → ℕ → Bool
 is_full_in r k = nat_le r.quotas.outbox (length (r.part.outboxes k))
 
--- why a session is closed: where its outbox is full its program is too slow, whatever else is the matter
+-- why a session is closed: where its outbox is full its program is too slow, whatever else is the
+-- matter
 abbrev pub reason_in : Records → ℕ → Refusal → Refusal
 reason_in r k refusal = if is_full_in r k then Slow else refusal
 
@@ -127,7 +143,9 @@ abbrev pub count_cast_in : Records → Records
 count_cast_in r = record r { casts = min MAX_CASTS (r.casts + 1) }
 
 abbrev pub tell_in : Records → Proc → ProcessUpdate → Records
-tell_in r p f = record r { delay = record r.delay { rows = change_row p (told_row f) r.delay.rows } }
+tell_in r p f = record r {
+  delay = record r.delay { rows = change_row p (told_row f) r.delay.rows };
+}
 
 -- Owed frames
 
@@ -173,7 +191,10 @@ abbrev pub receive_in : Records → Message → Records
 receive_in r m =
     record r {
       part = part_with r.part m;
-      delay = record r.delay { offered = r.delay.offered ++ offer_of (record { key = record { 0 = r.part.next }; message = m }) ∷ [] };
+      delay = record r.delay {
+        offered = r.delay.offered
+            ++ offer_of (record { key = record { 0 = r.part.next }; message = m }) ∷ [];
+      };
       acks = received_ledger r.acks m.id;
       orders = learn_in r.orders m.id.group m.body;
     }
@@ -181,10 +202,14 @@ receive_in r m =
 -- Requests, and what the home keeps
 
 abbrev pub note_request_in : Records → ℕ → Change → Proc → Records
-note_request_in r i what p = record r { groups = update r.groups i (λ x. record x { here = with_request x.here what p }) }
+note_request_in r i what p = record r {
+  groups = update r.groups i (λ x. record x { here = with_request x.here what p });
+}
 
 abbrev pub note_answer_in : Records → ℕ → Records
-note_answer_in r i = record r { groups = update r.groups i (λ x. record x { here = with_answer x.here }) }
+note_answer_in r i = record r {
+  groups = update r.groups i (λ x. record x { here = with_answer x.here });
+}
 
 -- the home of a group moves on
 abbrev pub moved_home : HomeMove → GroupRecord → GroupRecord
@@ -204,25 +229,31 @@ report_from_parts counts tail kept = record { counts = counts; tail = tail; kept
 -- Processes
 
 abbrev pub note_joining_in : Records → ℕ → GroupNo → ℕ → ℕ → Records
-note_joining_in r k g number heard = tell_in r (local_in r k) (fact.Standing g (Joining number heard))
+note_joining_in r k g number heard =
+    tell_in r (local_in r k) (fact.Standing g (Joining number heard))
 
 abbrev pub note_outside_in : Records → ℕ → GroupNo → Records
 note_outside_in r k g = tell_in r (local_in r k) (fact.Standing g Outside)
 
--- how many messages of a process of this site are stable in a view: all in a view of this site alone
+-- how many messages of a process of this site are stable in a view: all in a view of this site
+-- alone
 abbrev pub settled_in : Records → GroupNo → ℕ → Proc → ℕ
-settled_in r g view p = if is_empty (others_in r.acks g) then MAX_NUMBER else upto_in r.acks (uid_in g view (p, 0))
+settled_in r g view p =
+    if is_empty (others_in r.acks g) then MAX_NUMBER else upto_in r.acks (uid_in g view (p, 0))
 
--- what is kept of a process that sent a set-order message: that it did so, and that the token is handed over, if it is
+-- what is kept of a process that sent a set-order message: that it did so, and that the token is
+-- handed over, if it is
 abbrev pub sent_hand : ℕ → ℕ → Placement → Hand → Hand
 sent_hand count stable s h =
-    let now : Hand = note_order_sent count (s.first + length s.ids - 1) stable h in if is_some s.holder then hand_over now else now
+    let now : Hand = note_order_sent count (s.first + length s.ids - 1) stable h in
+    if is_some s.holder then hand_over now else now
 
 -- the logs once a process here has sent a message, where its messages up to a count are stable
 abbrev pub orders_sent : List Log → Uid → ℕ → Body → List Log
 orders_sent orders u stable (body.Causal payload) = orders
 orders_sent orders u stable (body.Atomic payload) = orders
-orders_sent orders u stable (body.Order s) = change_log u.group (with_hand u.proc (sent_hand u.count stable s)) orders
+orders_sent orders u stable (body.Order s) =
+    change_log u.group (with_hand u.proc (sent_hand u.count stable s)) orders
 
 abbrev pub note_sent_by : Records → Proc → Message → Records
 note_sent_by r p m =
@@ -234,13 +265,18 @@ abbrev pub note_sent_in : Records → ℕ → Message → Records
 note_sent_in r k m = note_sent_by r (local_in r k) m
 
 abbrev pub is_current_in : Records → Uid → Bool
-is_current_in r u = option_map_or (λ i. is_current (record_at r.groups i).here u.view) (place_in r u.group) false
+is_current_in r u =
+    option_map_or (λ i. is_current (record_at r.groups i).here u.view) (place_in r u.group) false
 
--- an ABCAST of its own, of the view of a group of which it is a member, that a process has not delivered
+-- an ABCAST of its own, of the view of a group of which it is a member, that a process has not
+-- delivered
 abbrev pub is_own_in : Records → Proc → Message → Bool
 is_own_in r p m =
     is_atomic (kind_of m.body)
-    && (proc_eq m.id.proc p && (is_current_in r m.id && (is_member (standing_of r.delay p m.id.group) && not (delivered_in r.delay p m.id))))
+    && (proc_eq m.id.proc p
+    && (is_current_in r m.id
+    && (is_member (standing_of r.delay p m.id.group)
+    && not (delivered_in r.delay p m.id))))
 
 abbrev pub awaits_own_in : Records → Proc → Bool
 awaits_own_in r p = list_any (λ x. is_own_in r p x.message) r.part.kept

@@ -96,7 +96,8 @@ pub record Keeps (old : Domain) (new : Domain) : Type 0 where
   pub config : new.config ≡ old.config
   pub halted : new.halted ≡ old.halted
 
--- the same is lent as before, and of what is shared the parts of all domains but one stay as they are
+-- the same is lent as before, and of what is shared the parts of all domains but one stay as they
+-- are
 pub record GivesBack (d : DomainNo) (old : Lent) (new : Lent) : Type 0 where
   pub others : LeavesOthers d old.shared.now new.shared.now
   pub shared : new.shared.ghost_name ≡ old.shared.ghost_name
@@ -114,19 +115,23 @@ Makes rule old lent new later = records_in new later ≡ rule (records_in old le
 
 -- by a rule that names the cut of an Install, whatever that is
 abbrev pub MakesAtAnyCut : (Records → CountList → Records) → Domain → Lent → Domain → Lent → Type 0
-MakesAtAnyCut rule old lent new later = (cut : CountList) → records_in new later ≡ rule (records_in old lent) cut
+MakesAtAnyCut rule old lent new later =
+    (cut : CountList) → records_in new later ≡ rule (records_in old lent) cut
 
 -- a call of the domain alone, whatever its part is and was sent
 abbrev pub MakesAlone : (Records → Records) → Domain → Domain → Type 0
-MakesAlone rule old new = (o : Outs) (part : Part) → records_of new part o ≡ rule (records_of old part o)
+MakesAlone rule old new =
+    (o : Outs) (part : Part) → records_of new part o ≡ rule (records_of old part o)
 
 -- and one that sends or delivers, whatever the domain's part is
 abbrev pub MakesWithOuts : (Records → Records) → Domain → Outs → Domain → Outs → Type 0
-MakesWithOuts rule old before new after = (part : Part) → records_of new part after ≡ rule (records_of old part before)
+MakesWithOuts rule old before new after =
+    (part : Part) → records_of new part after ≡ rule (records_of old part before)
 
 -- where a call tells that nothing changed, nothing did
 abbrev pub StaysUnless : Domain → Lent → Domain → Lent → Bool → Type 0
-StaysUnless old lent new later changed = changed ≡ false → records_in new later ≡ records_in old lent
+StaysUnless old lent new later changed =
+    changed ≡ false → records_in new later ≡ records_in old lent
 
 -- what the domain alone answers of its records, whatever its part is and was sent
 abbrev pub TellsAlone : {A : Type 0} → (Records → A) → Domain → A → Type 0
@@ -137,5 +142,7 @@ abbrev pub IsAttempt : Records → Attempt Records → Option Refusal → Type 0
 IsAttempt r attempt refusal = (r, refusal) ≡ attempt
 
 -- by the rule of what may be refused
-abbrev pub Attempts : (Records → Attempt Records) → Domain → Lent → Domain → Lent → Option Refusal → Type 0
-Attempts rule old lent new later refusal = IsAttempt (records_in new later) (rule (records_in old lent)) refusal
+abbrev pub Attempts : (Records → Attempt Records) → Domain → Lent → Domain → Lent
+    → Option Refusal → Type 0
+Attempts rule old lent new later refusal =
+    IsAttempt (records_in new later) (rule (records_in old lent)) refusal

@@ -1,5 +1,6 @@
 -- Which messages the calls of a domain let go, and what is settled of an order, exactly.
-use Rattle.std.specs.Prelude.{ℕ, ◌+◌, ◌-◌, Bool, not, ◌&&◌, ◌==◌, nat_lt, if◌then◌else◌, List, length, map, filter, Option, Some, None}
+use Rattle.std.specs.Prelude.{ℕ, ◌+◌, ◌-◌, Bool, not, ◌&&◌, ◌==◌, nat_lt, if◌then◌else◌}
+use Rattle.std.specs.Prelude.{List, length, map, filter, Option, Some, None}
 use Rattle.std.specs.List.{fold}
 use Rattle.cast_types.specs.declared.names.GroupNo.{GroupNo}
 use Rattle.cast_types.specs.declared.names.Proc.{Proc}
@@ -35,7 +36,8 @@ release_all_in r passes = fold release_in r (keys_passing passes r.part.kept)
 
 -- a message of a view that has ended, of the group at a place
 abbrev pub is_ended_in : Records → ℕ → Uid → Bool
-is_ended_in r i u = group_eq u.group (record_at r.groups i).name && nat_lt u.view (record_at r.groups i).here.number
+is_ended_in r i u =
+    group_eq u.group (record_at r.groups i).name && nat_lt u.view (record_at r.groups i).here.number
 
 abbrev pub pay_view_in : Records → GroupNo → Records
 pay_view_in r g = record r { part = part_paying_view r.part g }
@@ -47,18 +49,22 @@ log_in r g = log_of r.orders g
 abbrev pub waiting_past : Log → Proc → ℕ → ℕ
 waiting_past l p places = length (hand_here l p).waiting - (places - length_of l)
 
--- how many ids past those places that it has settled a process has delivered, where its messages up to a count are stable: of those that are
--- forgotten all, of the order known as many as it has, and what it has to list behind that
+-- how many ids past those places that it has settled a process has delivered, where its messages up
+-- to a count are stable: of those that are forgotten all, of the order known as many as it has, and
+-- what it has to list behind that
 abbrev pub settled_at : Records → Proc → GroupRecord → ℕ
 settled_at r p x = settled_by (settled_in r x.name x.here.number p) (hand_here (log_in r x.name) p)
 
 abbrev pub unsettled_at : Records → Proc → GroupRecord → ℕ
 unsettled_at r p x =
     ((log_in r x.name).base - settled_at r p x)
-    + length (filter (λ e. delivered_in r.delay p (uid_in x.name x.here.number e)) (known_past (settled_at r p x) (log_in r x.name)))
+    + length (filter (λ e. delivered_in r.delay p (uid_in x.name x.here.number e))
+    (known_past (settled_at r p x) (log_in r x.name)))
     + waiting_past (log_in r x.name) p (settled_at r p x)
 
 -- the place from which another process would order
 abbrev pub place_to_pass_of : Records → Proc → GroupRecord → Option ℕ
 place_to_pass_of r p x =
-    if (unsettled_at r p x == 0) && nat_lt (places_by (log_in r x.name) p) MAX_POSITION then Some (places_by (log_in r x.name) p + 1) else None
+    if (unsettled_at r p x == 0) && nat_lt (places_by (log_in r x.name) p) MAX_POSITION
+    then Some (places_by (log_in r x.name) p + 1)
+    else None

@@ -1,6 +1,7 @@
 -- What all domains of a daemon share, as one domain sees it.
 -- It sees its own part, and what is left for the others.
-use Rattle.std.specs.Prelude.{◌≡◌, ℕ, ◌+◌, not, ◌==◌, if◌then◌else◌, List, [], ◌∷◌, ◌++◌, filter, drop}
+use Rattle.std.specs.Prelude.{◌≡◌, ℕ, ◌+◌, not, ◌==◌, if◌then◌else◌}
+use Rattle.std.specs.Prelude.{List, [], ◌∷◌, ◌++◌, filter, drop}
 use Rattle.cast_types.specs.declared.names.DomainNo.{DomainNo}
 use Rattle.cast_types.specs.declared.names.GroupNo.{GroupNo}
 use Rattle.cast_types.specs.declared.names.Key.{Key}
@@ -10,7 +11,8 @@ use Rattle.cast_message.specs.declared.message.Received.{Received}
 use Rattle.cast_store.specs.Store.{kept_in, next_in}
 use Rattle.cast_timer.specs.declared.key.Owed.{Owed}
 use Rattle.cast_timer.specs.declared.key.OwedKey.{OwedKey}
-use Rattle.cast_timer.specs.Owed.{with_owed, paid, renew, key_eq as owed_key_eq, is_of_view, is_upto, all_renewed}
+use Rattle.cast_timer.specs.Owed.{with_owed, paid, renew, key_eq as owed_key_eq}
+use Rattle.cast_timer.specs.Owed.{is_of_view, is_upto, all_renewed}
 use Rattle.cast_timer.specs.Rows.{owed_in}
 use Rattle.cast_outbox.specs.Pending.{with_entry}
 use Rattle.cast_outbox.specs.Outboxes.{outboxes_in}
@@ -18,8 +20,8 @@ use Rattle.cast_types.specs.Sets.{set_at}
 use Rattle.cast_message.specs.declared.client.Push.{Push}
 use Rattle.cast_domain.specs.declared.shared.Shared.{Shared}
 
--- the messages that a domain keeps, in order of receipt, the number of the next key, the frames that it owes, and the outboxes of its sessions, by
--- serial
+-- the messages that a domain keeps, in order of receipt, the number of the next key, the frames
+-- that it owes, and the outboxes of its sessions, by serial
 pub record Part : Type 0 where
   pub kept : List Received
   pub next : ℕ
@@ -32,7 +34,12 @@ no_part = record { kept = []; next = 0; owed = []; outboxes = λ k. [] }
 -- a domain's part
 abbrev pub part_of : DomainNo → Shared → Part
 part_of d s =
-    record { kept = kept_in s.store d; next = next_in s.store d; owed = owed_in s.timers d; outboxes = outboxes_in s.outboxes d }
+    record {
+      kept = kept_in s.store d;
+      next = next_in s.store d;
+      owed = owed_in s.timers d;
+      outboxes = outboxes_in s.outboxes d;
+    }
 
 -- the parts of all domains but one
 abbrev pub rest_of : DomainNo → Shared → DomainNo → Part
@@ -46,7 +53,10 @@ LeavesOthers d old new = rest_of d new ≡ rest_of d old
 
 -- one more message is kept, under the next key
 abbrev pub part_with : Part → Message → Part
-part_with p m = record p { kept = p.kept ++ record { key = record { 0 = p.next }; message = m } ∷ []; next = p.next + 1 }
+part_with p m = record p {
+  kept = p.kept ++ record { key = record { 0 = p.next }; message = m } ∷ [];
+  next = p.next + 1;
+}
 
 -- the message under a key is kept no longer
 abbrev pub part_without : Part → Key → Part

@@ -16,7 +16,8 @@ use Rattle.cast_domain.specs.declared.shared.Shared.{Shared}
 use Rattle.cast_rules.specs.Lawful.{IsLawful}
 use Rattle.cast_domain.specs.Fits.{Fits, Represents, with_domain}
 
--- whatever lawful history the old records stand for, the new ones stand for the one in which it comes to rest
+-- whatever lawful history the old records stand for, the new ones stand for the one in which it
+-- comes to rest
 abbrev pub IsRested : Records → Records → Type 0
 IsRested old new = (s : State) → Fits old s → IsLawful s → (t : State) × RestsAt s t × Fits new t
 
@@ -30,9 +31,10 @@ step_outs s =
       pushed = with_domain s.config.domain s.pushes;
     }
 
--- from a history s the event leads with this answer to one for which the domain then stands, and what that step sent,
--- delivered and pushed is added
-pub record IsStepOf (s : State) (e : Event) (answer : Taken) (new : Domain) (part : Part) (before : Outs) (after : Outs) : Type 0 where
+-- from a history s the event leads with this answer to one for which the domain then stands, and
+-- what that step sent, delivered and pushed is added
+pub record IsStepOf (s : State) (e : Event) (answer : Taken) (new : Domain) (part : Part)
+    (before : Outs) (after : Outs) : Type 0 where
   pub end : State
   pub steps : IsStep s e answer end
   pub means : Represents new part end
@@ -40,14 +42,19 @@ pub record IsStepOf (s : State) (e : Event) (answer : Taken) (new : Domain) (par
 
 -- whatever history the domain stood for, with its part of what is shared before and after
 abbrev pub IsStepped : Domain → Part → Event → Taken → Domain → Part → Outs → Outs → Type 0
-IsStepped old part e answer new next before after = (s : State) → Represents old part s → IsStepOf s e answer new next before after
+IsStepped old part e answer new next before after =
+    (s : State) → Represents old part s → IsStepOf s e answer new next before after
 
 -- the same beside all that is shared
-abbrev pub IsSteppedBeside : Domain → Shared → Outs → Event → Domain → Shared → Outs → Taken → Type 0
+abbrev pub IsSteppedBeside : Domain → Shared → Outs → Event → Domain → Shared → Outs
+    → Taken → Type 0
 IsSteppedBeside old shared before e new later after answer =
-    IsStepped old (part_of (number_of old) shared) e answer new (part_of (number_of old) later) before after
+    IsStepped old (part_of (number_of old) shared) e answer new (part_of (number_of old) later)
+    before after
 
--- an event is refused since the domain is halted, and nothing changes: the domain, what is shared, and what was sent
-abbrev pub IsRefusedBeside : {E : Type 0} → Domain → Shared → Outs → Domain → Shared → Outs → Result Taken E → Type 0
+-- an event is refused since the domain is halted, and nothing changes: the domain, what is shared,
+-- and what was sent
+abbrev pub IsRefusedBeside : {E : Type 0} → Domain → Shared → Outs → Domain → Shared → Outs
+    → Result Taken E → Type 0
 IsRefusedBeside old shared before new later after result =
     (result ≡ Ok (Refused Halted)) × (new ≡ old) × (later ≡ shared) × (after ≡ before)

@@ -1,5 +1,6 @@
 -- How the calls of a domain take its records to a view, exactly.
-use Rattle.std.specs.Prelude.{ℕ, Bool, not, ◌&&◌, ◌||◌, if◌then◌else◌, List, filter, Option, Some, None}
+use Rattle.std.specs.Prelude.{ℕ, Bool, not, ◌&&◌, ◌||◌, if◌then◌else◌}
+use Rattle.std.specs.Prelude.{List, filter, Option, Some, None}
 use Rattle.std.specs.List.{fold}
 use Rattle.cast_types.specs.declared.names.GroupNo.{GroupNo}
 use Rattle.cast_types.specs.declared.names.Proc.{Proc}
@@ -18,7 +19,8 @@ use Rattle.cast_stable.specs.Acks.{told_ledger}
 use Rattle.cast_view.specs.MemberSide.{members_of, holder_at, with_view, is_taken_in}
 use Rattle.cast_view.specs.Sites.{other_sites}
 use Rattle.cast_domain.specs.Records.{Records}
-use Rattle.cast_domain.specs.PartCalls.{local_in, serials_in, record_at, standing_of, time_of, tell_in}
+use Rattle.cast_domain.specs.PartCalls.{local_in, serials_in, record_at}
+use Rattle.cast_domain.specs.PartCalls.{standing_of, time_of, tell_in}
 
 -- a process enters a view
 abbrev pub enter_in : GroupNo → ℕ → Records → Proc → Records
@@ -28,7 +30,9 @@ enter_in g n r p =
 -- a process that a view names, where it is here and is taken in
 abbrev pub take_in : GroupNo → ℕ → ℕ → Records → Proc → Records
 take_in g n request r p =
-    if site_eq p.site r.site && is_taken_in request (standing_of r.delay p g) then enter_in g n r p else r
+    if site_eq p.site r.site && is_taken_in request (standing_of r.delay p g)
+    then enter_in g n r p
+    else r
 
 -- a group's view has a holder, which is a process here, or none is
 abbrev pub holding_from : GroupNo → Option Proc → List Log → List Log
@@ -40,8 +44,11 @@ view_in r i n members =
     record r {
       groups = update r.groups i (λ x. record x { here = with_view r.site n members x.here });
       delay = queue_viewing (record_at r.groups i).name n r.delay;
-      acks = told_ledger r.acks (record_at r.groups i).name n (other_sites r.site (members_of (with_view r.site n members (record_at r.groups i).here)));
-      orders = holding_from (record_at r.groups i).name (holder_at r.site (with_view r.site n members (record_at r.groups i).here)) (but_log (record_at r.groups i).name r.orders);
+      acks = told_ledger r.acks (record_at r.groups i).name n (other_sites r.site
+          (members_of (with_view r.site n members (record_at r.groups i).here)));
+      orders = holding_from (record_at r.groups i).name
+          (holder_at r.site (with_view r.site n members (record_at r.groups i).here))
+          (but_log (record_at r.groups i).name r.orders);
     }
 
 abbrev pub begin_view_in : Records → ℕ → ℕ → Membership → ℕ → Records
@@ -55,17 +62,20 @@ put_out_in g r p = tell_in r p (fact.Standing g Outside)
 -- where the next view does not name it, or a view was skipped
 abbrev pub is_put_out_in : GroupNo → Bool → Membership → Records → ℕ → Bool
 is_put_out_in g skips members r k =
-    is_member (standing_of r.delay (local_in r k) g) && (skips || not (is_among proc_eq (local_in r k) members.list))
+    is_member (standing_of r.delay (local_in r k) g)
+    && (skips || not (is_among proc_eq (local_in r k) members.list))
 
 abbrev pub put_out_if_in : GroupNo → Bool → Membership → Records → ℕ → Records
-put_out_if_in g skips members r k = if is_put_out_in g skips members r k then put_out_in g r (local_in r k) else r
+put_out_if_in g skips members r k =
+    if is_put_out_in g skips members r k then put_out_in g r (local_in r k) else r
 
 abbrev pub put_out_all_in : GroupNo → Bool → Membership → Records → Records
 put_out_all_in g skips members r = fold (put_out_if_in g skips members) r (serials_in r)
 
 -- the site passes to the next view of the group at a place
 abbrev pub pass_in : Records → ℕ → Bool → ℕ → Membership → ℕ → Records
-pass_in r i skips n members request = begin_view_in (put_out_all_in (record_at r.groups i).name skips members r) i n members request
+pass_in r i skips n members request =
+    begin_view_in (put_out_all_in (record_at r.groups i).name skips members r) i n members request
 
 -- who is put out then, and who is a member of a group
 abbrev pub serials_put_out : GroupNo → Bool → Membership → Records → List ℕ

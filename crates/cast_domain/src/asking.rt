@@ -33,7 +33,8 @@ impl Domain {
         requires placed { place < vec_len self.old.groups }
         requires numbered { (record_at self.old.groups.items place).here.asked < 4294967295 }
         ensures stays { KeepsBeside self.old lent.old self.new lent.new }
-        ensures made { OnOk result (Makes (λ r. request records r place change process) self.old lent.old self.new lent.new) }
+        ensures made { OnOk result (Makes (λ r. request records r place change process)
+            self.old lent.old self.new lent.new) }
         ensures len { vec_len self.new.groups ≡ vec_len self.old.groups }
     {
         let is_first = self.record(place).here.requests().is_empty();
@@ -48,7 +49,8 @@ impl Domain {
     pub fn ask_home(&self, place: usize, lent: &mut Lent<'_>) -> Result<(), NoMemory>
         requires { place < vec_len self.now.groups }
         ensures back { GivesBack self.now.config.domain lent.old lent.new }
-        ensures made { OnOk result (Makes (λ r. ask_home records r place) self.now lent.old self.now lent.new) }
+        ensures made { OnOk result
+            (Makes (λ r. ask_home records r place) self.now lent.old self.now lent.new) }
     {
         let record = self.record(place);
         if record.here.requests().is_empty() {

@@ -39,7 +39,8 @@ impl Domain {
     ghost use Rattle.cast_types.specs.Names.{group_cmp};
     ghost use Rattle.cast_types.specs.Rising.{is_rising};
     ghost use Rattle.cast_rules.specs.State.{opening};
-    ghost use Rattle.cast_domain.specs.Records.{number_of, quotas_of, is_halted, IsFor, Keeps, MakesAlone, MakesWithOuts};
+    ghost use Rattle.cast_domain.specs.Records.{number_of, quotas_of, is_halted, IsFor};
+    ghost use Rattle.cast_domain.specs.Records.{Keeps, MakesAlone, MakesWithOuts};
     ghost use Rattle.cast_domain.specs.Shared.{no_part};
     ghost use Rattle.cast_domain.specs.Fits.{Represents};
     ghost use Rattle.cast_domain.specs.PartCalls.{place_among, record_at, send_in, tell_in};
@@ -52,7 +53,8 @@ impl Domain {
         ensures number { IfOk result (λ d. number_of d ≡ config.domain) }
         ensures running { IfOk result (λ d. is_halted d ≡ false) }
         ensures placed { IfOk result (λ d. IsFor site config d) }
-        ensures begins { IfOk result (λ d. is_rising group_cmp config.groups ≡ true → Represents d no_part (opening site config)) }
+        ensures begins { IfOk result (λ d. is_rising group_cmp config.groups ≡ true
+            → Represents d no_part (opening site config)) }
     {
         let mut groups = Vec::new(alloc);
         for group in config.groups.as_slice() {
@@ -136,7 +138,8 @@ impl Domain {
 
     // Sends a frame to a site.
     pub fn send(&self, outs: &mut Outs, to: SiteNo, frame: SiteFrame) -> Result<(), NoMemory>
-        ensures { OnOk result (MakesWithOuts (λ r. send_in r to frame) self.now outs.old self.now outs.new) }
+        ensures { OnOk result
+            (MakesWithOuts (λ r. send_in r to frame) self.now outs.old self.now outs.new) }
     {
         outs.send(self.config.domain, to, frame)
     }

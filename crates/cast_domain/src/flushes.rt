@@ -22,7 +22,8 @@ impl Domain {
         })
     }
 
-    // Whether a message of the view of a group was received: of a process that is no member, and of another site, nothing was.
+    // Whether a message of the view of a group was received: of a process that is no member, and of
+    // another site, nothing was.
     pub fn is_received_of(&self, group: &GroupRecord, proc: Proc, count: u32) -> bool
         ensures { result ≡ is_received_of (own_records self.now) group.now (proc, count) }
     {

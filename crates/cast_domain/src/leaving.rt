@@ -10,11 +10,13 @@ use cast_types::{GroupNo, NoMemory, Refusal, Standing};
 
 impl Domain {
     ghost use Rattle.std.specs.Prelude.{false, None, IfOk, OnOk, vec_len, Some};
-    ghost use Rattle.cast_domain.specs.Records.{GivesBack, KeepsBeside, records_in, Makes, Attempts};
+    ghost use Rattle.cast_domain.specs.Records.{GivesBack, KeepsBeside};
+    ghost use Rattle.cast_domain.specs.Records.{records_in, Makes, Attempts};
     ghost use Rattle.cast_domain.specs.PartCalls.{is_full_in, push_in, reason_in};
     ghost use Rattle.cast_domain.specs.Calls.{records};
     ghost use Rattle.cast_rules.specs.Rules.Commands.{leave};
-    ghost use Rattle.cast_rules.specs.Rules.Leaving.{leave_all, leave_at, leave_group, close_session, tell, tell_open};
+    ghost use Rattle.cast_rules.specs.Rules.Leaving.{leave_all, leave_at, leave_group};
+    ghost use Rattle.cast_rules.specs.Rules.Leaving.{close_session, tell, tell_open};
 
     // Lets a process leave the group at a place.
     pub fn leave_at(
@@ -26,7 +28,8 @@ impl Domain {
     ) -> Result<Option<Refusal>, NoMemory>
         requires { place < vec_len self.old.groups }
         ensures stays { KeepsBeside self.old lent.old self.new lent.new }
-        ensures made { IfOk result (Attempts (λ r. leave_at records r serial group place) self.old lent.old self.new lent.new) }
+        ensures made { IfOk result (Attempts (λ r. leave_at records r serial group place)
+            self.old lent.old self.new lent.new) }
         ensures len { vec_len self.new.groups ≡ vec_len self.old.groups }
     {
         match self.delay.standing(self.process(serial), group) {
@@ -38,7 +41,8 @@ impl Domain {
         }
     }
 
-    // A process is outside the group at a place from now on, and asks to leave it, while a number is left.
+    // A process is outside the group at a place from now on, and asks to leave it, while a number
+    // is left.
     fn leave_group(
         &mut self,
         place: usize,
@@ -48,7 +52,8 @@ impl Domain {
     ) -> Result<(), NoMemory>
         requires { place < vec_len self.old.groups }
         ensures stays { KeepsBeside self.old lent.old self.new lent.new }
-        ensures made { OnOk result (Makes (λ r. leave_group records r serial group place) self.old lent.old self.new lent.new) }
+        ensures made { OnOk result (Makes (λ r. leave_group records r serial group place)
+            self.old lent.old self.new lent.new) }
         ensures len { vec_len self.new.groups ≡ vec_len self.old.groups }
     {
         let process = self.process(serial);
@@ -64,7 +69,8 @@ impl Domain {
     // A process leaves all its groups.
     pub fn leave_all(&mut self, serial: u32, lent: &mut Lent<'_>) -> Result<(), NoMemory>
         ensures stays { KeepsBeside self.old lent.old self.new lent.new }
-        ensures made { OnOk result (Makes (λ r. leave_all records r serial) self.old lent.old self.new lent.new) }
+        ensures made { OnOk result
+            (Makes (λ r. leave_all records r serial) self.old lent.old self.new lent.new) }
         ensures len { vec_len self.new.groups ≡ vec_len self.old.groups }
     {
         for place in 0..self.groups.len() {
@@ -78,7 +84,8 @@ impl Domain {
     fn push_entry(&self, serial: u32, entry: Push, lent: &mut Lent<'_>) -> Result<(), NoMemory>
         requires { is_full_in (records_in self.now lent.old) serial ≡ false }
         ensures back { GivesBack self.now.config.domain lent.old lent.new }
-        ensures made { OnOk result (Makes (λ r. push_in r serial entry) self.now lent.old self.now lent.new) }
+        ensures made { OnOk result
+            (Makes (λ r. push_in r serial entry) self.now lent.old self.now lent.new) }
     {
         lent.outs.push(self.config.domain, serial, &entry)?;
         lent.shared
@@ -86,10 +93,12 @@ impl Domain {
         Ok(())
     }
 
-    // Tells the program of a session something, if it is open. Where its outbox is full, the session is closed instead.
+    // Tells the program of a session something, if it is open. Where its outbox is full, the
+    // session is closed instead.
     pub fn push(&mut self, serial: u32, entry: Push, lent: &mut Lent<'_>) -> Result<(), NoMemory>
         ensures stays { KeepsBeside self.old lent.old self.new lent.new }
-        ensures made { OnOk result (Makes (λ r. tell records r serial entry) self.old lent.old self.new lent.new) }
+        ensures made { OnOk result
+            (Makes (λ r. tell records r serial entry) self.old lent.old self.new lent.new) }
         ensures len { vec_len self.new.groups ≡ vec_len self.old.groups }
     {
         if !self.is_open(serial) {
@@ -101,7 +110,8 @@ impl Domain {
     // The same where it is open.
     fn push_open(&mut self, serial: u32, entry: Push, lent: &mut Lent<'_>) -> Result<(), NoMemory>
         ensures stays { KeepsBeside self.old lent.old self.new lent.new }
-        ensures made { OnOk result (Makes (λ r. tell_open records r serial entry) self.old lent.old self.new lent.new) }
+        ensures made { OnOk result
+            (Makes (λ r. tell_open records r serial entry) self.old lent.old self.new lent.new) }
         ensures len { vec_len self.new.groups ≡ vec_len self.old.groups }
     {
         if self.is_full(serial, lent) {
@@ -112,8 +122,8 @@ impl Domain {
         Ok(())
     }
 
-    // Closes an open session: its program is told why, and its process leaves all its groups. Where its outbox is full, it was
-    // too slow.
+    // Closes an open session: its program is told why, and its process leaves all its groups. Where
+    // its outbox is full, it was too slow.
     pub fn close_session(
         &mut self,
         serial: u32,
@@ -121,7 +131,8 @@ impl Domain {
         lent: &mut Lent<'_>,
     ) -> Result<(), NoMemory>
         ensures stays { KeepsBeside self.old lent.old self.new lent.new }
-        ensures made { OnOk result (Makes (λ r. close_session records r serial refusal) self.old lent.old self.new lent.new) }
+        ensures made { OnOk result (Makes (λ r. close_session records r serial refusal)
+            self.old lent.old self.new lent.new) }
         ensures len { vec_len self.new.groups ≡ vec_len self.old.groups }
     {
         self.close(serial, refusal, lent)?;
@@ -137,7 +148,8 @@ impl Domain {
         lent: &mut Lent<'_>,
     ) -> Result<(), NoMemory>
         ensures stays { KeepsBeside self.old lent.old self.new lent.new }
-        ensures made { OnOk result (Makes (λ r. close_in r serial (reason_in r serial refusal)) self.old lent.old self.new lent.new) }
+        ensures made { OnOk result (Makes (λ r. close_in r serial (reason_in r serial refusal))
+            self.old lent.old self.new lent.new) }
         ensures len { vec_len self.new.groups ≡ vec_len self.old.groups }
     {
         let why = self.reason(serial, refusal, lent);

@@ -22,7 +22,8 @@ impl Domain {
             && hand.process.serial <= self.sessions.used()
     }
 
-    // How many messages of a process of this site are stable in a view: all in a view of this site alone.
+    // How many messages of a process of this site are stable in a view: all in a view of this site
+    // alone.
     pub fn stable_count(&self, group: GroupNo, view: u32, process: Proc) -> u32
         ensures { TellsAlone (λ r. settled_in r group view process) self.now result }
     {

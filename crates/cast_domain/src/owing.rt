@@ -21,13 +21,15 @@ impl Domain {
     ghost use Rattle.std.specs.Option.{option_map};
     ghost use Rattle.cast_view.specs.MemberSide.{first_asking};
     ghost use Rattle.cast_rules.specs.Rules.Keys.{id_in};
-    ghost use Rattle.cast_rules.specs.Rules.Owing.{ask_frame, frame_for, frame_of_kind, owe, send_for, wanted_view};
+    ghost use Rattle.cast_rules.specs.Rules.Owing.{ask_frame, frame_for, frame_of_kind};
+    ghost use Rattle.cast_rules.specs.Rules.Owing.{owe, send_for, wanted_view};
     ghost use Rattle.cast_message.specs.declared.site.SiteFrame.TheVariants as frame;
 
     // Sends a frame, and owes it from then on, unless it is owed already.
     pub fn owe(&self, key: OwedKey, lent: &mut Lent<'_>) -> Result<(), NoMemory>
         ensures back { GivesBack self.now.config.domain lent.old lent.new }
-        ensures made { OnOk result (Makes (λ r. owe records r key) self.now lent.old self.now lent.new) }
+        ensures made { OnOk result
+            (Makes (λ r. owe records r key) self.now lent.old self.now lent.new) }
     {
         if lent.shared.timers.is_owed(self.config.domain, &key) {
             return Ok(());
@@ -55,7 +57,8 @@ impl Domain {
     // Sends the frame that a key stands for, where there is one.
     pub fn send_for(&self, key: &OwedKey, lent: &mut Lent<'_>) -> Result<(), NoMemory>
         ensures back { GivesBack self.now.config.domain lent.old lent.new }
-        ensures made { OnOk result (Makes (λ r. send_for records r key.now) self.now lent.old self.now lent.new) }
+        ensures made { OnOk result
+            (Makes (λ r. send_for records r key.now) self.now lent.old self.now lent.new) }
     {
         match self.frame_for(key, lent)? {
             Some(frame) => self.send(lent.outs, key.site, frame),
@@ -81,7 +84,8 @@ impl Domain {
         lent: &Lent<'_>,
     ) -> Result<Option<SiteFrame>, NoMemory>
         requires { place < vec_len self.now.groups }
-        ensures { IfOk result (λ f. f ≡ frame_of_kind records (records_in self.now lent.now) place key.now key.now.kind) }
+        ensures { IfOk result (λ f.
+            f ≡ frame_of_kind records (records_in self.now lent.now) place key.now key.now.kind) }
     {
         match key.kind {
             OwedKind::Ask => Ok(self.ask_frame(place, key.group)),
@@ -110,7 +114,8 @@ impl Domain {
     // The first request of the group at a place.
     fn ask_frame(&self, place: usize, group: GroupNo) -> Option<SiteFrame>
         requires { place < vec_len self.now.groups }
-        ensures { result ≡ option_map (ask_frame group) (first_asking (record_at self.now.groups.items place).here.requests) }
+        ensures { result ≡ option_map (ask_frame group)
+            (first_asking (record_at self.now.groups.items place).here.requests) }
     {
         let asking = self.record(place).here.first_request()?;
         Some(SiteFrame::Ask {
@@ -134,7 +139,8 @@ impl Domain {
 
     // A kept message as it is sent.
     fn data_frame(&self, id: Uid, lent: &Lent<'_>) -> Result<Option<SiteFrame>, NoMemory>
-        ensures { IfOk result (λ f. f ≡ option_map frame.Data (message_in (records_in self.now lent.now) id)) }
+        ensures { IfOk result
+            (λ f. f ≡ option_map frame.Data (message_in (records_in self.now lent.now) id)) }
     {
         match lent.shared.store.find(self.config.domain, id) {
             Some(message) => Ok(Some(SiteFrame::Data(message.copy()?))),

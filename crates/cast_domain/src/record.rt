@@ -2,10 +2,12 @@ ghost use Rattle.std.specs.Prelude.{◌≡◌, ◌<◌, true, IfOk, IfSome, OnOk
 ghost use Rattle.std.specs.List.{position};
 ghost use Rattle.cast_types.specs.Names.{group_eq};
 ghost use Rattle.cast_types.specs.Places.{update};
-ghost use Rattle.cast_view.specs.MemberSide.{answers_prepare, frozen_side, verdict_of, with_answer, with_request, with_view};
+ghost use Rattle.cast_view.specs.MemberSide.{answers_prepare, frozen_side, verdict_of};
+ghost use Rattle.cast_view.specs.MemberSide.{with_answer, with_request, with_view};
 ghost use Rattle.cast_view.specs.declared.member.Verdict.TheVariants.{Pends};
 ghost use Rattle.cast_view.specs.Home.{answer_to, may_decide};
-ghost use Rattle.cast_view.specs.Home.HomeMove.{Asked, Brought, Decided, Installed, Reported, Started, Suspected};
+ghost use Rattle.cast_view.specs.Home.HomeMove.{Asked, Brought, Decided, Installed};
+ghost use Rattle.cast_view.specs.Home.HomeMove.{Reported, Started, Suspected};
 ghost use Rattle.cast_domain.specs.PartCalls.{moved_home, record_at, with_first_home};
 ghost use Rattle.cast_domain.specs.FlushCalls.{pending_of, with_install};
 
@@ -75,7 +77,8 @@ pub fn ask_at(
 ) -> Result<(), NoMemory>
     requires placed { place < vec_len groups.old }
     requires numbered { (record_at groups.old.items place).here.asked < 4294967295 }
-    ensures items { OnOk result (groups.new.items ≡ update groups.old.items place (λ x. record x { here = with_request x.here change process })) }
+    ensures items { OnOk result (groups.new.items ≡ update groups.old.items place
+        (λ x. record x { here = with_request x.here change process })) }
     ensures len { vec_len groups.new ≡ vec_len groups.old }
 {
     let record = &mut groups[place];
@@ -87,7 +90,8 @@ pub fn ask_at(
 #[tactic(auto, using(cast_types::proofs::Updates::set_update))]
 pub fn answer_at(groups: &mut Vec<GroupRecord>, place: usize)
     requires { place < vec_len groups.old }
-    ensures items { groups.new.items ≡ update groups.old.items place (λ x. record x { here = with_answer x.here }) }
+    ensures items { groups.new.items
+        ≡ update groups.old.items place (λ x. record x { here = with_answer x.here }) }
     ensures len { vec_len groups.new ≡ vec_len groups.old }
 {
     let record = &mut groups[place];
@@ -99,7 +103,8 @@ pub fn answer_at(groups: &mut Vec<GroupRecord>, place: usize)
 pub fn freeze_at(groups: &mut Vec<GroupRecord>, place: usize, view: u32)
     requires placed { place < vec_len groups.old }
     requires answered { answers_prepare (record_at groups.old.items place).here view ≡ true }
-    ensures items { groups.new.items ≡ update groups.old.items place (λ x. record x { here = frozen_side x.here }) }
+    ensures items { groups.new.items
+        ≡ update groups.old.items place (λ x. record x { here = frozen_side x.here }) }
     ensures len { vec_len groups.new ≡ vec_len groups.old }
 {
     let record = &mut groups[place];
@@ -118,7 +123,8 @@ pub fn pend_at(
 ) -> Result<(), NoMemory>
     requires placed { place < vec_len groups.old }
     requires waits { verdict_of (record_at groups.old.items place).here number ≡ Pends }
-    ensures items { OnOk result (groups.new.items ≡ update groups.old.items place (with_install (pending_of members.now request cut.now))) }
+    ensures items { OnOk result (groups.new.items
+        ≡ update groups.old.items place (with_install (pending_of members.now request cut.now))) }
     ensures len { vec_len groups.new ≡ vec_len groups.old }
 {
     let record = &mut groups[place];
@@ -136,7 +142,8 @@ pub fn view_at(
     members: &Membership,
 ) -> Result<(), NoMemory>
     requires { place < vec_len groups.old }
-    ensures items { OnOk result (groups.new.items ≡ update groups.old.items place (λ x. record x { here = with_view site number members.now x.here })) }
+    ensures items { OnOk result (groups.new.items ≡ update groups.old.items place
+        (λ x. record x { here = with_view site number members.now x.here })) }
     ensures len { vec_len groups.new ≡ vec_len groups.old }
 {
     let record = &mut groups[place];
@@ -144,8 +151,8 @@ pub fn view_at(
     Ok(())
 }
 
-/// Takes in a site's request at the home of the group of a place, and answers whether it is refused because the group is full; `None`
-/// where it is not to be answered.
+/// Takes in a site's request at the home of the group of a place, and answers whether it is refused
+/// because the group is full; `None` where it is not to be answered.
 #[tactic(auto, using(cast_types::proofs::Updates::set_update))]
 pub fn ask_home_at(
     groups: &mut Vec<GroupRecord>,
@@ -156,8 +163,10 @@ pub fn ask_home_at(
     process: Proc,
 ) -> Result<Option<bool>, NoMemory>
     requires { place < vec_len groups.old }
-    ensures value { IfOk result (λ full. full ≡ answer_to (record_at groups.old.items place).home site number change process) }
-    ensures items { OnOk result (groups.new.items ≡ update groups.old.items place (moved_home (Asked site number change process))) }
+    ensures value { IfOk result (λ full.
+        full ≡ answer_to (record_at groups.old.items place).home site number change process) }
+    ensures items { OnOk result (groups.new.items
+        ≡ update groups.old.items place (moved_home (Asked site number change process))) }
     ensures len { vec_len groups.new ≡ vec_len groups.old }
 {
     let record = &mut groups[place];
@@ -168,7 +177,8 @@ pub fn ask_home_at(
 #[tactic(auto, using(cast_types::proofs::Updates::set_update))]
 pub fn installed_at(groups: &mut Vec<GroupRecord>, place: usize, site: SiteNo, number: u32)
     requires { place < vec_len groups.old }
-    ensures { groups.new.items ≡ update groups.old.items place (moved_home (Installed site number)) }
+    ensures { groups.new.items
+        ≡ update groups.old.items place (moved_home (Installed site number)) }
 {
     let record = &mut groups[place];
     record.home.note_installed(site, number);
@@ -184,7 +194,8 @@ pub fn report_at(
     report: Report,
 ) -> Result<(), NoMemory>
     requires { place < vec_len groups.old }
-    ensures { OnOk result (groups.new.items ≡ update groups.old.items place (moved_home (Reported site view report))) }
+    ensures { OnOk result (groups.new.items
+        ≡ update groups.old.items place (moved_home (Reported site view report))) }
 {
     let record = &mut groups[place];
     record.home.reply(site, view, report)?;
@@ -199,7 +210,8 @@ pub fn body_at(
     message: Message,
 ) -> Result<(), NoMemory>
     requires { place < vec_len groups.old }
-    ensures { OnOk result (groups.new.items ≡ update groups.old.items place (moved_home (Brought message))) }
+    ensures { OnOk result
+        (groups.new.items ≡ update groups.old.items place (moved_home (Brought message))) }
 {
     let record = &mut groups[place];
     record.home.body(message)?;
@@ -210,7 +222,8 @@ pub fn body_at(
 #[tactic(auto, using(cast_types::proofs::Updates::set_update))]
 pub fn suspect_at(groups: &mut Vec<GroupRecord>, place: usize, site: SiteNo) -> Result<(), NoMemory>
     requires { place < vec_len groups.old }
-    ensures items { OnOk result (groups.new.items ≡ update groups.old.items place (moved_home (Suspected site))) }
+    ensures items { OnOk result
+        (groups.new.items ≡ update groups.old.items place (moved_home (Suspected site))) }
     ensures len { vec_len groups.new ≡ vec_len groups.old }
 {
     let record = &mut groups[place];
@@ -222,7 +235,8 @@ pub fn suspect_at(groups: &mut Vec<GroupRecord>, place: usize, site: SiteNo) -> 
 #[tactic(auto, using(cast_types::proofs::Updates::set_update))]
 pub fn start_at(groups: &mut Vec<GroupRecord>, place: usize) -> Result<(), NoMemory>
     requires { place < vec_len groups.old }
-    ensures items { OnOk result (groups.new.items ≡ update groups.old.items place (moved_home Started)) }
+    ensures items { OnOk result
+        (groups.new.items ≡ update groups.old.items place (moved_home Started)) }
     ensures len { vec_len groups.new ≡ vec_len groups.old }
 {
     let record = &mut groups[place];
@@ -234,8 +248,10 @@ pub fn start_at(groups: &mut Vec<GroupRecord>, place: usize) -> Result<(), NoMem
 #[tactic(auto, using(cast_types::proofs::Updates::set_update))]
 pub fn decide_at(groups: &mut Vec<GroupRecord>, place: usize) -> Result<(), NoMemory>
     requires placed { place < vec_len groups.old }
-    requires due { may_decide (record_at groups.old.items place).name (record_at groups.old.items place).home ≡ true }
-    ensures items { OnOk result (groups.new.items ≡ update groups.old.items place (moved_home Decided)) }
+    requires due { may_decide (record_at groups.old.items place).name
+        (record_at groups.old.items place).home ≡ true }
+    ensures items { OnOk result
+        (groups.new.items ≡ update groups.old.items place (moved_home Decided)) }
     ensures len { vec_len groups.new ≡ vec_len groups.old }
 {
     let record = &mut groups[place];
@@ -243,8 +259,8 @@ pub fn decide_at(groups: &mut Vec<GroupRecord>, place: usize) -> Result<(), NoMe
     Ok(())
 }
 
-/// Reckons once what some sites lack of the view that the home of the group of a place flushes, where all have reported. Changes
-/// nothing that contracts see.
+/// Reckons once what some sites lack of the view that the home of the group of a place flushes,
+/// where all have reported. Changes nothing that contracts see.
 #[tactic(auto, using(crate::proofs::Unchanged::set_same))]
 pub fn reckon_at(groups: &mut Vec<GroupRecord>, place: usize) -> Result<(), NoMemory>
     requires { place < vec_len groups.old }

@@ -28,16 +28,18 @@ impl Domain {
     // Lets go of the free messages of a source. Where no others are free, that is all.
     pub fn let_go_of(&mut self, source: Source, lent: &mut Lent<'_>)
         ensures stays { KeepsBeside self.old lent.old self.new lent.new }
-        ensures made { AreNotFreeBut source (records_in self.old lent.old) → Makes (let_go records resting_records) self.old lent.old self.new lent.new }
-        ensures none { AreNotFreeBut source (records_in self.old lent.old) → AreNotFree (records_in self.new lent.new) }
+        ensures made { AreNotFreeBut source (records_in self.old lent.old)
+            → Makes (let_go records resting_records) self.old lent.old self.new lent.new }
+        ensures none { AreNotFreeBut source (records_in self.old lent.old)
+            → AreNotFree (records_in self.new lent.new) }
     {
         while let Some(key) = self.free_key_of(source, lent) {
             self.release(key, lent);
         }
     }
 
-    // The key of a free message, where one is free. Of each process's messages only the first one is looked at: where that is
-    // not free, none behind it is.
+    // The key of a free message, where one is free. Of each process's messages only the first one
+    // is looked at: where that is not free, none behind it is.
     fn free_key(&self, lent: &Lent<'_>) -> Option<Key>
         ensures some { IfSome result (IsFreeKey (records_in self.now lent.now)) }
         ensures none { IfNone result (AreNotFree (records_in self.now lent.now)) }
@@ -50,22 +52,26 @@ impl Domain {
     // The key of the first message of a source, if it is free. Where it is not, none behind it is.
     fn free_key_of(&self, source: Source, lent: &Lent<'_>) -> Option<Key>
         ensures some { IfSome result (IsFreeKey (records_in self.now lent.now)) }
-        ensures none { IfNone result (AreNotFreeBut source (records_in self.now lent.now) → AreNotFree (records_in self.now lent.now)) }
+        ensures none { IfNone result (AreNotFreeBut source (records_in self.now lent.now)
+            → AreNotFree (records_in self.now lent.now)) }
     {
         let (id, key) = lent.shared.store.first_of(self.config.domain, source)?;
         if self.is_free(id) { Some(key) } else { None }
     }
 
-    // Whether a message is of the current view, which is not frozen, stable, and delivered to each member here.
+    // Whether a message is of the current view, which is not frozen, stable, and delivered to each
+    // member here.
     fn is_free(&self, id: Uid) -> bool
         ensures { result ≡ is_free records resting_records (own_records self.now) id }
     {
         self.is_open_to(id) && self.is_done_with(id)
     }
 
-    // Whether a message is stable, and delivered to each member here. Only of a stable one it is asked who awaits it.
+    // Whether a message is stable, and delivered to each member here. Only of a stable one it is
+    // asked who awaits it.
     fn is_done_with(&self, id: Uid) -> bool
-        ensures { result ≡ (is_stable_in self.now.acks id && not (is_awaited self.now.delay.rows id)) }
+        ensures { result
+            ≡ (is_stable_in self.now.acks id && not (is_awaited self.now.delay.rows id)) }
     {
         self.acks.is_stable(id) && self.acks.may_free(id, self.delay.is_awaited(id))
     }

@@ -14,7 +14,8 @@ pub enum Weight {
     Hands(Proc, u32),
 }
 
-/// What the delivery of a message is to a domain: its id, what it is to the order of its view, and what the program is told of it.
+/// What the delivery of a message is to a domain: its id, what it is to the order of its view, and
+/// what the program is told of it.
 #[derive(Drop)]
 pub struct Delivery {
     pub id: Uid,

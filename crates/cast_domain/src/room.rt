@@ -22,8 +22,8 @@ impl Domain {
         self.quotas.check_cast(self.held_count(lent))
     }
 
-    // Whether a set-order message may be sent or received beside the messages that are kept, and a holder may deliver
-    // an ABCAST.
+    // Whether a set-order message may be sent or received beside the messages that are kept, and a
+    // holder may deliver an ABCAST.
     pub fn has_order_room(&self, lent: &Lent<'_>) -> bool
         ensures { result ≡ may_order records (records_in self.now lent.now) }
     {

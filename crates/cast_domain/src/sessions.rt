@@ -1,4 +1,5 @@
-ghost use Rattle.std.specs.Prelude.{◌≡◌, ◌+◌, ◌<◌, ◌≤◌, ◌==◌, [], IfOk, OnOk, filter, length, map, not};
+ghost use Rattle.std.specs.Prelude.{◌≡◌, ◌+◌, ◌<◌, ◌≤◌, ◌==◌, [], IfOk};
+ghost use Rattle.std.specs.Prelude.{OnOk, filter, length, map, not};
 ghost use Rattle.cast_events.specs.declared.session.Status.{Status};
 ghost use Rattle.cast_domain.specs.GivenSessions.{closed_if, status_in, with_next, without_serial};
 ghost use Rattle.cast_domain.specs.PartCalls.{with_status};
@@ -11,8 +12,8 @@ use indexmap::IndexMap;
 use std::alloc::Global;
 use std::marker::Model;
 
-/// How many serials a domain gave to its sessions, which count from 1, and how the sessions stand that are not gone, in the
-/// order of their serials. Contracts see `GivenSessions`.
+/// How many serials a domain gave to its sessions, which count from 1, and how the sessions stand
+/// that are not gone, in the order of their serials. Contracts see `GivenSessions`.
 #[derive(Drop)]
 pub struct Sessions {
     used: u32,
@@ -88,7 +89,9 @@ impl Sessions {
 
     /// The session of a serial is closed.
     pub fn close(&mut self, serial: u32)
-        ensures { self.new ≡ record self.old { records = map (with_status serial Status.Closed) self.old.records } }
+        ensures { self.new ≡ record self.old {
+          records = map (with_status serial Status.Closed) self.old.records;
+        } }
     {
         close_in(&mut self.statuses, serial);
     }

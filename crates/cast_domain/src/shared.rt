@@ -10,8 +10,9 @@ use cast_timer::{OwedKey, Timers};
 use cast_types::{DomainNo, GroupNo, Key, List, NoMemory};
 use std::alloc::{AllocError, Global};
 
-/// What the domains of a daemon share: the messages that they keep, the frames that they owe and the outboxes of their
-/// sessions. A domain is lent all of it for a step, and leaves the parts of others as they are.
+/// What the domains of a daemon share: the messages that they keep, the frames that they owe and
+/// the outboxes of their sessions. A domain is lent all of it for a step, and leaves the parts of
+/// others as they are.
 #[derive(Drop)]
 pub struct Shared {
     pub store: Store,
@@ -20,7 +21,11 @@ pub struct Shared {
 }
 
 impl Shared {
-    ghost use Rattle.cast_domain.specs.Shared.{LeavesOthers, no_part, part_boxing, part_of, part_taking, part_owing, part_paying, part_paying_upto, part_paying_view, part_renewing_due, part_with, part_without, part_pushing_within};
+    ghost use Rattle.cast_domain.specs.Shared.{LeavesOthers, no_part, part_boxing, part_of};
+    ghost use Rattle.cast_domain.specs.Shared.{part_taking, part_owing, part_paying};
+    ghost use Rattle.cast_domain.specs.Shared.{part_paying_upto, part_paying_view};
+    ghost use Rattle.cast_domain.specs.Shared.{part_renewing_due, part_with, part_without};
+    ghost use Rattle.cast_domain.specs.Shared.{part_pushing_within};
 
     /// Nothing is kept, nothing is owed, and no outbox is open.
     pub fn new(alloc: Global) -> Self
@@ -46,7 +51,8 @@ impl Shared {
 
     // Keeps a message for a domain, under the next key.
     pub fn put(&mut self, domain: DomainNo, message: Message) -> Result<(), NoMemory>
-        ensures part { OnOk result (part_of domain self.new ≡ part_with (part_of domain self.old) message) }
+        ensures part { OnOk result
+            (part_of domain self.new ≡ part_with (part_of domain self.old) message) }
         ensures others { LeavesOthers domain self.old self.new }
     {
         match self.store.put(domain, message) {
@@ -66,7 +72,8 @@ impl Shared {
     // Owes a frame for a domain that does not owe it, to be sent again at a moment.
     pub fn owe(&mut self, domain: DomainNo, key: OwedKey, due: u64) -> Result<(), NoMemory>
         requires { is_owed (part_of domain self.old).owed key ≡ false }
-        ensures part { OnOk result (part_of domain self.new ≡ part_owing (part_of domain self.old) key due) }
+        ensures part { OnOk result
+            (part_of domain self.new ≡ part_owing (part_of domain self.old) key due) }
         ensures others { LeavesOthers domain self.old self.new }
     {
         self.timers.owe(domain, key, due)?;
@@ -75,7 +82,8 @@ impl Shared {
 
     // Owes all frames that are due at a moment for another one.
     pub fn renew_due(&mut self, domain: DomainNo, now: u64, due: u64) -> Result<(), NoMemory>
-        ensures part { OnOk result (part_of domain self.new ≡ part_renewing_due (part_of domain self.old) now due) }
+        ensures part { OnOk result
+            (part_of domain self.new ≡ part_renewing_due (part_of domain self.old) now due) }
         ensures others { LeavesOthers domain self.old self.new }
     {
         self.timers.renew_due(domain, now, due)?;
@@ -92,7 +100,8 @@ impl Shared {
 
     // Owes the frames of a key and of those with lower counts no more.
     pub fn pay_upto(&mut self, domain: DomainNo, key: &OwedKey)
-        ensures part { part_of domain self.new ≡ part_paying_upto (part_of domain self.old) key.now }
+        ensures part { part_of domain self.new
+            ≡ part_paying_upto (part_of domain self.old) key.now }
         ensures others { LeavesOthers domain self.old self.new }
     {
         self.timers.pay_upto(domain, key);
@@ -113,7 +122,8 @@ impl Shared {
         serial: u32,
         entry: Push,
     ) -> Result<(), NoMemory>
-        ensures part { OnOk result (part_of domain self.new ≡ part_boxing (part_of domain self.old) serial (entry ∷ [])) }
+        ensures part { OnOk result
+            (part_of domain self.new ≡ part_boxing (part_of domain self.old) serial (entry ∷ [])) }
         ensures others { LeavesOthers domain self.old self.new }
     {
         self.outboxes.open(domain, serial)?;
@@ -121,8 +131,8 @@ impl Shared {
         Ok(())
     }
 
-    // Pushes an entry to the outbox of a serial of a domain, or, where it has that many entries, that its program is too slow.
-    // Answers what was pushed.
+    // Pushes an entry to the outbox of a serial of a domain, or, where it has that many entries,
+    // that its program is too slow. Answers what was pushed.
     pub fn push(
         &mut self,
         domain: DomainNo,
@@ -130,8 +140,10 @@ impl Shared {
         limit: u32,
         entry: Push,
     ) -> Result<Pushed, NoMemory>
-        ensures value { IfOk result (λ p. p ≡ told_at limit ((part_of domain self.old).outboxes serial)) }
-        ensures part { OnOk result (part_of domain self.new ≡ part_pushing_within limit (part_of domain self.old) serial entry) }
+        ensures value { IfOk result
+            (λ p. p ≡ told_at limit ((part_of domain self.old).outboxes serial)) }
+        ensures part { OnOk result (part_of domain self.new
+            ≡ part_pushing_within limit (part_of domain self.old) serial entry) }
         ensures others { LeavesOthers domain self.old self.new }
     {
         self.outboxes.push(domain, serial, limit, entry)
@@ -139,14 +151,17 @@ impl Shared {
 
     // Takes the first entries of the outbox of a serial of a domain, at most so many.
     pub fn take(&mut self, domain: DomainNo, serial: u32, most: u32) -> Result<List<Push>, NoMemory>
-        ensures value { IfOk result (λ entries. entries ≡ take most ((part_of domain self.old).outboxes serial)) }
-        ensures part { OnOk result (part_of domain self.new ≡ part_taking (part_of domain self.old) serial most) }
+        ensures value { IfOk result
+            (λ entries. entries ≡ take most ((part_of domain self.old).outboxes serial)) }
+        ensures part { OnOk result
+            (part_of domain self.new ≡ part_taking (part_of domain self.old) serial most) }
         ensures others { LeavesOthers domain self.old self.new }
     {
         self.outboxes.take(domain, serial, most)
     }
 
-    // Lets go of all that a domain keeps and owes, and of the outboxes of its sessions. Takes no memory.
+    // Lets go of all that a domain keeps and owes, and of the outboxes of its sessions. Takes no
+    // memory.
     pub fn drop_domain(&mut self, domain: DomainNo)
         ensures part { part_of domain self.new ≡ no_part }
         ensures others { LeavesOthers domain self.old self.new }

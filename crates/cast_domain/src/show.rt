@@ -28,7 +28,8 @@ pub struct GroupShown {
     pub group: GroupNo,
     /// The number of the last view that the site knows of, 0 where it knows of none.
     pub number: u32,
-    /// The member of that view that sets the order of its ABCASTs; `None` where no member is at this site.
+    /// The member of that view that sets the order of its ABCASTs; `None` where no member is at
+    /// this site.
     pub holder: Option<Proc>,
     /// In rising order; none where no member is at this site.
     pub members: List<Proc>,

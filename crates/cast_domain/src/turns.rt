@@ -23,7 +23,8 @@ impl Domain {
 
     // How many ids past those places that it has settled a process has delivered.
     pub fn unsettled_count(&self, process: Proc, kept: &GroupRecord) -> usize
-        ensures { result ≡ min 18446744073709551615 (unsettled_at (own_records self.now) process kept.now) }
+        ensures { result
+            ≡ min 18446744073709551615 (unsettled_at (own_records self.now) process kept.now) }
     {
         let settled = self.settled_to(process, kept);
         let forgotten = self
@@ -49,7 +50,8 @@ impl Domain {
 
     // How many of these ids of the view of a group a process has delivered.
     fn delivered_of(&self, process: Proc, kept: &GroupRecord, ids: &[(Proc, u32)]) -> usize
-        ensures { result ≡ length (filter (λ e. delivered_in self.now.delay process (uid_in kept.now.name kept.now.here.number e)) ids.now) }
+        ensures { result ≡ length (filter (λ e. delivered_in self.now.delay process
+            (uid_in kept.now.name kept.now.here.number e)) ids.now) }
     {
         ids.iter()
             .filter(|id| self.has_delivered_of(process, kept, **id))
@@ -58,7 +60,8 @@ impl Domain {
 
     // Whether a process has delivered an id of the view of a group.
     fn has_delivered_of(&self, process: Proc, kept: &GroupRecord, id: (Proc, u32)) -> bool
-        ensures { result ≡ delivered_in self.now.delay process (uid_in kept.now.name kept.now.here.number id) }
+        ensures { result
+            ≡ delivered_in self.now.delay process (uid_in kept.now.name kept.now.here.number id) }
     {
         self.delay.has_delivered(
             process,

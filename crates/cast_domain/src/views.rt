@@ -14,9 +14,14 @@ use cast_view::{is_taken_in, other_sites};
 
 impl Domain {
     ghost use Rattle.std.specs.Prelude.{◌<◌, None, IfOk, OnOk, vec_len, ◌&&◌, ◌||◌, Some};
-    ghost use Rattle.cast_domain.specs.Records.{Keeps, KeepsBeside, Makes, MakesAlone, own_records, MakesAtAnyCut, TellsAlone};
-    ghost use Rattle.cast_domain.specs.PartCalls.{record_at, added_if, standing_of, time_of, local_in};
-    ghost use Rattle.cast_domain.specs.ViewCalls.{begin_view_in, enter_in, take_in, view_in, holding_from, is_member_in, is_put_out_in, pass_in, put_out_all_in, put_out_if_in, put_out_in, serials_put_out, serials_of_members};
+    ghost use Rattle.cast_domain.specs.Records.{Keeps, KeepsBeside, Makes, MakesAlone};
+    ghost use Rattle.cast_domain.specs.Records.{own_records, MakesAtAnyCut, TellsAlone};
+    ghost use Rattle.cast_domain.specs.PartCalls.{record_at, added_if};
+    ghost use Rattle.cast_domain.specs.PartCalls.{standing_of, time_of, local_in};
+    ghost use Rattle.cast_domain.specs.ViewCalls.{begin_view_in, enter_in, take_in, view_in};
+    ghost use Rattle.cast_domain.specs.ViewCalls.{holding_from, is_member_in, is_put_out_in};
+    ghost use Rattle.cast_domain.specs.ViewCalls.{pass_in, put_out_all_in, put_out_if_in};
+    ghost use Rattle.cast_domain.specs.ViewCalls.{put_out_in, serials_put_out, serials_of_members};
     ghost use Rattle.cast_domain.specs.ReleaseCalls.{is_ended_in, keys_passing};
     ghost use Rattle.cast_domain.specs.Calls.{records};
     ghost use Rattle.std.specs.List.{fold};
@@ -26,7 +31,8 @@ impl Domain {
     ghost use Rattle.cast_ready.specs.Ready.{is_member};
     ghost use Rattle.cast_rules.specs.Rules.Rest.{pass};
     ghost use Rattle.cast_rules.specs.Rules.Leaving.{tell};
-    ghost use Rattle.cast_rules.specs.Rules.Views.{change_view, enter_and_tell, install, tell_out, tell_view};
+    ghost use Rattle.cast_rules.specs.Rules.Views.{change_view, enter_and_tell};
+    ghost use Rattle.cast_rules.specs.Rules.Views.{install, tell_out, tell_view};
 
     // A view is complete: the processes here that it takes in enter it.
     pub fn begin_view(
@@ -38,7 +44,8 @@ impl Domain {
     ) -> Result<(), NoMemory>
         requires { place < vec_len self.old.groups }
         ensures same { Keeps self.old self.new }
-        ensures made { OnOk result (MakesAlone (λ r. begin_view_in r place view members.now request) self.old self.new) }
+        ensures made { OnOk result
+            (MakesAlone (λ r. begin_view_in r place view members.now request) self.old self.new) }
     {
         let group = self.record(place).name;
         self.take_view(place, view, members)?;
@@ -50,7 +57,8 @@ impl Domain {
     fn take_view(&mut self, place: usize, view: u32, members: &Membership) -> Result<(), NoMemory>
         requires { place < vec_len self.old.groups }
         ensures same { Keeps self.old self.new }
-        ensures made { OnOk result (MakesAlone (λ r. view_in r place view members.now) self.old self.new) }
+        ensures made { OnOk result
+            (MakesAlone (λ r. view_in r place view members.now) self.old self.new) }
     {
         let group = self.record(place).name;
         view_at(&mut self.groups, place, self.site, view, members)?;
@@ -66,7 +74,10 @@ impl Domain {
     fn hold_from(&mut self, place: usize, group: GroupNo) -> Result<(), NoMemory>
         requires { place < vec_len self.old.groups }
         ensures same { Keeps self.old self.new }
-        ensures made { OnOk result (MakesAlone (λ r. record r { orders = holding_from group (holder_at r.site (record_at r.groups place).here) r.orders }) self.old self.new) }
+        ensures made { OnOk result (MakesAlone (λ r. record r {
+          orders = holding_from group
+              (holder_at r.site (record_at r.groups place).here) r.orders;
+        }) self.old self.new) }
     {
         match self.record(place).here.holder_at(self.site) {
             Some(holder) => self.orders.hold(group, holder, 1),
@@ -83,7 +94,8 @@ impl Domain {
         request: u32,
     ) -> Result<(), NoMemory>
         ensures same { Keeps self.old self.new }
-        ensures made { OnOk result (MakesAlone (λ r. fold (take_in group view request) r members.now) self.old self.new) }
+        ensures made { OnOk result
+            (MakesAlone (λ r. fold (take_in group view request) r members.now) self.old self.new) }
     {
         for process in members {
             self.take_in(*process, group, view, request)?;
@@ -100,7 +112,8 @@ impl Domain {
         request: u32,
     ) -> Result<(), NoMemory>
         ensures same { Keeps self.old self.new }
-        ensures made { OnOk result (MakesAlone (λ r. take_in group view request r process) self.old self.new) }
+        ensures made { OnOk result
+            (MakesAlone (λ r. take_in group view request r process) self.old self.new) }
     {
         if process.site == self.site && self.is_taken_in(process, group, request) {
             self.enter(process, group, view)?;
@@ -108,8 +121,8 @@ impl Domain {
         Ok(())
     }
 
-    // Whether a process that a view names is taken in: it is a member, or joins by a request that the home had
-    // applied.
+    // Whether a process that a view names is taken in: it is a member, or joins by a request that
+    // the home had applied.
     fn is_taken_in(&self, process: Proc, group: GroupNo, request: u32) -> bool
         ensures { result ≡ is_taken_in request (standing_of self.now.delay process group) }
     {
@@ -119,7 +132,8 @@ impl Domain {
     // A process enters a view.
     fn enter(&mut self, process: Proc, group: GroupNo, view: u32) -> Result<(), NoMemory>
         ensures same { Keeps self.old self.new }
-        ensures made { OnOk result (MakesAlone (λ r. enter_in group view r process) self.old self.new) }
+        ensures made { OnOk result
+            (MakesAlone (λ r. enter_in group view r process) self.old self.new) }
     {
         let entered = self.entry_time(process, group, view)?;
         self.tell(process, ProcessUpdate::Time(entered))?;
@@ -152,7 +166,9 @@ impl Domain {
     ) -> Result<(), NoMemory>
         requires { place < vec_len self.old.groups }
         ensures stays { KeepsBeside self.old lent.old self.new lent.new }
-        ensures made { OnOk result (MakesAtAnyCut (λ r. install records skips r place from view members.now request) self.old lent.old self.new lent.new) }
+        ensures made { OnOk result
+            (MakesAtAnyCut (λ r. install records skips r place from view members.now request)
+            self.old lent.old self.new lent.new) }
     {
         let group = self.record(place).name;
         self.change_view(skips, place, view, members, request, lent)?;
@@ -160,7 +176,8 @@ impl Domain {
         Ok(())
     }
 
-    // The site passes to a view: messages of the one before it are kept no longer, and nothing is owed for it.
+    // The site passes to a view: messages of the one before it are kept no longer, and nothing is
+    // owed for it.
     pub fn change_view(
         &mut self,
         skips: bool,
@@ -172,7 +189,9 @@ impl Domain {
     ) -> Result<(), NoMemory>
         requires { place < vec_len self.old.groups }
         ensures stays { KeepsBeside self.old lent.old self.new lent.new }
-        ensures made { OnOk result (MakesAtAnyCut (λ r. change_view records skips r place view members.now request) self.old lent.old self.new lent.new) }
+        ensures made { OnOk result
+            (MakesAtAnyCut (λ r. change_view records skips r place view members.now request)
+            self.old lent.old self.new lent.new) }
     {
         let group = self.record(place).name;
         self.enter_and_tell(skips, place, view, members, request, lent)?;
@@ -181,7 +200,8 @@ impl Domain {
         Ok(())
     }
 
-    // All its processes pass to a view at once; then those that were put out are told, and then the members.
+    // All its processes pass to a view at once; then those that were put out are told, and then the
+    // members.
     fn enter_and_tell(
         &mut self,
         skips: bool,
@@ -193,7 +213,9 @@ impl Domain {
     ) -> Result<(), NoMemory>
         requires { place < vec_len self.old.groups }
         ensures stays { KeepsBeside self.old lent.old self.new lent.new }
-        ensures made { OnOk result (MakesAtAnyCut (λ r. enter_and_tell records skips r place view members.now request) self.old lent.old self.new lent.new) }
+        ensures made { OnOk result
+            (MakesAtAnyCut (λ r. enter_and_tell records skips r place view members.now request)
+            self.old lent.old self.new lent.new) }
         ensures len { OnOk result (vec_len self.new.groups ≡ vec_len self.old.groups) }
     {
         let group = self.record(place).name;
@@ -212,7 +234,8 @@ impl Domain {
         skips: bool,
         members: &Membership,
     ) -> Result<Vec<u32>, NoMemory>
-        ensures { IfOk result (λ out. out.items ≡ serials_put_out group skips members.now (own_records self.now)) }
+        ensures { IfOk result
+            (λ out. out.items ≡ serials_put_out group skips members.now (own_records self.now)) }
     {
         let mut out = Vec::new(*self.groups.allocator());
         for place in 0..self.delay.admitted_count() {
@@ -223,7 +246,8 @@ impl Domain {
         Ok(out)
     }
 
-    // Adds a serial, if its process is a member that a view lacks, or a member where a view was skipped.
+    // Adds a serial, if its process is a member that a view lacks, or a member where a view was
+    // skipped.
     fn add_put_out(
         &self,
         group: GroupNo,
@@ -232,7 +256,8 @@ impl Domain {
         serial: u32,
         out: &mut Vec<u32>,
     ) -> Result<(), NoMemory>
-        ensures { OnOk result (out.new.items ≡ added_if (is_put_out_in group skips members.now (own_records self.now) serial) serial out.old.items) }
+        ensures { OnOk result (out.new.items ≡ added_if (is_put_out_in group skips members.now
+            (own_records self.now) serial) serial out.old.items) }
     {
         if self.is_put_out(group, skips, members, serial) {
             out.push(serial)?;
@@ -242,7 +267,8 @@ impl Domain {
 
     // The serials of the members here of a group.
     fn serials_of_members(&self, group: GroupNo) -> Result<Vec<u32>, NoMemory>
-        ensures { IfOk result (λ here. here.items ≡ serials_of_members (own_records self.now) group) }
+        ensures { IfOk result
+            (λ here. here.items ≡ serials_of_members (own_records self.now) group) }
     {
         let mut here = Vec::new(*self.groups.allocator());
         for place in 0..self.delay.admitted_count() {
@@ -255,7 +281,8 @@ impl Domain {
 
     // Adds a serial, if its process is a member of a group.
     fn add_member(&self, group: GroupNo, serial: u32, here: &mut Vec<u32>) -> Result<(), NoMemory>
-        ensures { OnOk result (here.new.items ≡ added_if (is_member_in (own_records self.now) group serial) serial here.old.items) }
+        ensures { OnOk result (here.new.items
+            ≡ added_if (is_member_in (own_records self.now) group serial) serial here.old.items) }
     {
         if is_member(self.delay.standing(self.process(serial), group)) {
             here.push(serial)?;
@@ -272,7 +299,8 @@ impl Domain {
         lent: &mut Lent<'_>,
     ) -> Result<(), NoMemory>
         ensures stays { KeepsBeside self.old lent.old self.new lent.new }
-        ensures made { OnOk result (Makes (λ r. fold (tell_out records group view) r serials.now) self.old lent.old self.new lent.new) }
+        ensures made { OnOk result (Makes (λ r. fold (tell_out records group view) r serials.now)
+            self.old lent.old self.new lent.new) }
         ensures len { OnOk result (vec_len self.new.groups ≡ vec_len self.old.groups) }
     {
         for serial in serials {
@@ -291,7 +319,9 @@ impl Domain {
         lent: &mut Lent<'_>,
     ) -> Result<(), NoMemory>
         ensures stays { KeepsBeside self.old lent.old self.new lent.new }
-        ensures made { OnOk result (Makes (λ r. fold (tell_view records group view members.now) r serials.now) self.old lent.old self.new lent.new) }
+        ensures made { OnOk result
+            (Makes (λ r. fold (tell_view records group view members.now) r serials.now)
+            self.old lent.old self.new lent.new) }
         ensures len { OnOk result (vec_len self.new.groups ≡ vec_len self.old.groups) }
     {
         for serial in serials {
@@ -310,7 +340,8 @@ impl Domain {
         lent: &mut Lent<'_>,
     ) -> Result<(), NoMemory>
         ensures stays { KeepsBeside self.old lent.old self.new lent.new }
-        ensures made { OnOk result (Makes (λ r. tell_view records group view members.now r serial) self.old lent.old self.new lent.new) }
+        ensures made { OnOk result (Makes (λ r. tell_view records group view members.now r serial)
+            self.old lent.old self.new lent.new) }
         ensures len { OnOk result (vec_len self.new.groups ≡ vec_len self.old.groups) }
     {
         let push = Push::View {
@@ -333,7 +364,8 @@ impl Domain {
     ) -> Result<(), NoMemory>
         requires { place < vec_len self.old.groups }
         ensures same { Keeps self.old self.new }
-        ensures made { OnOk result (MakesAlone (λ r. pass_in r place skips view members.now request) self.old self.new) }
+        ensures made { OnOk result
+            (MakesAlone (λ r. pass_in r place skips view members.now request) self.old self.new) }
         ensures len { OnOk result (vec_len self.new.groups ≡ vec_len self.old.groups) }
     {
         let group = self.record(place).name;
@@ -350,7 +382,8 @@ impl Domain {
         members: &Membership,
     ) -> Result<(), NoMemory>
         ensures same { Keeps self.old self.new }
-        ensures made { OnOk result (MakesAlone (put_out_all_in group skips members.now) self.old self.new) }
+        ensures made { OnOk result
+            (MakesAlone (put_out_all_in group skips members.now) self.old self.new) }
     {
         for place in 0..self.delay.admitted_count() {
             if let Some(process) = self.delay.process_at(place) {
@@ -360,7 +393,8 @@ impl Domain {
         Ok(())
     }
 
-    // A process is put out, if it is a member that a view lacks, or a member where a view was skipped.
+    // A process is put out, if it is a member that a view lacks, or a member where a view was
+    // skipped.
     fn put_out_if(
         &mut self,
         group: GroupNo,
@@ -369,7 +403,8 @@ impl Domain {
         serial: u32,
     ) -> Result<(), NoMemory>
         ensures same { Keeps self.old self.new }
-        ensures made { OnOk result (MakesAlone (λ r. put_out_if_in group skips members.now r serial) self.old self.new) }
+        ensures made { OnOk result
+            (MakesAlone (λ r. put_out_if_in group skips members.now r serial) self.old self.new) }
     {
         if self.is_put_out(group, skips, members, serial) {
             self.put_out(group, serial)?;
@@ -389,7 +424,8 @@ impl Domain {
     // A member is put out.
     fn put_out(&mut self, group: GroupNo, serial: u32) -> Result<(), NoMemory>
         ensures same { Keeps self.old self.new }
-        ensures made { OnOk result (MakesAlone (λ r. put_out_in group r (local_in r serial)) self.old self.new) }
+        ensures made { OnOk result
+            (MakesAlone (λ r. put_out_in group r (local_in r serial)) self.old self.new) }
     {
         let process = self.process(serial);
         self.tell(process, ProcessUpdate::Standing(group, Standing::Outside))?;
@@ -400,7 +436,8 @@ impl Domain {
     fn release_ended(&mut self, place: usize, lent: &mut Lent<'_>) -> Result<(), NoMemory>
         requires { place < vec_len self.old.groups }
         ensures stays { KeepsBeside self.old lent.old self.new lent.new }
-        ensures made { OnOk result (Makes (λ r. records.release_ended r place) self.old lent.old self.new lent.new) }
+        ensures made { OnOk result
+            (Makes (λ r. records.release_ended r place) self.old lent.old self.new lent.new) }
     {
         let ended = self.ended_keys(place, &lent.shared.store.messages(self.config.domain))?;
         for key in ended.as_slice() {
@@ -412,7 +449,8 @@ impl Domain {
     // The keys of those among kept messages.
     fn ended_keys(&self, place: usize, kept: &Kept<'_>) -> Result<Vec<Key>, NoMemory>
         requires { place < vec_len self.now.groups }
-        ensures { IfOk result (λ keys. keys.items ≡ keys_passing (is_ended_in (own_records self.now) place) kept.now) }
+        ensures { IfOk result (λ keys.
+            keys.items ≡ keys_passing (is_ended_in (own_records self.now) place) kept.now) }
     {
         let mut ended = Vec::new(*self.groups.allocator());
         for position in 0..kept.len() {

@@ -1,8 +1,9 @@
 //! A program that is served, and its pen.
 //!
-//! The pen of a program is the right to take the entries of its session and to write to its stream. At most one thread has it. So
-//! entries are written in the order of the outbox, and no two Takes of a session run at once. A thread that would have to wait for
-//! the program passes the pen to the program's writer, with what is still to be written.
+//! The pen of a program is the right to take the entries of its session and to write to its stream.
+//! At most one thread has it. So entries are written in the order of the outbox, and no two Takes
+//! of a session run at once. A thread that would have to wait for the program passes the pen to the
+//! program's writer, with what is still to be written.
 use cast_types::DomainNo;
 use std::net::Shutdown;
 use std::os::unix::net::UnixStream;
@@ -90,7 +91,8 @@ impl Client {
         }
     }
 
-    /// Takes the pen. False if another thread has it, which then takes the outbox once more, or if nothing more is written.
+    /// Takes the pen. False if another thread has it, which then takes the outbox once more, or if
+    /// nothing more is written.
     pub fn claim<R: Wait>(&self, rt: &R) -> bool {
         let mut pen = self.pen.lock(rt);
         if pen.is_over {
@@ -110,8 +112,8 @@ impl Client {
         self.pen.lock(rt).is_over
     }
 
-    /// The outbox was taken, and what it had is written. True if the session was pushed to since: then the pen is kept, and else it is
-    /// free.
+    /// The outbox was taken, and what it had is written. True if the session was pushed to since:
+    /// then the pen is kept, and else it is free.
     pub fn goes_on<R: Wait>(&self, rt: &R) -> bool {
         let mut pen = self.pen.lock(rt);
         let is_wanted = pen.is_wanted && !pen.is_over;
@@ -154,7 +156,8 @@ impl Client {
         self.has_task.notify_one();
     }
 
-    /// The session was pushed to: who has the pen takes the outbox once more. If the pen is free, the writer gets it.
+    /// The session was pushed to: who has the pen takes the outbox once more. If the pen is free,
+    /// the writer gets it.
     pub fn call<R: Wait>(&self, rt: &R) {
         let mut pen = self.pen.lock(rt);
         if pen.is_over {
@@ -177,7 +180,8 @@ impl Client {
         pen.is_wanted && !pen.is_taken && !pen.is_over
     }
 
-    /// Waits until the outbox was taken so many times, the pen is free, or nothing more is written. False in the last case.
+    /// Waits until the outbox was taken so many times, the pen is free, or nothing more is written.
+    /// False in the last case.
     pub fn wait<R: Wait>(&self, rt: &R, times: u64) -> bool {
         let mut pen = self.pen.lock(rt);
         let first = pen.turns;

@@ -1,6 +1,7 @@
 //! How often something happened that an operator has to know.
 
-/// How often something happened. It is reported the first time, the tenth, the hundredth, and so on.
+/// How often something happened. It is reported the first time, the tenth, the hundredth, and so
+/// on.
 #[derive(Clone, Copy)]
 pub struct Count {
     so_far: u64,

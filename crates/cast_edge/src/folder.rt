@@ -8,8 +8,9 @@ use std::rt::Files;
 // No file has more bytes, unless what is written at once does.
 const MOST_BYTES: u64 = 67_108_864;
 
-/// Writes files `castd-SITE-NNNNNN.script` of at most 64 MiB in a folder, numbered from 1. What is written at once stands in one file. What
-/// is written first stands at the head of each file. A write fails if a file that it would begin is there already.
+/// Writes files `castd-SITE-NNNNNN.script` of at most 64 MiB in a folder, numbered from 1. What is
+/// written at once stands in one file. What is written first stands at the head of each file. A
+/// write fails if a file that it would begin is there already.
 #[derive(Drop)]
 pub struct Folder<'a, R> {
     files: &'a R,

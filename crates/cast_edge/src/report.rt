@@ -19,9 +19,11 @@ pub enum Report {
     NotServed(DomainNo),
     /// No more programs can connect to the domain for now: accepting one failed.
     NotAccepting(DomainNo),
-    /// So many datagrams came that are no frame of the site that they came from, or that found no memory.
+    /// So many datagrams came that are no frame of the site that they came from, or that found no
+    /// memory.
     Unread(u64),
-    /// So many datagrams for the site were not sent: there was no room for them, or the system refused them. Most frames are sent again.
+    /// So many datagrams for the site were not sent: there was no room for them, or the system
+    /// refused them. Most frames are sent again.
     Unsent(SiteNo, u64),
     /// So many datagrams found no memory to be sent. Most frames are sent again.
     Unspelled(u64),
@@ -88,8 +90,8 @@ fn has_room(milliseconds: i32) -> bool {
     c::poll(&mut asked, milliseconds) > 0
 }
 
-/// Writes each report to `log`, which is standard error, until nobody can report any more. If nobody reads there, reports that find no room
-/// are lost, and the daemon stops all the same.
+/// Writes each report to `log`, which is standard error, until nobody can report any more. If
+/// nobody reads there, reports that find no room are lost, and the daemon stops all the same.
 pub fn run_reporter<R: Wait, E: Write + Drop>(rt: &R, log: E, reports: Receiver<Report>) {
     let mut log = log;
     let mut is_read = true;

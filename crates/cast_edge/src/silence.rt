@@ -1,16 +1,17 @@
 //! How much a site is sent that does not answer.
 //!
-//! The rules send each message again after `resend`, until its site acknowledges it. To a site that is stopped, or gone, they would send all
-//! that is kept again and again. So a site that has acknowledged nothing for long is sent a few messages a second, until it acknowledges one.
-//! The rules cannot tell that from a network that loses datagrams.
+//! The rules send each message again after `resend`, until its site acknowledges it. To a site that
+//! is stopped, or gone, they would send all that is kept again and again. So a site that has
+//! acknowledged nothing for long is sent a few messages a second, until it acknowledges one. The
+//! rules cannot tell that from a network that loses datagrams.
 use cast_events::Outs;
 use cast_message::SiteFrame;
 use cast_types::{DomainNo, SiteNo};
 use std::alloc::Global;
 use std::sync::{Mutex, Wait};
 
-// A site is silent once it has acknowledged nothing for so many ticks: a second. The time after which a message is late says nothing here: it
-// grows with what is not acknowledged.
+// A site is silent once it has acknowledged nothing for so many ticks: a second. The time after
+// which a message is late says nothing here: it grows with what is not acknowledged.
 const SILENT: u64 = 50;
 
 // So many messages a silent site is sent at a tick: 100 a second at most.
@@ -88,7 +89,8 @@ impl Silence {
         was_silent
     }
 
-    // Whether a frame may be sent. Of those for a silent site only messages are held back, which are many.
+    // Whether a frame may be sent. Of those for a silent site only messages are held back, which
+    // are many.
     fn lets_pass<R: Wait>(rt: &R, all: &[Silence], frame: &(DomainNo, SiteNo, SiteFrame)) -> bool {
         if !matches!(frame.2, SiteFrame::Data(_)) {
             return true;

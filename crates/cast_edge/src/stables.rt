@@ -1,5 +1,5 @@
-//! Stables that wait to be sent. A later one says all that an earlier one does, and no site waits for one. So where frames share datagrams
-//! they wait for one to their site.
+//! Stables that wait to be sent. A later one says all that an earlier one does, and no site waits
+//! for one. So where frames share datagrams they wait for one to their site.
 use cast_events::Outs;
 use cast_message::SiteFrame;
 use cast_types::{DomainNo, List, SiteNo};
@@ -12,7 +12,8 @@ type Outgoing = (DomainNo, SiteNo, SiteFrame);
 // After so many that came since none waited they wait no longer.
 const MANY: u32 = 8;
 
-// Once so many wait, all are sent when the receiver has finished the frames that it serves. Until then more may wait.
+// Once so many wait, all are sent when the receiver has finished the frames that it serves. Until
+// then more may wait.
 const MOST: usize = 64;
 
 /// Stables that wait to be sent.
@@ -78,7 +79,8 @@ impl Stables {
         self.news >= MANY || self.waiting.len() >= MOST
     }
 
-    /// Adds those that wait to frames that are to be sent, if one of these goes to the same site. Answers how many are lost for want of memory.
+    /// Adds those that wait to frames that are to be sent, if one of these goes to the same site.
+    /// Answers how many are lost for want of memory.
     pub fn join(&mut self, outs: &mut Outs) -> u64 {
         let mut lost: u64 = 0;
         let waiting = mem::replace(&mut self.waiting, Vec::new(self.alloc));
@@ -99,7 +101,8 @@ impl Stables {
         lost
     }
 
-    /// Has the Stables of an event wait. Answers what else came of it, and how many of its frames are lost for want of memory.
+    /// Has the Stables of an event wait. Answers what else came of it, and how many of its frames
+    /// are lost for want of memory.
     pub fn hold(&mut self, outs: Outs) -> (Outs, u64) {
         let mut outs = outs;
         let mut lost: u64 = 0;

@@ -1,15 +1,19 @@
 //! The messages that another site was sent and has not acknowledged.
 //!
-//! The rules send a message once more after `resend`, which is long beside the time that an acknowledgement takes, and what depends on a
-//! lost message waits meanwhile. A site that acknowledges later messages, and not this one, has most likely not received it. So it is sent
-//! again at once: this is the fast retransmit of TCP (Allman, Paxson and Blanton, "TCP Congestion Control", RFC 5681). Without later ones it
-//! is sent again once it is late. The rules cannot tell that from a network that delivers a datagram twice.
+//! The rules send a message once more after `resend`, which is long beside the time that an
+//! acknowledgement takes, and what depends on a lost message waits meanwhile. A site that
+//! acknowledges later messages, and not this one, has most likely not received it. So it is sent
+//! again at once: this is the fast retransmit of TCP (Allman, Paxson and Blanton, "TCP Congestion
+//! Control", RFC 5681). Without later ones it is sent again once it is late. The rules cannot tell
+//! that from a network that delivers a datagram twice.
 //!
-//! What the rules send again goes to the wire ever more seldom, up to once in eight times `resend`, since a site that has much to do would get
-//! more of what it has already. The rules cannot tell that from a network that loses datagrams.
+//! What the rules send again goes to the wire ever more seldom, up to once in eight times `resend`,
+//! since a site that has much to do would get more of what it has already. The rules cannot tell
+//! that from a network that loses datagrams.
 //!
-//! A site passes over the messages of a view that it has not entered. That says nothing of the way to it. So what was sent too soon is
-//! kept until a frame of the site tells that it has entered the view. Then it counts as sent for the first time.
+//! A site passes over the messages of a view that it has not entered. That says nothing of the way
+//! to it. So what was sent too soon is kept until a frame of the site tells that it has entered the
+//! view. Then it counts as sent for the first time.
 use cast_events::{Event, Outs};
 use cast_message::{Message, SiteFrame};
 use cast_types::limits::MAX_GROUPS;
@@ -24,7 +28,8 @@ use std::time::Instant;
 // A message is sent again once so many later ones were acknowledged.
 const LATER: u32 = 3;
 
-// It is late once so many ticks at least went by since its acknowledgement was expected. Ticks are too coarse for less.
+// It is late once so many ticks at least went by since its acknowledgement was expected. Ticks are
+// too coarse for less.
 const LATE: u64 = 2;
 
 // So often it is sent again at most. Then it is left to the rules, as it is after so many ticks.
@@ -35,20 +40,24 @@ const FORGOTTEN: u64 = 10;
 // What was sent too soon is kept for so many ticks at most: ten seconds.
 const TOO_SOON: u64 = 500;
 
-// So many messages are remembered for each site, the latest, and so many are kept that were sent too soon.
+// So many messages are remembered for each site, the latest, and so many are kept that were sent
+// too soon.
 const MOST: usize = 1_024;
 
-// At a tick so many are sent again for each site, the earliest. A site that lacks one may have all behind it, and a site that is slow is
-// not to get all twice.
+// At a tick so many are sent again for each site, the earliest. A site that lacks one may have all
+// behind it, and a site that is slow is not to get all twice.
 const AT_A_TICK: usize = 8;
 
-// The time between two times that the rules have a message go to the wire doubles so often: up to eight times `resend`.
+// The time between two times that the rules have a message go to the wire doubles so often: up to
+// eight times `resend`.
 const DOUBLINGS: u32 = 3;
 
-// Of so many messages it is known when they are due. With one more, all are due when the rules say so.
+// Of so many messages it is known when they are due. With one more, all are due when the rules say
+// so.
 const MOST_DUE: usize = 4_096;
 
-// The least time of an acknowledgement is that of the last so many, and of as many before them at most: a way may become longer.
+// The least time of an acknowledgement is that of the last so many, and of as many before them at
+// most: a way may become longer.
 const SPAN: u32 = 4_096;
 
 // When a message is due that was sent and is not acknowledged.
@@ -66,7 +75,8 @@ struct Due {
 #[derive(Drop)]
 struct Sent {
     message: Message,
-    // When it was sent first. None if it may have come too soon: then its acknowledgement says nothing of the way.
+    // When it was sent first. None if it may have come too soon: then its acknowledgement says
+    // nothing of the way.
     first: Option<u64>,
     // When it was sent last.
     tick: u64,
@@ -88,9 +98,10 @@ impl Sent {
     }
 }
 
-// The time from a message to its acknowledgement, in ticks: eight times the mean, and four times the mean deviation from it. The latest count
-// most, as in TCP (Paxson, Allman, Chu and Sargent, "Computing TCP's Retransmission Timer", RFC 6298). A time counts from when the message was
-// sent first. So it is too long, and never too short, if the message was lost.
+// The time from a message to its acknowledgement, in ticks: eight times the mean, and four times
+// the mean deviation from it. The latest count most, as in TCP (Paxson, Allman, Chu and Sargent,
+// "Computing TCP's Retransmission Timer", RFC 6298). A time counts from when the message was sent
+// first. So it is too long, and never too short, if the message was lost.
 #[derive(Drop)]
 struct RoundTrip {
     mean: u64,
@@ -116,7 +127,8 @@ impl RoundTrip {
     }
 }
 
-/// How many microseconds it took a site to acknowledge a message, and how many it takes the site at least.
+/// How many microseconds it took a site to acknowledge a message, and how many it takes the site at
+/// least.
 #[derive(Clone, Copy, Debug, PartialEq, Eq)]
 pub struct Took {
     /// This time.
@@ -158,7 +170,8 @@ struct Flight {
     sent: VecDeque<Sent>,
     // What was sent too soon: what is left to the rules, of views that the site has not entered.
     early: VecDeque<Sent>,
-    // The latest view of each group that the site has entered, as far as its frames tell. Of no more groups than a domain may have.
+    // The latest view of each group that the site has entered, as far as its frames tell. Of no
+    // more groups than a domain may have.
     views: BTreeMap<GroupNo, u32>,
     dues: BTreeMap<Uid, Due>,
     tick: u64,
@@ -216,8 +229,8 @@ impl Flight {
         }
     }
 
-    // Leaves a message to the rules. Its acknowledgement takes at least as long as it was remembered, if the site has entered its view. Else it
-    // is kept.
+    // Leaves a message to the rules. Its acknowledgement takes at least as long as it was
+    // remembered, if the site has entered its view. Else it is kept.
     fn leave(&mut self, sent: Sent) {
         if self.has_entered(sent.message.id) {
             self.note_trip(&sent);
@@ -229,8 +242,9 @@ impl Flight {
         let _ = self.early.push_back(sent);
     }
 
-    // A frame tells that the site has entered a view of a group. It acknowledges nothing more of the views before. What was late of this one may
-    // have come too soon, and what is kept of it counts as sent now.
+    // A frame tells that the site has entered a view of a group. It acknowledges nothing more of
+    // the views before. What was late of this one may have come too soon, and what is kept of it
+    // counts as sent now.
     fn enter(&mut self, group: GroupNo, view: u32) {
         match self.views.get(&group) {
             Some(known) if *known >= view => return,
@@ -269,8 +283,8 @@ impl Flight {
         }
     }
 
-    // Takes the message at a place, to be sent again, and remembers it as the latest. `None` if there is no memory for that: then it is left
-    // to the rules.
+    // Takes the message at a place, to be sent again, and remembers it as the latest. `None` if
+    // there is no memory for that: then it is left to the rules.
     fn take(&mut self, place: usize) -> Option<Message> {
         let mut sent = self.sent.remove(place)?;
         let copy = sent.message.copy().ok()?;
@@ -285,7 +299,8 @@ impl Flight {
         Some(copy)
     }
 
-    // The place of the first message of so many that is to be sent again, since enough later ones were acknowledged.
+    // The place of the first message of so many that is to be sent again, since enough later ones
+    // were acknowledged.
     fn first_lost(&self, most: usize) -> Option<usize> {
         self.sent
             .iter()
@@ -293,8 +308,9 @@ impl Flight {
             .position(|sent| sent.later >= LATER)
     }
 
-    // The rules send a message, most likely again. Answers whether it goes to the wire: once it is late, and once they sent it so often as the
-    // time between doubled. Each eighth time it goes there, however late an acknowledgement may be.
+    // The rules send a message, most likely again. Answers whether it goes to the wire: once it is
+    // late, and once they sent it so often as the time between doubled. Each eighth time it goes
+    // there, however late an acknowledgement may be.
     fn is_due(&mut self, id: Uid) -> bool {
         let Some(due) = self.dues.get(&id) else {
             self.note_due(id, 0);
@@ -314,7 +330,8 @@ impl Flight {
         false
     }
 
-    // A message was acknowledged. Answers how many were sent before it and were not, and when it was sent, if it was sent once.
+    // A message was acknowledged. Answers how many were sent before it and were not, and when it
+    // was sent, if it was sent once.
     fn acknowledge(&mut self, id: Uid) -> (usize, Option<Instant>) {
         let _ = self.dues.remove(&id);
         let Some(place) = self.sent.iter().position(|sent| sent.message.id == id) else {
@@ -423,7 +440,8 @@ impl Unacknowledged {
         }
     }
 
-    /// Remembers a message that is about to be sent. If there is no memory for it, it is left to the rules.
+    /// Remembers a message that is about to be sent. If there is no memory for it, it is left to
+    /// the rules.
     pub fn note<R: Wait + Clock>(&self, rt: &R, message: &Message) {
         if let Ok(message) = message.copy() {
             let time = if self.is_timed {
@@ -435,14 +453,16 @@ impl Unacknowledged {
         }
     }
 
-    // Adds the frame of a message that is to be sent again. One that finds no memory is left to the rules.
+    // Adds the frame of a message that is to be sent again. One that finds no memory is left to the
+    // rules.
     fn add(&self, outs: &mut Outs, message: Message) {
         let _ = outs
             .frames
             .push((self.domain, self.site, SiteFrame::Data(message)));
     }
 
-    /// Notes that the site acknowledged a message. Answers the frames that are to be sent again, and how long it took, if that is known.
+    /// Notes that the site acknowledged a message. Answers the frames that are to be sent again,
+    /// and how long it took, if that is known.
     pub fn acknowledge<R: Wait + Clock>(&self, rt: &R, id: Uid) -> (Outs, Option<Took>) {
         let mut outs = Outs::new(self.alloc);
         let mut flight = self.flight.lock(rt);
@@ -487,7 +507,8 @@ impl Unacknowledged {
         true
     }
 
-    /// Of what a tick sends, what goes to the wire: all but messages that went there often, and not long ago.
+    /// Of what a tick sends, what goes to the wire: all but messages that went there often, and not
+    /// long ago.
     pub fn pass<R: Wait>(rt: &R, alloc: Global, all: &[Unacknowledged], outs: Outs) -> Outs {
         let mut outs = outs;
         let mut frames = mem::replace(&mut outs.frames, List::new(alloc)).into_vec();
@@ -535,7 +556,8 @@ pub struct Heard {
     pub acknowledged: Option<Uid>,
 }
 
-/// What an event tells of a site, if it is a frame that a site sends only of a view that it has entered.
+/// What an event tells of a site, if it is a frame that a site sends only of a view that it has
+/// entered.
 pub fn heard_in(event: &Event) -> Option<Heard> {
     let Event::Frame(domain, site, frame) = event else {
         return None;

@@ -2,7 +2,8 @@
 use Rattle.std.specs.Prelude.{Option, Some, None}
 use Rattle.cast_types.specs.declared.names.DomainNo.{DomainNo}
 use Rattle.cast_events.specs.declared.event.Event.{Event}
-use Rattle.cast_events.specs.declared.event.Event.TheVariants.{Open, Command, Gone, Frame, Suspect, Quota, Take, Tick}
+use Rattle.cast_events.specs.declared.event.Event.TheVariants.{Open, Command, Gone, Frame}
+use Rattle.cast_events.specs.declared.event.Event.TheVariants.{Suspect, Quota, Take, Tick}
 
 abbrev pub domain_of : Event → Option DomainNo
 domain_of (Open d) = Some d

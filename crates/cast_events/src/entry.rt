@@ -12,7 +12,8 @@ pub enum Noted {
     Refused(Refusal),
     /// How many entries were taken.
     Entries(usize),
-    /// The step of this domain found no memory; of a tick, the least number of those that it halted.
+    /// The step of this domain found no memory; of a tick, the least number of those that it
+    /// halted.
     Halted(DomainNo),
 }
 

@@ -100,7 +100,8 @@ impl Outs {
 
     /// Adds a frame of a domain to a site.
     pub fn send(&mut self, domain: DomainNo, to: SiteNo, frame: SiteFrame) -> Result<(), NoMemory>
-        ensures frames { OnOk result (self.new.frames ≡ self.old.frames ++ (domain, to, frame) ∷ []) }
+        ensures frames { OnOk result
+            (self.new.frames ≡ self.old.frames ++ (domain, to, frame) ∷ []) }
         ensures halted { self.new.halted ≡ self.old.halted }
         ensures delivered { self.new.delivered ≡ self.old.delivered }
         ensures pushed { self.new.pushed ≡ self.old.pushed }
@@ -110,7 +111,8 @@ impl Outs {
 
     /// Adds an entry that was pushed to a session of a domain: an equal one.
     pub fn push(&mut self, domain: DomainNo, serial: u32, entry: &Push) -> Result<(), NoMemory>
-        ensures pushed { OnOk result (self.new.pushed ≡ self.old.pushed ++ (domain, serial, entry.now) ∷ []) }
+        ensures pushed { OnOk result
+            (self.new.pushed ≡ self.old.pushed ++ (domain, serial, entry.now) ∷ []) }
         ensures frames { self.new.frames ≡ self.old.frames }
         ensures halted { self.new.halted ≡ self.old.halted }
         ensures delivered { self.new.delivered ≡ self.old.delivered }
@@ -146,7 +148,11 @@ impl Outs {
         frames: List<(DomainNo, SiteNo, SiteFrame)>,
         delivered: List<(DomainNo, Proc, Uid)>,
     ) -> Result<(), NoMemory>
-        ensures ok { OnOk result (self.new ≡ record self.old { frames = self.old.frames ++ frames; delivered = self.old.delivered ++ delivered }) }
+        ensures ok { OnOk result (self.new ≡ record self.old {
+          frames = self.old.frames
+              ++ frames;
+          delivered = self.old.delivered ++ delivered;
+        }) }
         ensures err { OnErr result (self.new ≡ self.old) }
     {
         let sent = self.frames.len();

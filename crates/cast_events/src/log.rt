@@ -7,8 +7,8 @@ use cast_types::{DomainNo, List, SiteNo};
 pub enum Fault {
     /// There is no memory to begin with. Nothing is changed.
     NoMemory,
-    /// The step of this domain found no memory: it is halted. Of a tick, which is for all, it is the least number of the
-    /// domains that it halted; the others have made their steps.
+    /// The step of this domain found no memory: it is halted. Of a tick, which is for all, it is
+    /// the least number of the domains that it halted; the others have made their steps.
     Halted(DomainNo),
     /// No domain of this number is configured. Nothing is changed. No tick is answered so.
     NoDomain,

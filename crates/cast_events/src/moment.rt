@@ -28,7 +28,8 @@ impl Moment {
         Moment { millis: 0 }
     }
 
-    /// Goes on to a moment, and to the last one where it is past that; a moment that is over changes nothing.
+    /// Goes on to a moment, and to the last one where it is past that; a moment that is over
+    /// changes nothing.
     pub fn reach(&mut self, millis: u64)
         ensures { self.new ≡ max self.old (min millis MAX_MOMENT) }
     {

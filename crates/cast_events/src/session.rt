@@ -4,7 +4,8 @@ ghost use Rattle.std.specs.Prelude.{◌≡◌};
 #[derive(Clone, Copy, Debug, PartialEq, Eq)]
 pub enum Status {
     Open,
-    /// Its program was told why it ends, and is told nothing more. What it was told may still be taken.
+    /// Its program was told why it ends, and is told nothing more. What it was told may still be
+    /// taken.
     Closed,
     /// Its program is gone, and so is its outbox.
     Gone,

@@ -227,7 +227,8 @@ unfolding everything reused_keys prints_1 prints_2
 reused_keys_prints = refl
 
 -- and each prints what it prints alone
-reused_keys_print_apart : (printed_text reused_keys_of_domain_1 ≡ Ok (lines prints_1)) × (printed_text reused_keys_of_domain_2 ≡ Ok (lines prints_2))
+reused_keys_print_apart : (printed_text reused_keys_of_domain_1 ≡ Ok (lines prints_1))
+    × (printed_text reused_keys_of_domain_2 ≡ Ok (lines prints_2))
 unfolding everything reused_keys_of_domain_1 reused_keys_of_domain_2 prints_1 prints_2
 reused_keys_print_apart = (refl, refl)
 

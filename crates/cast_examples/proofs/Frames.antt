@@ -4,7 +4,8 @@ use Rattle.std.specs.List.{list_all}
 use Rattle.cast_examples.proofs.Everything.{everything}
 use Rattle.cast_examples.specs.Printed.{lines, printed_text, rests}
 
--- Data and Acks that no rule uses: from other sites than their process's, for other views, with groups that are not configured, with a time that does not count them
+-- Data and Acks that no rule uses: from other sites than their process's, for other views, with groups that are not configured, with a time
+-- that does not count them
 frames_not_used : List ℕ
 frames_not_used =
     lines

@@ -42,8 +42,9 @@ requests_at_the_home_prints : printed_text requests_at_the_home ≡ Ok (
 unfolding everything requests_at_the_home
 requests_at_the_home_prints = refl
 
--- frames for a home at a site that is none; Installs lower, repeated, without a local process. View 2 names a process of this site that is not open,
--- so the Install of view 3 is the next one of a site that has a view, where no member waits: it is complete at once, and so is that of view 4
+-- frames for a home at a site that is none; Installs lower, repeated, without a local process. View 2 names a process of this site that is
+-- not open, so the Install of view 3 is the next one of a site that has a view, where no member waits: it is complete at once, and so is
+-- that of view 4
 frames_where_no_home_is : List ℕ
 frames_where_no_home_is =
     lines

@@ -5,7 +5,8 @@ use Rattle.std.specs.List.{list_all}
 use Rattle.cast_examples.proofs.Everything.{everything}
 use Rattle.cast_examples.specs.Printed.{lines, printed_text, rests}
 
--- an outbox of two entries holds the view off: the session is closed instead, and its process, which has entered the view, leaves it before the home is told. What was pushed may still be taken
+-- an outbox of two entries holds the view off: the session is closed instead, and its process, which has entered the view, leaves it before
+-- the home is told. What was pushed may still be taken
 no_room_for_the_view : List ℕ
 no_room_for_the_view =
     lines
@@ -65,7 +66,8 @@ taken_in_time_prints : printed_text taken_in_time ≡ Ok (
 unfolding everything taken_in_time
 taken_in_time_prints = refl
 
--- a cast whose reply has no room: the message is sent all the same, and then the session is closed and its process leaves. The message stays owed
+-- a cast whose reply has no room: the message is sent all the same, and then the session is closed and its process leaves. The message
+-- stays owed
 no_room_for_a_reply : List ℕ
 no_room_for_a_reply =
     lines
@@ -96,7 +98,8 @@ no_room_for_a_reply_prints : printed_text no_room_for_a_reply ≡ Ok (
 unfolding everything no_room_for_a_reply
 no_room_for_a_reply_prints = refl
 
--- a message of site 2 that a full outbox has no room for is acknowledged, and its session is closed: the process leaves. What comes after it is acknowledged too
+-- a message of site 2 that a full outbox has no room for is acknowledged, and its session is closed: the process leaves. What comes after
+-- it is acknowledged too
 no_room_for_a_delivery : List ℕ
 no_room_for_a_delivery =
     lines
@@ -124,7 +127,8 @@ no_room_for_a_delivery_prints : printed_text no_room_for_a_delivery ≡ Ok (
 unfolding everything no_room_for_a_delivery
 no_room_for_a_delivery_prints = refl
 
--- a client that sends what is no command is closed by 1 where its outbox has room, and by 12 where it has none. What was pushed may be taken until it is gone
+-- a client that sends what is no command is closed by 1 where its outbox has room, and by 12 where it has none. What was pushed may be
+-- taken until it is gone
 bad_with_a_full_outbox : List ℕ
 bad_with_a_full_outbox =
     lines
@@ -364,7 +368,8 @@ released_by_closing_prints : printed_text released_by_closing ≡ Ok (
 unfolding everything released_by_closing
 released_by_closing_prints = refl
 
--- a message that no member is left for, since a program that was put out of another group was too slow to be told so, is let go at once. The process leaves the group that it is a member of, and not the one that put it out
+-- a message that no member is left for, since a program that was put out of another group was too slow to be told so, is let go at once.
+-- The process leaves the group that it is a member of, and not the one that put it out
 released_by_ejecting : List ℕ
 released_by_ejecting =
     lines
@@ -412,7 +417,8 @@ released_by_ejecting_prints : printed_text released_by_ejecting ≡ Ok (
 unfolding everything released_by_ejecting
 released_by_ejecting_prints = refl
 
--- a message that waits for a view that its process is about to enter is let go at once where the group is full and the program was too slow to be told so: the cast that found no room finds some then
+-- a message that waits for a view that its process is about to enter is let go at once where the group is full and the program was too slow
+-- to be told so: the cast that found no room finds some then
 released_by_denying : List ℕ
 released_by_denying =
     lines
@@ -460,6 +466,10 @@ released_by_denying_prints = refl
 
 -- nothing is left to be done behind any event of these
 outboxes_rest : list_all rests (
-    no_room_for_the_view ∷ taken_in_time ∷ no_room_for_a_reply ∷ no_room_for_a_delivery ∷ bad_with_a_full_outbox ∷ takes_out_of_range ∷ one_session_at_a_time ∷ quotas_in_their_ranges ∷ lower_quotas_close_nobody ∷ another_resend_counts_from_the_next_time ∷ released_by_closing ∷ released_by_ejecting ∷ released_by_denying ∷ []) ≡ true
-unfolding everything no_room_for_the_view taken_in_time no_room_for_a_reply no_room_for_a_delivery bad_with_a_full_outbox takes_out_of_range one_session_at_a_time quotas_in_their_ranges lower_quotas_close_nobody another_resend_counts_from_the_next_time released_by_closing released_by_ejecting released_by_denying
+    no_room_for_the_view ∷ taken_in_time ∷ no_room_for_a_reply ∷ no_room_for_a_delivery ∷ bad_with_a_full_outbox ∷ takes_out_of_range
+    ∷ one_session_at_a_time ∷ quotas_in_their_ranges ∷ lower_quotas_close_nobody ∷ another_resend_counts_from_the_next_time
+    ∷ released_by_closing ∷ released_by_ejecting ∷ released_by_denying ∷ []) ≡ true
+unfolding everything no_room_for_the_view taken_in_time no_room_for_a_reply no_room_for_a_delivery bad_with_a_full_outbox takes_out_of_range
+    one_session_at_a_time quotas_in_their_ranges lower_quotas_close_nobody another_resend_counts_from_the_next_time released_by_closing
+    released_by_ejecting released_by_denying
 outboxes_rest = refl

@@ -4,7 +4,8 @@ use Rattle.std.specs.List.{list_all}
 use Rattle.cast_examples.proofs.Everything.{everything}
 use Rattle.cast_examples.specs.Printed.{lines, printed_text, rests}
 
--- two programs at one site: requests one after the other, Asked from the home alone and for the first request alone, who an Install takes in
+-- two programs at one site: requests one after the other, Asked from the home alone and for the first request alone, who an Install takes
+-- in
 two_programs_join : List ℕ
 two_programs_join =
     lines

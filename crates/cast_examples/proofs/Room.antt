@@ -263,6 +263,8 @@ held_over_groups_prints = refl
 
 -- nothing is left to be done behind any event of these
 room_rest : list_all rests (
-    room_of_orders ∷ holder_without_room ∷ delivers_only_with_room ∷ holder_waits_at_twice_held ∷ set_order_waits_at_twice_held ∷ held_over_groups ∷ []) ≡ true
-unfolding everything room_of_orders holder_without_room delivers_only_with_room holder_waits_at_twice_held set_order_waits_at_twice_held held_over_groups
+    room_of_orders ∷ holder_without_room ∷ delivers_only_with_room ∷ holder_waits_at_twice_held ∷ set_order_waits_at_twice_held
+    ∷ held_over_groups ∷ []) ≡ true
+unfolding everything room_of_orders holder_without_room delivers_only_with_room holder_waits_at_twice_held set_order_waits_at_twice_held
+    held_over_groups
 room_rest = refl

@@ -237,6 +237,7 @@ two_members_at_a_site_prints = refl
 
 -- nothing is left to be done behind any event of these
 stability_rest : list_all rests (
-    stable_pays_lower ∷ stable_before_data ∷ last_stable ∷ acknowledged_before_it_is_sent ∷ released_at_once ∷ two_members_at_a_site ∷ []) ≡ true
+    stable_pays_lower ∷ stable_before_data ∷ last_stable ∷ acknowledged_before_it_is_sent ∷ released_at_once ∷ two_members_at_a_site ∷ [])
+    ≡ true
 unfolding everything stable_pays_lower stable_before_data last_stable acknowledged_before_it_is_sent released_at_once two_members_at_a_site
 stability_rest = refl

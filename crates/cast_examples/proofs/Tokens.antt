@@ -292,6 +292,8 @@ pass_is_refused_in_order_prints = refl
 
 -- nothing is left to be done behind any event of these
 tokens_rest : list_all rests (
-    token_is_handed_over ∷ token_comes ∷ token_is_taken_at_delivery ∷ token_stays_until_all_is_stable ∷ token_stays_with_its_holder ∷ known_places_are_not_set_again ∷ pass_is_refused_in_order ∷ []) ≡ true
-unfolding everything token_is_handed_over token_comes token_is_taken_at_delivery token_stays_until_all_is_stable token_stays_with_its_holder known_places_are_not_set_again pass_is_refused_in_order
+    token_is_handed_over ∷ token_comes ∷ token_is_taken_at_delivery ∷ token_stays_until_all_is_stable ∷ token_stays_with_its_holder
+    ∷ known_places_are_not_set_again ∷ pass_is_refused_in_order ∷ []) ≡ true
+unfolding everything token_is_handed_over token_comes token_is_taken_at_delivery token_stays_until_all_is_stable token_stays_with_its_holder
+    known_places_are_not_set_again pass_is_refused_in_order
 tokens_rest = refl

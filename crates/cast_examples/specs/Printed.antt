@@ -1,6 +1,7 @@
 -- What a script prints, computed from its text.
 -- It is read, each domain runs by the definitions, and the log is written.
-use Rattle.std.specs.Prelude.{ℕ, ◌==◌, Bool, true, false, if◌then◌else◌, List, [], ◌∷◌, ◌++◌, map, Option, Some, None, Result, Ok, Err}
+use Rattle.std.specs.Prelude.{ℕ, ◌==◌, Bool, true, false, if◌then◌else◌, List, []}
+use Rattle.std.specs.Prelude.{◌∷◌, ◌++◌, map, Option, Some, None, Result, Ok, Err}
 use Rattle.std.specs.List.{find, list_all}
 use Rattle.cast_types.specs.declared.names.DomainNo.{DomainNo}
 use Rattle.cast_types.specs.declared.names.SiteNo.{SiteNo}
@@ -40,11 +41,15 @@ concerns (Some d) tenant = is_of d tenant
 concerns None tenant = true
 
 abbrev pub begin_tenant : SiteNo → DomainConfig → Tenant
-begin_tenant site config = (config, record { answers = []; sent = []; pushed = []; state = opening site config })
+begin_tenant site config = (
+  config,
+  record { answers = []; sent = []; pushed = []; state = opening site config },
+)
 
 -- each event of the domain is followed by two passes
 abbrev pub serve_tenant : Event → Tenant → Tenant
-serve_tenant event tenant = if concerns (domain_of event) tenant then (tenant.0, ran_on 2 tenant.1 event) else tenant
+serve_tenant event tenant =
+    if concerns (domain_of event) tenant then (tenant.0, ran_on 2 tenant.1 event) else tenant
 
 abbrev pub answer_by : Event → Option Tenant → Result Taken Fault
 answer_by event (Some tenant) = Ok (answer_of_event (before_event tenant.1.state) event)
@@ -59,7 +64,8 @@ answer_to None tenants event = Ok Nothing
 abbrev pub all_served : List Tenant → List Event → List (Result Taken Fault) × List Tenant
 all_served tenants [] = ([], tenants)
 all_served tenants (event ∷ events) =
-    let rest : List (Result Taken Fault) × List Tenant = all_served (map (serve_tenant event) tenants) events in
+    let rest : List (Result Taken Fault) × List Tenant =
+    all_served (map (serve_tenant event) tenants) events in
     (answer_to (domain_of event) tenants event ∷ rest.0, rest.1)
 
 -- what a run of a domain gave
@@ -78,7 +84,8 @@ log_by ran = record { answers = ran.0; given = map given_by ran.1 }
 -- the text of a script's log
 abbrev pub script_text : Script → List ℕ
 script_text script =
-    log_text script.config.site (log_by (all_served (map (begin_tenant script.config.site) script.config.domains) script.events))
+    log_text script.config.site (log_by
+    (all_served (map (begin_tenant script.config.site) script.config.domains) script.events))
 
 abbrev pub text_by : Result Script (ℕ × Reason) → Result (List ℕ) (ℕ × Reason)
 text_by (Ok script) = Ok (script_text script)
@@ -95,7 +102,8 @@ states_behind tenants (event ∷ events) =
     map (λ tenant. tenant.1.state) now ++ states_behind now events
 
 abbrev pub states_by : Result Script (ℕ × Reason) → List State
-states_by (Ok script) = states_behind (map (begin_tenant script.config.site) script.config.domains) script.events
+states_by (Ok script) =
+    states_behind (map (begin_tenant script.config.site) script.config.domains) script.events
 states_by (Err fault) = []
 
 -- whether nothing is left to be done in any of them

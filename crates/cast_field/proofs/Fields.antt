@@ -1,5 +1,6 @@
 -- A number that is read is the number that was written, and what was written is read again.
-use Rattle.std.proofs.Common.{◌≡◌, ℕ, suc, ◌+◌, ◌^◌, ◌<◌, ◌≤◌, Bool, true, false, cond, ltb, leb, ◌&&◌, List, [], ◌∷◌, ◌++◌, length, get_or, take, drop, Result, Ok, Err, refl, sym, ap, subst, ◌∙◌, append_assoc, arith, inl, inr}
+use Rattle.std.proofs.Common.{◌≡◌, ℕ, suc, ◌+◌, ◌^◌, ◌<◌, ◌≤◌, Bool, true, false, cond, ltb, leb, ◌&&◌, List, [], ◌∷◌, ◌++◌, length}
+use Rattle.std.proofs.Common.{get_or, take, drop, Result, Ok, Err, refl, sym, ap, subst, ◌∙◌, append_assoc, arith, inl, inr}
 use Rattle.std.specs.Int.{Width, w16, w32, byte_len, from_be_bytes, to_be_bytes}
 use Rattle.std.proofs.lemmas.Bool.{cases_lt, ltb-false, le-ltb, leb-true, le-leb, and_parts, and_from}
 use Rattle.std.proofs.lemmas.List.{take_at, drop_at, take-append-drop, length-append, length-take, get_or-drop, get_or-take, get_or_past}
@@ -27,12 +28,14 @@ IsBytes-rest : (b : ℕ) (bytes : List ℕ) → IsBytes (b ∷ bytes) → IsByte
 IsBytes-rest b bytes h i = h (suc i)
 
 -- the value of a step that did not fail
-pub bind_ok : {A B : Type 0} (r : Result A FrameFault) (f : A → Result B FrameFault) (y : B) → (r >>= f) ≡ Ok y → (x : A) × (r ≡ Ok x) × (f x ≡ Ok y)
+pub bind_ok : {A B : Type 0} (r : Result A FrameFault) (f : A → Result B FrameFault) (y : B) → (r >>= f) ≡ Ok y →
+    (x : A) × (r ≡ Ok x) × (f x ≡ Ok y)
 bind_ok (Ok x) f y e = (x, refl, e)
 bind_ok (Err d) f y e = absurd cc
 
 -- a test that did not fail
-pub guard_ok : {A : Type 0} (b : Bool) (d : FrameFault) (x y : Result A FrameFault) → cond b (Err d) x ≡ y → (z : A) → y ≡ Ok z → (b ≡ false) × (x ≡ Ok z)
+pub guard_ok : {A : Type 0} (b : Bool) (d : FrameFault) (x y : Result A FrameFault) → cond b (Err d) x ≡ y → (z : A) → y ≡ Ok z →
+    (b ≡ false) × (x ≡ Ok z)
 guard_ok true d x y e z h = absurd cc
 guard_ok false d x y e z h = (refl, e ∙ h)
 
@@ -65,7 +68,8 @@ Again {A = A} read spell P = (x : A) (rest : List ℕ) → P x → read (spell x
 
 -- ---- numbers
 
-pub within_is : (low high n : ℕ) (rest : List ℕ) (x : ℕ × List ℕ) → within_range low high n rest ≡ Ok x → ((n, rest) ≡ x) × IsFrom low high n
+pub within_is : (low high n : ℕ) (rest : List ℕ) (x : ℕ × List ℕ) → within_range low high n rest ≡ Ok x →
+    ((n, rest) ≡ x) × IsFrom low high n
 unfolding within_range
 within_is low high n rest x e =
     let g = pass_ok (leb low n && leb n high) Range (Ok (n, rest)) x e in
@@ -83,7 +87,8 @@ unfolding byte_at byte
 byte_takes low high [] x fits e = absurd cc
 byte_takes low high (b ∷ bytes) x fits e =
     let w = within_is low high b bytes x e in
-    subst (λ (y : ℕ × List ℕ). Took (b ∷ bytes) (y.0 ∷ []) y.1 (IsFrom low high y.0)) w.0 (record { parts = refl; rest_fits = IsBytes-rest b bytes fits; holds = w.1 })
+    subst (λ (y : ℕ × List ℕ). Took (b ∷ bytes) (y.0 ∷ []) y.1 (IsFrom low high y.0))
+    w.0 (record { parts = refl; rest_fits = IsBytes-rest b bytes fits; holds = w.1 })
 
 pub byte_again : (low high : ℕ) → Again (byte_at low high) byte (IsFrom low high)
 unfolding byte_at byte
@@ -108,25 +113,35 @@ wide32 = record {
   again = λ n lt. from_be_bytes-to_be_bytes_4 n lt;
 }
 
-number_takes : (w : Width) (limit : ℕ) (wide : IsWide w limit) (low high : ℕ) → Takes (number_at w low high) (to_be_bytes w) (IsFrom low high)
+number_takes : (w : Width) (limit : ℕ) (wide : IsWide w limit) (low high : ℕ) →
+    Takes (number_at w low high) (to_be_bytes w) (IsFrom low high)
 unfolding number_at
 number_takes w limit wide low high bytes x fits e =
     let n = from_be_bytes w (take (byte_len w) bytes) in
     let g = guard_ok (ltb (length bytes) (byte_len w)) Short (within_range low high n (drop (byte_len w) bytes)) (Ok x) e x refl in
     let long : byte_len w ≤ length bytes = ltb-false _ _ g.0 in
     let v = within_is low high n (drop (byte_len w) bytes) x g.1 in
-    let front : to_be_bytes w n ≡ take (byte_len w) bytes = wide.back (take (byte_len w) bytes) (omega (arith, length-take (byte_len w) bytes)) (IsBytes-take (byte_len w) bytes fits) in
-    let whole : bytes ≡ to_be_bytes w n ++ drop (byte_len w) bytes = sym (take-append-drop (byte_len w) bytes) ∙ ap (λ (t : List ℕ). t ++ drop (byte_len w) bytes) (sym front) in
+    let front : to_be_bytes w n ≡ take (byte_len w) bytes =
+    wide.back (take (byte_len w) bytes) (omega (arith, length-take (byte_len w) bytes)) (IsBytes-take (byte_len w) bytes fits) in
+    let whole : bytes ≡ to_be_bytes w n ++ drop (byte_len w) bytes =
+    sym (take-append-drop (byte_len w) bytes) ∙ ap (λ (t : List ℕ). t ++ drop (byte_len w) bytes) (sym front) in
     subst (λ (y : ℕ × List ℕ). Took bytes (to_be_bytes w y.0) y.1 (IsFrom low high y.0)) v.0
     (record { parts = whole; rest_fits = IsBytes-drop (byte_len w) bytes fits; holds = v.1 })
 
-number_again : (w : Width) (limit : ℕ) (wide : IsWide w limit) (low high : ℕ) → high < limit → Again (number_at w low high) (to_be_bytes w) (IsFrom low high)
+number_again : (w : Width) (limit : ℕ) (wide : IsWide w limit) (low high : ℕ) → high < limit →
+    Again (number_at w low high) (to_be_bytes w) (IsFrom low high)
 unfolding number_at
 number_again w limit wide low high room n rest h =
     let len = wide.len n in
     let back : from_be_bytes w (to_be_bytes w n) ≡ n = wide.again n (omega (arith, h.below)) in
-    let long : ltb (length (to_be_bytes w n ++ rest)) (byte_len w) ≡ false = le-ltb _ _ (omega (arith, length-append (to_be_bytes w n) rest)) in
-    rw (long, take_at (to_be_bytes w n) rest (byte_len w) len, drop_at (to_be_bytes w n) rest (byte_len w) len, back) (within_again low high n rest h)
+    let long : ltb (length (to_be_bytes w n ++ rest)) (byte_len w) ≡ false =
+    le-ltb _ _ (omega (arith, length-append (to_be_bytes w n) rest)) in
+    rw (
+      long,
+      take_at (to_be_bytes w n) rest (byte_len w) len,
+      drop_at (to_be_bytes w n) rest (byte_len w) len,
+      back,
+    ) (within_again low high n rest h)
 
 pub short_takes : (low high : ℕ) → Takes (number_at w16 low high) short (IsFrom low high)
 unfolding short
@@ -144,7 +159,8 @@ pub word_again : (low high : ℕ) → high < 2 ^ 32 → Again (number_at w32 low
 unfolding word
 word_again low high room = number_again w32 (2 ^ 32) wide32 low high room
 
-pub bytes_take : (n : ℕ) (bytes : List ℕ) (x : List ℕ × List ℕ) → IsBytes bytes → bytes_at n bytes ≡ Ok x → Took bytes x.0 x.1 (length x.0 ≡ n)
+pub bytes_take : (n : ℕ) (bytes : List ℕ) (x : List ℕ × List ℕ) → IsBytes bytes → bytes_at n bytes ≡ Ok x →
+    Took bytes x.0 x.1 (length x.0 ≡ n)
 unfolding bytes_at
 bytes_take n bytes x fits e =
     let g = guard_ok (ltb (length bytes) n) Short (Ok (take n bytes, drop n bytes)) (Ok x) e x refl in

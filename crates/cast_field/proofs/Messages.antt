@@ -1,5 +1,6 @@
 -- Messages are read as they were spelled.
-use Rattle.std.proofs.Common.{◌≡◌, ℕ, Bool, true, false, eqb, List, ◌++◌, Ok, refl, sym, ap, subst, ◌∙◌, append_assoc, arith, lit≤, inl, inr}
+use Rattle.std.proofs.Common.{◌≡◌, ℕ, Bool, true, false, eqb, List, ◌++◌, Ok, refl}
+use Rattle.std.proofs.Common.{sym, ap, subst, ◌∙◌, append_assoc, arith, lit≤, inl, inr}
 use Rattle.std.proofs.lemmas.Bool.{cases_Bool, false≢true, eqb-true, eq-eqb}
 use Rattle.cast_types.specs.declared.names.Kind.{Kind}
 use Rattle.cast_types.specs.declared.names.Kind.TheVariants as kind
@@ -8,7 +9,8 @@ use Rattle.cast_message.specs.declared.message.Body.TheVariants as body
 use Rattle.cast_message.specs.declared.message.Message.{Message}
 use Rattle.cast_message.specs.Bodies.{kind_of, hands_over}
 use Rattle.cast_field.specs.Spelling.{byte, kind_code, spelled_uid, spelled_times, spelled_body, spelled_message}
-use Rattle.cast_field.specs.Reading.{◌>>=◌, byte_at, uid_at, times_at, payload_at, sequence_at, least_kind, kind_numbered, kind_at, causal_at, atomic_at, order_at, body_at, message_at}
+use Rattle.cast_field.specs.Reading.{◌>>=◌, byte_at, uid_at, times_at, payload_at, sequence_at, least_kind}
+use Rattle.cast_field.specs.Reading.{kind_numbered, kind_at, causal_at, atomic_at, order_at, body_at, message_at}
 use Rattle.cast_field.specs.Spelled.{IsFrom, IsBody, IsMessage}
 use Rattle.cast_field.proofs.Fields.{bind_ok, ok_is, Took, joined, Takes, Again, byte_takes, byte_again}
 use Rattle.cast_field.proofs.Parts.{uid_takes, uid_again, times_takes, times_again, payload_takes, payload_again}
@@ -59,7 +61,11 @@ kind_takes handing bytes x fits e =
     let t1 = byte_takes (least_kind handing) 3 bytes a1.0 fits a1.1 in
     let made : Kind × List ℕ = (kind_numbered a1.0.0, a1.0.1) in
     subst (λ (y : Kind × List ℕ). Took bytes (byte (kind_code y.0)) y.1 (MayBe handing y.0)) (ok_is made x a1.2)
-    (record { parts = t1.parts ∙ ap (λ (n : ℕ). byte n ++ a1.0.1) (kind_back a1.0.0 (kind_range handing a1.0.0 t1.holds)); rest_fits = t1.rest_fits; holds = kind_third handing a1.0.0 t1.holds })
+    (record {
+      parts = t1.parts ∙ ap (λ (n : ℕ). byte n ++ a1.0.1) (kind_back a1.0.0 (kind_range handing a1.0.0 t1.holds));
+      rest_fits = t1.rest_fits;
+      holds = kind_third handing a1.0.0 t1.holds;
+    })
 
 kind_again : (handing : Bool) → Again (kind_at handing) (λ (k : Kind). byte (kind_code k)) (MayBe handing)
 unfolding kind_at
@@ -136,9 +142,15 @@ IsMessageBy handing m = IsMessage m × (hands_over m.body ≡ handing)
 pub message_takes : (handing : Bool) → Takes (message_at handing) spelled_message (IsMessageBy handing)
 unfolding message_at spelled_message
 message_takes handing bytes x fits e =
-    let a1 = bind_ok (uid_at bytes) (λ id. kind_at handing id.1 >>= λ k. times_at k.1 >>= λ times. body_at handing k.0 times.1 >>= λ b. Ok (record { id = id.0; times = times.0; body = b.0 }, b.1)) x e in
-    let a2 = bind_ok (kind_at handing a1.0.1) (λ k. times_at k.1 >>= λ times. body_at handing k.0 times.1 >>= λ b. Ok (record { id = a1.0.0; times = times.0; body = b.0 }, b.1)) x a1.2 in
-    let a3 = bind_ok (times_at a2.0.1) (λ times. body_at handing a2.0.0 times.1 >>= λ b. Ok (record { id = a1.0.0; times = times.0; body = b.0 }, b.1)) x a2.2 in
+    let a1 =
+    bind_ok (uid_at bytes) (λ id. kind_at handing id.1 >>= λ k.
+    times_at k.1 >>= λ times. body_at handing k.0 times.1 >>= λ b. Ok (record { id = id.0; times = times.0; body = b.0 }, b.1)) x e in
+    let a2 =
+    bind_ok (kind_at handing a1.0.1) (λ k. times_at k.1
+    >>= λ times. body_at handing k.0 times.1 >>= λ b. Ok (record { id = a1.0.0; times = times.0; body = b.0 }, b.1)) x a1.2 in
+    let a3 =
+    bind_ok (times_at a2.0.1)
+    (λ times. body_at handing a2.0.0 times.1 >>= λ b. Ok (record { id = a1.0.0; times = times.0; body = b.0 }, b.1)) x a2.2 in
     let a4 = bind_ok (body_at handing a2.0.0 a3.0.1) (λ b. Ok (record { id = a1.0.0; times = a3.0.0; body = b.0 }, b.1)) x a3.2 in
     let t1 = uid_takes bytes a1.0 fits a1.1 in
     let t2 = kind_takes handing a1.0.1 a2.0 t1.rest_fits a2.1 in
@@ -151,7 +163,11 @@ message_takes handing bytes x fits e =
     let j1 = joined bytes (spelled_uid a1.0.0) a1.0.1 (code ++ (spelled_times a3.0.0 ++ spelled_body a4.0.0)) a4.0.1 t1.parts j2 in
     let made : Message × List ℕ = (record { id = a1.0.0; times = a3.0.0; body = a4.0.0 }, a4.0.1) in
     subst (λ (y : Message × List ℕ). Took bytes (spelled_message y.0) y.1 (IsMessageBy handing y.0)) (ok_is made x a4.2)
-    (record { parts = j1; rest_fits = t4.rest_fits; holds = (record { id = t1.holds; times = t3.holds; body = t4.holds.0 }, t4.holds.2 t2.holds) })
+    (record {
+      parts = j1;
+      rest_fits = t4.rest_fits;
+      holds = (record { id = t1.holds; times = t3.holds; body = t4.holds.0 }, t4.holds.2 t2.holds);
+    })
 
 pub message_again : (v : Message) (rest : List ℕ) → IsMessage v → message_at (hands_over v.body) (spelled_message v ++ rest) ≡ Ok (v, rest)
 unfolding message_at spelled_message
@@ -159,5 +175,15 @@ message_again v rest fits =
     let r3 : List ℕ = spelled_body v.body ++ rest in
     let r2 : List ℕ = spelled_times v.times ++ r3 in
     let r1 : List ℕ = byte (kind_code (kind_of v.body)) ++ r2 in
-    let regrouped : (spelled_uid v.id ++ (byte (kind_code (kind_of v.body)) ++ (spelled_times v.times ++ spelled_body v.body))) ++ rest ≡ spelled_uid v.id ++ r1 = append_assoc (spelled_uid v.id) (byte (kind_code (kind_of v.body)) ++ (spelled_times v.times ++ spelled_body v.body)) rest ∙ ap (λ (t : List ℕ). spelled_uid v.id ++ t) (append_assoc (byte (kind_code (kind_of v.body))) (spelled_times v.times ++ spelled_body v.body) rest ∙ ap (λ (t : List ℕ). byte (kind_code (kind_of v.body)) ++ t) (append_assoc (spelled_times v.times) (spelled_body v.body) rest)) in
-    ap (message_at (hands_over v.body)) regrouped ∙ rw (uid_again v.id r1 fits.id, kind_again (hands_over v.body) (kind_of v.body) r2 (handing_is_third v.body), times_again v.times r3 fits.times, body_again v.body rest fits.body) refl
+    let regrouped : (spelled_uid v.id ++ (byte (kind_code (kind_of v.body)) ++ (spelled_times v.times ++ spelled_body v.body))) ++ rest
+    ≡ spelled_uid v.id ++ r1 =
+    append_assoc (spelled_uid v.id) (byte (kind_code (kind_of v.body)) ++ (spelled_times v.times ++ spelled_body v.body)) rest
+    ∙ ap (λ (t : List ℕ). spelled_uid v.id ++ t)
+    (append_assoc (byte (kind_code (kind_of v.body))) (spelled_times v.times ++ spelled_body v.body) rest
+    ∙ ap (λ (t : List ℕ). byte (kind_code (kind_of v.body)) ++ t) (append_assoc (spelled_times v.times) (spelled_body v.body) rest)) in
+    ap (message_at (hands_over v.body)) regrouped ∙ rw (
+      uid_again v.id r1 fits.id,
+      kind_again (hands_over v.body) (kind_of v.body) r2 (handing_is_third v.body),
+      times_again v.times r3 fits.times,
+      body_again v.body rest fits.body,
+    ) refl

@@ -17,7 +17,10 @@ use Rattle.cast_message.specs.Tail.{Tail}
 use Rattle.cast_message.specs.Placement.{Placement}
 use Rattle.cast_message.specs.KeptIds.{Marked, KeptList}
 use Rattle.cast_message.specs.Bodies.{kind_of}
-use Rattle.cast_field.specs.Spelling.{byte, short, word, spelled_proc, spelled_entry, spelled_uid, spelled_counts, spelled_clock, spelled_times, spelled_payload, spelled_sequence, kind_code, spelled_body, spelled_message, spelled_new_holder, spelled_holder, spelled_members, spelled_tail, mark_code, spelled_marked, spelled_kept}
+use Rattle.cast_field.specs.Spelling.{byte, short, word, spelled_proc, spelled_entry, spelled_uid, spelled_counts}
+use Rattle.cast_field.specs.Spelling.{spelled_clock, spelled_times, spelled_payload, spelled_sequence, kind_code}
+use Rattle.cast_field.specs.Spelling.{spelled_body, spelled_message, spelled_new_holder, spelled_holder}
+use Rattle.cast_field.specs.Spelling.{spelled_members, spelled_tail, mark_code, spelled_marked, spelled_kept}
 use Rattle.cast_field.specs.Spelled.{AreCounts, IsClock, AreTimes, ArePlaced, IsBody, IsMessage, AreMembers, IsTail, AreKept}
 use Rattle.cast_field.proofs.Parts.{stamp_parts}
 use Rattle.cast_field.proofs.Holders.{members_parts}
@@ -48,7 +51,8 @@ unfolding spelled_uid
 uid_size u =
     simp length-append (omega (arith, short_size u.group.0, word_size u.view, proc_size u.proc, word_size u.count))
 
-cons_size : {A : Type 0} (spell : A → List ℕ) (x : A) (xs : List A) → length (flat_map spell (x ∷ xs)) ≡ length (spell x) + length (flat_map spell xs)
+cons_size : {A : Type 0} (spell : A → List ℕ) (x : A) (xs : List A) →
+    length (flat_map spell (x ∷ xs)) ≡ length (spell x) + length (flat_map spell xs)
 cons_size spell x xs = ap length (flat_map-cons spell x xs) ∙ length-append (spell x) (flat_map spell xs)
 
 entries_size : (es : List Entry) → length (flat_map spelled_entry es) ≡ 10 * length es
@@ -68,7 +72,14 @@ counts_size c are =
 clock_size : (e : GroupNo × Clock) → IsClock e → length (spelled_clock e) ≤ 647
 unfolding spelled_clock
 clock_size e is =
-    omega (arith, length-append (short e.0.0) (word e.1.view ++ spelled_counts e.1.counts), length-append (word e.1.view) (spelled_counts e.1.counts), short_size e.0.0, word_size e.1.view, counts_size e.1.counts is.counts)
+    omega (
+      arith,
+      length-append (short e.0.0) (word e.1.view ++ spelled_counts e.1.counts),
+      length-append (word e.1.view) (spelled_counts e.1.counts),
+      short_size e.0.0,
+      word_size e.1.view,
+      counts_size e.1.counts is.counts,
+    )
 
 clocks_size : (t : List (GroupNo × Clock)) → AllByRecursion IsClock t → length (flat_map spelled_clock t) ≤ 647 * length t
 clocks_size [] are = omega arith
@@ -94,7 +105,17 @@ unfolding spelled_sequence
 sequence_size s are =
     let few = (sequence_parts s are.short).1.below in
     let behind : List ℕ = flat_map spelled_entry s.ids ++ spelled_new_holder s.holder in
-    omega (arith, length-append (word s.first) (byte (length s.ids) ++ behind), length-append (byte (length s.ids)) behind, length-append (flat_map spelled_entry s.ids) (spelled_new_holder s.holder), word_size s.first, byte_size (length s.ids), entries_size s.ids, new_holder_size s.holder, few)
+    omega (
+      arith,
+      length-append (word s.first) (byte (length s.ids) ++ behind),
+      length-append (byte (length s.ids)) behind,
+      length-append (flat_map spelled_entry s.ids) (spelled_new_holder s.holder),
+      word_size s.first,
+      byte_size (length s.ids),
+      entries_size s.ids,
+      new_holder_size s.holder,
+      few,
+    )
 
 body_size : (b : Body) → IsBody b → length (spelled_body b) ≤ 16386
 unfolding spelled_body
@@ -105,7 +126,8 @@ body_size (body.Order s) are = omega (arith, sequence_size s are)
 pub message_size : (m : Message) → IsMessage m → length (spelled_message m) ≤ 37108
 unfolding spelled_message
 message_size m is =
-    simp length-append (omega (arith, uid_size m.id, byte_size (kind_code (kind_of m.body)), times_size m.times is.times, body_size m.body is.body))
+    simp length-append
+    (omega (arith, uid_size m.id, byte_size (kind_code (kind_of m.body)), times_size m.times is.times, body_size m.body is.body))
 
 holder_size : (ps : List Proc) (h : Option Proc) → length (spelled_holder ps h) ≤ 1
 unfolding spelled_holder byte
@@ -116,13 +138,29 @@ pub members_size : (m : Membership) → AreMembers m → length (spelled_members
 unfolding spelled_members
 members_size m are =
     let few = (members_parts m are.sorted).1 in
-    omega (arith, length-append (byte (length m.list)) (flat_map spelled_proc m.list ++ spelled_holder m.list m.holder), length-append (flat_map spelled_proc m.list) (spelled_holder m.list m.holder), byte_size (length m.list), procs_size m.list, holder_size m.list m.holder, few)
+    omega (
+      arith,
+      length-append (byte (length m.list)) (flat_map spelled_proc m.list ++ spelled_holder m.list m.holder),
+      length-append (flat_map spelled_proc m.list) (spelled_holder m.list m.holder),
+      byte_size (length m.list),
+      procs_size m.list,
+      holder_size m.list m.holder,
+      few,
+    )
 
 pub tail_size : (t : Tail) → IsTail t → length (spelled_tail t) ≤ 5766
 unfolding spelled_tail
 tail_size t is =
     let few = (stretch_parts t is.short).1 in
-    omega (arith, length-append (word t.start) (short (length t.ids) ++ flat_map spelled_entry t.ids), length-append (short (length t.ids)) (flat_map spelled_entry t.ids), word_size t.start, short_size (length t.ids), entries_size t.ids, few)
+    omega (
+      arith,
+      length-append (word t.start) (short (length t.ids) ++ flat_map spelled_entry t.ids),
+      length-append (short (length t.ids)) (flat_map spelled_entry t.ids),
+      word_size t.start,
+      short_size (length t.ids),
+      entries_size t.ids,
+      few,
+    )
 
 marked_size : (e : Marked) → length (spelled_marked e) ≡ 11
 unfolding spelled_marked

@@ -1,7 +1,9 @@
 -- The numbers of faults.
 use Rattle.std.specs.Prelude.{ℕ}
 use Rattle.cast_field.specs.declared.fault.FrameFault.{FrameFault}
-use Rattle.cast_field.specs.declared.fault.FrameFault.TheVariants.{Short, Magic, Version, WrongType, Length, NotSorted, Range, NoMemory}
+use Rattle.cast_field.specs.declared.fault.FrameFault.TheVariants.{Short, Magic, Version}
+use Rattle.cast_field.specs.declared.fault.FrameFault.TheVariants.{WrongType, Length}
+use Rattle.cast_field.specs.declared.fault.FrameFault.TheVariants.{NotSorted, Range, NoMemory}
 
 abbrev pub fault_code : FrameFault → ℕ
 fault_code Short = 1

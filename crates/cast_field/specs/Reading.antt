@@ -1,5 +1,7 @@
 -- Reading the fields of a frame: a value and the bytes after it, or the first fault from the left.
-use Rattle.std.specs.Prelude.{◌≡◌, ◌≢◌, ℕ, zero, suc, ◌-◌, Bool, true, false, ◌&&◌, ◌==◌, nat_lt, nat_le, if◌then◌else◌, List, [], ◌∷◌, length, take, drop, slice_get, Option, Some, None, Result, Ok, Err}
+use Rattle.std.specs.Prelude.{◌≡◌, ◌≢◌, ℕ, zero, suc, ◌-◌, Bool, true, false, ◌&&◌, ◌==◌}
+use Rattle.std.specs.Prelude.{nat_lt, nat_le, if◌then◌else◌, List, [], ◌∷◌, length, take}
+use Rattle.std.specs.Prelude.{drop, slice_get, Option, Some, None, Result, Ok, Err}
 use Rattle.std.specs.Int.{Width, w16, w32, byte_len, from_be_bytes}
 use Rattle.std.specs.Borrow.{Bor}
 use Rattle.std.specs.declared.cmp.Ordering.{Ordering}
@@ -14,7 +16,8 @@ use Rattle.cast_types.specs.declared.names.Kind.TheVariants as kind
 use Rattle.cast_types.specs.declared.clock.Clock.{Clock}
 use Rattle.cast_types.specs.Names.{Entry, proc_cmp, group_cmp, entry_cmp}
 use Rattle.cast_field.specs.declared.fault.FrameFault.{FrameFault}
-use Rattle.cast_field.specs.declared.fault.FrameFault.TheVariants.{Short, NotSorted, Range, NoMemory}
+use Rattle.cast_field.specs.declared.fault.FrameFault.TheVariants.{Short, NotSorted}
+use Rattle.cast_field.specs.declared.fault.FrameFault.TheVariants.{Range, NoMemory}
 use Rattle.cast_message.specs.declared.message.Body.{Body}
 use Rattle.cast_message.specs.declared.message.Body.TheVariants as body
 use Rattle.cast_message.specs.declared.message.Message.{Message}
@@ -24,7 +27,8 @@ use Rattle.cast_message.specs.Placement.{Placement}
 use Rattle.cast_message.specs.KeptIds.{Marked, KeptList}
 
 infixl 10 ◌>>=◌
-abbrev pub ◌>>=◌ : {A B : Type 0} → Result A FrameFault → (A → Result B FrameFault) → Result B FrameFault
+abbrev pub ◌>>=◌ : {A B : Type 0} → Result A FrameFault → (A → Result B FrameFault)
+    → Result B FrameFault
 (Ok x) >>= f = f x
 (Err e) >>= f = Err e
 
@@ -37,7 +41,8 @@ abbrev pub Gives : {X : Type 0} → Result X FrameFault → Result X FrameFault 
 Gives result read = GivesAs (λ x. x) result read
 
 -- the same of a value with the bytes after it
-abbrev pub GivesField : {X : Type 0} → Result (X × Bor (List ℕ)) FrameFault → Result (X × List ℕ) FrameFault → Type 0
+abbrev pub GivesField : {X : Type 0} → Result (X × Bor (List ℕ)) FrameFault
+    → Result (X × List ℕ) FrameFault → Type 0
 GivesField result read = GivesAs (λ x. (x.0, x.1.now)) result read
 
 -- reads a value from the front of the bytes
@@ -71,7 +76,8 @@ many item seen (suc n) last bytes = do
   Ok (x.0 ∷ xs.0, xs.1)
 
 -- in a sorted list each key is above the one before
-unfoldable pub above : {K : Type 0} → (K → K → Ordering) → Option K → K × List ℕ → Result (K × List ℕ) FrameFault
+unfoldable pub above : {K : Type 0} → (K → K → Ordering) → Option K → K × List ℕ
+    → Result (K × List ℕ) FrameFault
 above cmp None k = Ok k
 above cmp (Some last) k = if is_lt (cmp last k.0) then Ok k else Err NotSorted
 
@@ -169,8 +175,8 @@ id_at last bytes = entry_at bytes
 abbrev pub nothing_of : Entry → Unit {0}
 nothing_of e = tt
 
--- The bytes of a message do not say whether it hands over the token: who reads it knows that before. One that does is of
--- the third kind, and need not have ids
+-- The bytes of a message do not say whether it hands over the token: who reads it knows that
+-- before. One that does is of the third kind, and need not have ids
 
 abbrev pub least_kind : Bool → ℕ
 least_kind handing = if handing then 3 else 1

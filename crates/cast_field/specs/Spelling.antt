@@ -1,5 +1,6 @@
 -- The one spelling of each field of a frame. All numbers have their high byte first.
-use Rattle.std.specs.Prelude.{ℕ, Bool, if◌then◌else◌, List, [], ◌∷◌, ◌++◌, length, Option, Some, None}
+use Rattle.std.specs.Prelude.{ℕ, Bool, if◌then◌else◌, List, [], ◌∷◌}
+use Rattle.std.specs.Prelude.{◌++◌, length, Option, Some, None}
 use Rattle.std.specs.List.{flat_map, position_or_len}
 use Rattle.std.specs.Int.{w16, w32, to_be_bytes}
 use Rattle.cast_types.specs.declared.names.GroupNo.{GroupNo}
@@ -62,7 +63,9 @@ spelled_new_holder (Some p) = spelled_proc p
 
 -- the first place, how many, the ids, and the new holder
 unfoldable pub spelled_sequence : Placement → List ℕ
-spelled_sequence s = word s.first ++ (byte (length s.ids) ++ (flat_map spelled_entry s.ids ++ spelled_new_holder s.holder))
+spelled_sequence s =
+    word s.first
+    ++ (byte (length s.ids) ++ (flat_map spelled_entry s.ids ++ spelled_new_holder s.holder))
 
 abbrev pub kind_code : Kind → ℕ
 kind_code kind.Causal = 1
@@ -76,7 +79,9 @@ spelled_body (body.Order sequence) = spelled_sequence sequence
 
 -- name, kind, times, what the message holds
 unfoldable pub spelled_message : Message → List ℕ
-spelled_message m = spelled_uid m.id ++ (byte (kind_code (kind_of m.body)) ++ (spelled_times m.times ++ spelled_body m.body))
+spelled_message m =
+    spelled_uid m.id
+    ++ (byte (kind_code (kind_of m.body)) ++ (spelled_times m.times ++ spelled_body m.body))
 
 -- the holder stands by its place among the members
 unfoldable pub spelled_holder : List Proc → Option Proc → List ℕ
@@ -85,7 +90,8 @@ spelled_holder members (Some p) = byte (position_or_len (proc_eq p) members)
 
 -- how many, the members, and the holder
 unfoldable pub spelled_members : Membership → List ℕ
-spelled_members m = byte (length m.list) ++ (flat_map spelled_proc m.list ++ spelled_holder m.list m.holder)
+spelled_members m =
+    byte (length m.list) ++ (flat_map spelled_proc m.list ++ spelled_holder m.list m.holder)
 
 -- how many before them, how many, and the ids
 unfoldable pub spelled_tail : Tail → List ℕ

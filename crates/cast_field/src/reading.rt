@@ -1,6 +1,14 @@
 ghost use Rattle.std.specs.Prelude.{◌≡◌, ◌≤◌, None, Ok, length};
 ghost use Rattle.std.specs.Int.{w16, w32};
-ghost use Rattle.cast_field.specs.Reading.{GivesAs, GivesField, above, atomic_at, body_at, byte_at, bytes_at, causal_at, clock_above, count_at, counts_at, domain_at, entry_above, entry_at, group_above, group_at, group_of, holder_at, id_above, id_at, id_of, kept_at, kind_at, many, least_ids, least_kind, mark_at, marked_above, members_at, message_at, new_holder_at, nothing_of, number_at, order_at, payload_at, proc_above, proc_at, process_of, sequence_at, site_at, some_proc, tail_at, times_at, uid_at};
+ghost use Rattle.cast_field.specs.Reading.{GivesAs, GivesField, above, atomic_at, body_at, byte_at};
+ghost use Rattle.cast_field.specs.Reading.{bytes_at, causal_at, clock_above, count_at, counts_at};
+ghost use Rattle.cast_field.specs.Reading.{domain_at, entry_above, entry_at, group_above, group_at};
+ghost use Rattle.cast_field.specs.Reading.{group_of, holder_at, id_above, id_at, id_of, kept_at};
+ghost use Rattle.cast_field.specs.Reading.{kind_at, many, least_ids, least_kind, mark_at};
+ghost use Rattle.cast_field.specs.Reading.{marked_above, members_at, message_at, new_holder_at};
+ghost use Rattle.cast_field.specs.Reading.{nothing_of, number_at, order_at, payload_at, proc_above};
+ghost use Rattle.cast_field.specs.Reading.{proc_at, process_of, sequence_at, site_at, some_proc};
+ghost use Rattle.cast_field.specs.Reading.{tail_at, times_at, uid_at};
 
 use crate::fault::FrameFault;
 use byteorder::{BigEndian, ByteOrder};
@@ -161,7 +169,8 @@ fn read_entries(
     count: u8,
     bytes: &[u8],
 ) -> Result<(Vec<(Proc, u32)>, &[u8]), FrameFault>
-    ensures { GivesAs (λ x. (x.0.items, x.1.now)) result (many entry_above process_of count None bytes.now) }
+    ensures { GivesAs (λ x. (x.0.items, x.1.now))
+        result (many entry_above process_of count None bytes.now) }
 {
     let mut entries = Vec::new(alloc);
     let mut last = None;
@@ -204,7 +213,8 @@ fn read_clocks(
     count: u8,
     bytes: &[u8],
 ) -> Result<(Vec<(GroupNo, Clock)>, &[u8]), FrameFault>
-    ensures { GivesAs (λ x. (x.0.items, x.1.now)) result (many clock_above group_of count None bytes.now) }
+    ensures { GivesAs (λ x. (x.0.items, x.1.now))
+        result (many clock_above group_of count None bytes.now) }
 {
     let mut clocks = Vec::new(alloc);
     let mut last = None;
@@ -261,7 +271,8 @@ fn read_ids(
     count: u16,
     bytes: &[u8],
 ) -> Result<(Vec<(Proc, u32)>, &[u8]), FrameFault>
-    ensures { GivesAs (λ x. (x.0.items, x.1.now)) result (many id_at nothing_of count tt bytes.now) }
+    ensures { GivesAs (λ x. (x.0.items, x.1.now))
+        result (many id_at nothing_of count tt bytes.now) }
 {
     let mut ids = Vec::new(alloc);
     let mut rest = bytes;
@@ -366,9 +377,10 @@ fn read_body(
 
 /// A message: its name, its kind, its times and what it holds.
 ///
-/// Its bytes do not say whether it hands over the token of its view; `handing` does. Where it does not, its kind is 1 to
-/// 3, and a set-order message has 1 to 64 ids. Where it does, its kind is 3, it has 0 to 64 ids, and the 6 bytes of the
-/// new holder stand behind them. Another kind, or another number of ids, is `Range`.
+/// Its bytes do not say whether it hands over the token of its view; `handing` does. Where it does
+/// not, its kind is 1 to 3, and a set-order message has 1 to 64 ids. Where it does, its kind is 3,
+/// it has 0 to 64 ids, and the 6 bytes of the new holder stand behind them. Another kind, or
+/// another number of ids, is `Range`.
 #[tactic(auto, unfolding(crate::specs::Reading::message_at))]
 pub fn read_message(
     alloc: Global,
@@ -385,7 +397,8 @@ pub fn read_message(
 }
 
 fn read_procs(alloc: Global, count: u8, bytes: &[u8]) -> Result<(Vec<Proc>, &[u8]), FrameFault>
-    ensures { GivesAs (λ x. (x.0.items, x.1.now)) result (many proc_above some_proc count None bytes.now) }
+    ensures { GivesAs (λ x. (x.0.items, x.1.now))
+        result (many proc_above some_proc count None bytes.now) }
 {
     let mut procs = Vec::new(alloc);
     let mut last = None;
@@ -476,7 +489,8 @@ fn read_all_marked(
     count: u16,
     bytes: &[u8],
 ) -> Result<(Vec<((Proc, u32), bool)>, &[u8]), FrameFault>
-    ensures { GivesAs (λ x. (x.0.items, x.1.now)) result (many marked_above id_of count None bytes.now) }
+    ensures { GivesAs (λ x. (x.0.items, x.1.now))
+        result (many marked_above id_of count None bytes.now) }
 {
     let mut entries = Vec::new(alloc);
     let mut last = None;

@@ -1,7 +1,12 @@
 ghost use Rattle.std.specs.Prelude.{◌≡◌, ◌++◌, ◌≤◌, length, OnOk};
 ghost use Rattle.std.specs.List.{flat_map, position, position_or_len};
 ghost use Rattle.cast_types.specs.Names.{proc_eq};
-ghost use Rattle.cast_field.specs.Spelling.{kind_code, short, spelled_body, spelled_clock, spelled_counts, spelled_entry, spelled_holder, spelled_kept, spelled_marked, spelled_members, spelled_message, spelled_new_holder, spelled_payload, spelled_proc, spelled_sequence, spelled_tail, spelled_times, spelled_uid, word};
+ghost use Rattle.cast_field.specs.Spelling.{kind_code, short, spelled_body, spelled_clock};
+ghost use Rattle.cast_field.specs.Spelling.{spelled_counts, spelled_entry, spelled_holder};
+ghost use Rattle.cast_field.specs.Spelling.{spelled_kept, spelled_marked, spelled_members};
+ghost use Rattle.cast_field.specs.Spelling.{spelled_message, spelled_new_holder};
+ghost use Rattle.cast_field.specs.Spelling.{spelled_payload, spelled_proc, spelled_sequence};
+ghost use Rattle.cast_field.specs.Spelling.{spelled_tail, spelled_times, spelled_uid, word};
 
 use bytes::BufMut;
 use cast_message::{Body, KeptIds, Membership, Message, Payload, Placement, Tail};
@@ -138,8 +143,8 @@ fn code_of_kind(kind: Kind) -> u8
     }
 }
 
-/// A message: its name, its kind, its times and what it holds. In a set-order message that hands over the token of its
-/// view the new holder stands behind the ids.
+/// A message: its name, its kind, its times and what it holds. In a set-order message that hands
+/// over the token of its view the new holder stands behind the ids.
 #[tactic(auto, unfolding(crate::specs::Spelling::spelled_message, crate::specs::Spelling::byte))]
 pub fn put_message(out: &mut Vec<u8>, message: &Message) -> Result<(), NoMemory>
     ensures { OnOk result (out.new.items ≡ out.old.items ++ spelled_message message.now) }

@@ -1,5 +1,6 @@
 -- What holds of each item of a list holds of each of a part of it.
-use Rattle.std.proofs.Common.{◌≡◌, ℕ, zero, suc, ◌≤◌, Bool, true, false, cond, List, [], ◌∷◌, ◌++◌, length, take, refl, sym, subst, inl, inr, arith}
+use Rattle.std.proofs.Common.{◌≡◌, ℕ, zero, suc, ◌≤◌, Bool, true, false, cond, List, []}
+use Rattle.std.proofs.Common.{◌∷◌, ◌++◌, length, take, refl, sym, subst, inl, inr, arith}
 use Rattle.std.specs.List.{list_all, filter}
 use Rattle.std.proofs.lemmas.Bool.{cases_Bool, and_parts, and_from}
 
@@ -22,7 +23,8 @@ all_take test (suc n) (x ∷ xs) all =
     and_from (test x) (list_all test (take n xs)) parts.0 (all_take test n xs parts.1)
 
 -- what holds of each item of two lists holds of each of both
-pub all_append : {A : Type 0} (test : A → Bool) (xs ys : List A) → list_all test xs ≡ true → list_all test ys ≡ true → list_all test (xs ++ ys) ≡ true
+pub all_append : {A : Type 0} (test : A → Bool) (xs ys : List A) → list_all test xs ≡ true → list_all test ys ≡ true →
+    list_all test (xs ++ ys) ≡ true
 all_append test [] ys first then = then
 all_append test (x ∷ xs) ys first then =
     let parts = and_parts (test x) (list_all test xs) first in

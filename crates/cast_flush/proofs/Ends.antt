@@ -31,7 +31,8 @@ reaches t u =
     (λ above. let le = ltb-false (end_of t) (end_of u) above in (omega arith, le))
 
 -- the farthest reaches as far as each
-reaches_all : (t : Tail) (reports : Reports) → (end_of t ≤ end_of (longest_from t reports)) × (list_all (λ r. nat_le (end_of r.1.tail) (end_of (longest_from t reports))) reports ≡ true)
+reaches_all : (t : Tail) (reports : Reports) → (end_of t ≤ end_of (longest_from t reports))
+    × (list_all (λ r. nat_le (end_of r.1.tail) (end_of (longest_from t reports))) reports ≡ true)
 reaches_all t [] = (omega arith, refl)
 reaches_all t (r ∷ rs) =
     let here = reaches t r.1.tail in
@@ -46,13 +47,15 @@ reaches_all t (r ∷ rs) =
     )
 
 -- the farthest is the first part or that of some report
-from_some : (t : Tail) (reports : Reports) → (longest_from t reports ≡ t) ⊎ ((i : ℕ) × (option_map (λ r. r.1.tail) (slice_get reports i) ≡ Some (longest_from t reports)))
+from_some : (t : Tail) (reports : Reports) →
+    (longest_from t reports ≡ t) ⊎ ((i : ℕ) × (option_map (λ r. r.1.tail) (slice_get reports i) ≡ Some (longest_from t reports)))
 from_some t [] = inl refl
 from_some t (r ∷ rs) = elim (from_some (farther t r.1.tail) rs) [
   | inr later ↦ inr (suc later.0, later.1)
   | inl same ↦
       cond_both (nat_lt (end_of t) (end_of r.1.tail)) r.1.tail t
-      (λ s. longest_from (farther t r.1.tail) rs ≡ s → (longest_from (farther t r.1.tail) rs ≡ t) ⊎ ((i : ℕ) × (option_map (λ x. x.1.tail) (slice_get (r ∷ rs) i) ≡ Some (longest_from (farther t r.1.tail) rs))))
+      (λ s. longest_from (farther t r.1.tail) rs ≡ s → (longest_from (farther t r.1.tail) rs ≡ t)
+      ⊎ ((i : ℕ) × (option_map (λ x. x.1.tail) (slice_get (r ∷ rs) i) ≡ Some (longest_from (farther t r.1.tail) rs))))
       (λ _ is. inr (0, ap Some (sym is))) (λ _ is. inl is) same
 ]
 
@@ -61,12 +64,14 @@ pub longest_in_words : LongestInWords
 longest_in_words reports = (from_some no_stretch reports, (reaches_all no_stretch reports).1)
 
 -- the longest has no more ids than each has at most
-few_ids : (n : ℕ) (t : Tail) (reports : Reports) → length t.ids ≤ n → list_all (λ r. nat_le (length r.1.tail.ids) n) reports ≡ true → length (longest_from t reports).ids ≤ n
+few_ids : (n : ℕ) (t : Tail) (reports : Reports) → length t.ids ≤ n → list_all (λ r. nat_le (length r.1.tail.ids) n) reports ≡ true →
+    length (longest_from t reports).ids ≤ n
 few_ids n t [] few all = few
 few_ids n t (r ∷ rs) few all =
     let parts = and_parts (nat_le (length r.1.tail.ids) n) (list_all (λ s. nat_le (length s.1.tail.ids) n) rs) all in
     few_ids n (farther t r.1.tail) rs
-    (cond_both (nat_lt (end_of t) (end_of r.1.tail)) r.1.tail t (λ s. length s.ids ≤ n) (λ _. leb-true (length r.1.tail.ids) n parts.0) (λ _. few))
+    (cond_both (nat_lt (end_of t) (end_of r.1.tail)) r.1.tail t (λ s. length s.ids ≤ n)
+    (λ _. leb-true (length r.1.tail.ids) n parts.0) (λ _. few))
     parts.1
 
 -- the ids of the longest that are within the cut
@@ -90,4 +95,5 @@ order_is_within cut reports =
     (all_append (is_within cut) (placed_in cut reports) (added_entries cut reports (placed_in cut reports))
     (all_filter (is_within cut) (longest reports).ids)
     (all_take (is_within cut) 64 (apart_from entry_eq fits (placed_in cut reports))
-    (all_kept (is_within cut) (λ x. not (is_among entry_eq x (placed_in cut reports))) fits (all_filter (is_within cut) (unplaced_entries reports)))))
+    (all_kept (is_within cut) (λ x. not (is_among entry_eq x (placed_in cut reports)))
+    fits (all_filter (is_within cut) (unplaced_entries reports)))))

@@ -28,13 +28,16 @@ any_is_found : (e : Entry) (ks : KeptList) → list_any (λ k. entry_eq k.0 e) k
 any_is_found e [] = refl
 any_is_found e (k ∷ ks) =
     ap (λ b. b || list_any (λ x. entry_eq x.0 e) ks) (tied k.0 e)
-    ∙ elim (is_eq (entry_cmp e k.0)) as (λ b. (b || list_any (λ x. entry_eq x.0 e) ks) ≡ is_some (cond b (Some k.1) (find entry_cmp e ks))) [
+    ∙ elim (is_eq (entry_cmp e k.0))
+    as (λ b. (b || list_any (λ x. entry_eq x.0 e) ks) ≡ is_some (cond b (Some k.1) (find entry_cmp e ks))) [
       | true ↦ refl
       | false ↦ any_is_found e ks
     ]
 
-pub search_keeps : (e : Entry) (ks : KeptList) (i : ℕ) (d : Entry × Bool) → is_sorted entry_cmp ks ≡ true → i < length ks → IsBinarySearchResult (λ k. entry_cmp k.0 e) ks (Ok i) → list_any (λ k. entry_eq k.0 e) ks ≡ true
+pub search_keeps : (e : Entry) (ks : KeptList) (i : ℕ) (d : Entry × Bool) → is_sorted entry_cmp ks ≡ true → i < length ks →
+    IsBinarySearchResult (λ k. entry_cmp k.0 e) ks (Ok i) → list_any (λ k. entry_eq k.0 e) ks ≡ true
 search_keeps e ks i d up within is = any_is_found e ks ∙ ap is_some (search_found entry_cmp entry_total e ks i d up within is)
 
-pub search_lacks : (e : Entry) (ks : KeptList) (i : ℕ) → is_sorted entry_cmp ks ≡ true → IsBinarySearchResult (λ k. entry_cmp k.0 e) ks (Err i) → list_any (λ k. entry_eq k.0 e) ks ≡ false
+pub search_lacks : (e : Entry) (ks : KeptList) (i : ℕ) → is_sorted entry_cmp ks ≡ true →
+    IsBinarySearchResult (λ k. entry_cmp k.0 e) ks (Err i) → list_any (λ k. entry_eq k.0 e) ks ≡ false
 search_lacks e ks i up is = any_is_found e ks ∙ ap is_some (search_absent entry_cmp entry_total e ks i up is)

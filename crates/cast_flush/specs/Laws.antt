@@ -1,5 +1,6 @@
 -- What the reports of a flush decide, in words.
-use Rattle.std.specs.Prelude.{◌≡◌, ◌↔◌, ℕ, ◌≤◌, true, false, not, ◌&&◌, nat_le, List, length, slice_get, ◌⊎◌, Some}
+use Rattle.std.specs.Prelude.{◌≡◌, ◌↔◌, ℕ, ◌≤◌, true, false, not, ◌&&◌}
+use Rattle.std.specs.Prelude.{nat_le, List, length, slice_get, ◌⊎◌, Some}
 use Rattle.std.specs.List.{list_any, list_all}
 use Rattle.std.specs.Option.{option_map}
 use Rattle.cast_types.specs.declared.limits.TheConstants.{MAX_TAIL}
@@ -9,14 +10,17 @@ use Rattle.cast_types.specs.Names.{Entry, site_eq, proc_eq, entry_eq}
 use Rattle.cast_types.specs.Sets.{is_among}
 use Rattle.cast_types.specs.Counts.{CountList, count_of, is_within}
 use Rattle.cast_flush.specs.Reports.{Reports, cut_from, keeps, needed_entries, keeper_of}
-use Rattle.cast_flush.specs.Decisions.{end_of, no_stretch, longest, unplaced_entries, ids_from, order_from}
+use Rattle.cast_flush.specs.Decisions.{end_of, no_stretch, longest}
+use Rattle.cast_flush.specs.Decisions.{unplaced_entries, ids_from, order_from}
 
--- The cut covers of each member the least number of messages that is as great as each report, and of nobody else any
+-- The cut covers of each member the least number of messages that is as great as each report, and
+-- of nobody else any
 abbrev pub CutInWords : Type 0
 CutInWords =
     (members : List Proc) (reports : Reports) (p : Proc)
     → (is_among proc_eq p members ≡ true → (n : ℕ) →
-    (count_of (cut_from members reports) p ≤ n) ↔ (list_all (λ r. nat_le (count_of r.1.counts p) n) reports ≡ true))
+    (count_of (cut_from members reports) p ≤ n)
+    ↔ (list_all (λ r. nat_le (count_of r.1.counts p) n) reports ≡ true))
     × (is_among proc_eq p members ≡ false → count_of (cut_from members reports) p ≡ 0)
 
 -- Needed are the messages within the cut that some site keeps and some site does not
@@ -24,33 +28,45 @@ abbrev pub NeededInWords : Type 0
 NeededInWords =
     (cut : CountList) (reports : Reports) (e : Entry)
     → is_among entry_eq e (needed_entries cut reports)
-    ≡ (is_within cut e && (list_any (λ r. keeps r.1 e) reports && not (list_all (λ r. keeps r.1 e) reports)))
+    ≡ (is_within cut e
+    && (list_any (λ r. keeps r.1 e) reports
+    && not (list_all (λ r. keeps r.1 e) reports)))
 
 -- Each of them is wanted from a site that keeps it
 abbrev pub KeeperInWords : Type 0
 KeeperInWords =
-    (cut : CountList) (reports : Reports) (e : Entry) → is_among entry_eq e (needed_entries cut reports) ≡ true
-    → (s : SiteNo) × (keeper_of reports e ≡ Some s) × (list_any (λ r. site_eq r.0 s && keeps r.1 e) reports ≡ true)
+    (cut : CountList) (reports : Reports) (e : Entry)
+    → is_among entry_eq e (needed_entries cut reports) ≡ true
+    → (s : SiteNo)
+    × (keeper_of reports e ≡ Some s)
+    × (list_any (λ r. site_eq r.0 s && keeps r.1 e) reports ≡ true)
 
--- The longest order is that of a report, if any reaches anywhere, and no report's order reaches farther
+-- The longest order is that of a report, if any reaches anywhere, and no report's order reaches
+-- farther
 abbrev pub LongestInWords : Type 0
 LongestInWords =
     (reports : Reports)
-    → ((longest reports ≡ no_stretch) ⊎ ((i : ℕ) × (option_map (λ r. r.1.tail) (slice_get reports i) ≡ Some (longest reports))))
+    → ((longest reports ≡ no_stretch)
+    ⊎ ((i : ℕ) × (option_map (λ r. r.1.tail) (slice_get reports i) ≡ Some (longest reports))))
     × (list_all (λ r. nat_le (end_of r.1.tail) (end_of (longest reports))) reports ≡ true)
 
 -- Without a place are the messages that some site keeps marked
 abbrev pub UnplacedInWords : Type 0
 UnplacedInWords =
     (reports : Reports) (e : Entry)
-    → is_among entry_eq e (unplaced_entries reports) ≡ list_any (λ r. list_any (λ k. k.1 && entry_eq k.0 e) r.1.kept) reports
+    → is_among entry_eq e (unplaced_entries reports)
+    ≡ list_any (λ r. list_any (λ k. k.1 && entry_eq k.0 e) r.1.kept) reports
 
--- From reports of at most 512 ids each, as sites send them, nothing is cut off the order that is decided
+-- From reports of at most 512 ids each, as sites send them, nothing is cut off the order that is
+-- decided
 abbrev pub OrderIsWhole : Type 0
 OrderIsWhole =
-    (cut : CountList) (reports : Reports) → list_all (λ r. nat_le (length r.1.tail.ids) MAX_TAIL) reports ≡ true
+    (cut : CountList) (reports : Reports)
+    → list_all (λ r. nat_le (length r.1.tail.ids) MAX_TAIL) reports ≡ true
     → (order_from cut reports).ids ≡ ids_from cut reports
 
 -- Every id of it is within the cut
 abbrev pub OrderIsWithinTheCut : Type 0
-OrderIsWithinTheCut = (cut : CountList) (reports : Reports) → list_all (is_within cut) (order_from cut reports).ids ≡ true
+OrderIsWithinTheCut =
+    (cut : CountList) (reports : Reports)
+    → list_all (is_within cut) (order_from cut reports).ids ≡ true

@@ -33,7 +33,8 @@ greatest_count reports p = fold (λ n r. max n (count_of r.1.counts p)) 0 report
 
 -- for each member its greatest count, where that is not 0
 abbrev pub cut_from : List Proc → Reports → CountList
-cut_from members reports = filter (λ e. nat_lt 0 e.1) (map (λ p. (p, greatest_count reports p)) members)
+cut_from members reports =
+    filter (λ e. nat_lt 0 e.1) (map (λ p. (p, greatest_count reports p)) members)
 
 -- What some of the sites lack
 
@@ -63,7 +64,8 @@ has_body g view bodies e = list_any (λ m. uid_eq m.id (uid_in g view e)) bodies
 
 -- the needed messages that are not there
 abbrev pub wanting : GroupNo → ℕ → CountList → Reports → List Message → List Entry
-wanting g view cut reports bodies = filter (λ e. not (has_body g view bodies e)) (needed_entries cut reports)
+wanting g view cut reports bodies =
+    filter (λ e. not (has_body g view bodies e)) (needed_entries cut reports)
 
 -- a message with the site that it is wanted from
 abbrev pub want_of : Reports → Entry → Option (SiteNo × Entry)
@@ -71,4 +73,5 @@ want_of reports e = option_map (λ s. (s, e)) (keeper_of reports e)
 
 -- the first of the messages that are wanting, each with the site that it is wanted from
 abbrev pub wants_of : GroupNo → ℕ → CountList → Reports → List Message → List (SiteNo × Entry)
-wants_of g view cut reports bodies = filter_map (want_of reports) (take MAX_PLACED (wanting g view cut reports bodies))
+wants_of g view cut reports bodies =
+    filter_map (want_of reports) (take MAX_PLACED (wanting g view cut reports bodies))

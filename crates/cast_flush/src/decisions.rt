@@ -4,7 +4,8 @@ ghost use Rattle.cast_types.specs.Names.{entry_eq, entry_cmp};
 ghost use Rattle.cast_types.specs.Sets.{with_items, is_among, apart_from};
 ghost use Rattle.cast_types.specs.Counts.{is_within};
 ghost use Rattle.cast_types.specs.declared.limits.TheConstants.{MAX_PLACED, MAX_ORDER};
-ghost use Rattle.cast_flush.specs.Decisions.{end_of, no_stretch, longest, unplaced_entries, added_entries, ids_behind, order_from};
+ghost use Rattle.cast_flush.specs.Decisions.{end_of, no_stretch, longest, unplaced_entries};
+ghost use Rattle.cast_flush.specs.Decisions.{added_entries, ids_behind, order_from};
 
 use crate::report::Report;
 use crate::reports::is_within;
@@ -21,7 +22,8 @@ fn end_of(tail: &Tail) -> u64
     u64::from(tail.start()) + tail.ids().len() as u64
 }
 
-// The order that reaches farthest of those that are reported, and of equal ones the first. None reaches nowhere.
+// The order that reaches farthest of those that are reported, and of equal ones the first. None
+// reaches nowhere.
 fn longest_tail(reports: &[(SiteNo, Report)]) -> Option<&Tail>
     ensures { unwrap_or (option_copied result) no_stretch ≡ longest reports.now }
 {
@@ -39,7 +41,8 @@ fn longest_tail(reports: &[(SiteNo, Report)]) -> Option<&Tail>
 
 // Adds the marked ones of what a site keeps to a set.
 fn add_unplaced(ids: &mut Ids, report: &Report) -> Result<(), NoMemory>
-    ensures { OnOk result (ids.new.keys ≡ with_items entry_cmp ids.old.keys (map (λ k. k.0) (filter (λ k. k.1) report.now.kept))) }
+    ensures { OnOk result (ids.new.keys
+        ≡ with_items entry_cmp ids.old.keys (map (λ k. k.0) (filter (λ k. k.1) report.now.kept))) }
 {
     for (id, is_unplaced) in report.kept.entries() {
         if *is_unplaced {
@@ -66,7 +69,8 @@ fn added_ids(
     mut unplaced: Vec<(Proc, u32)>,
     placed: &[(Proc, u32)],
 ) -> Vec<(Proc, u32)>
-    ensures { result.items ≡ take MAX_PLACED (apart_from entry_eq (filter (is_within cut.now) unplaced.items) placed.now) }
+    ensures { result.items ≡ take MAX_PLACED
+        (apart_from entry_eq (filter (is_within cut.now) unplaced.items) placed.now) }
 {
     unplaced.retain(|id| is_within(cut, *id));
     unplaced.retain(|id| !has_place(placed, *id));
@@ -88,7 +92,11 @@ fn order_behind(
     reports: &[(SiteNo, Report)],
     tail: &Tail,
 ) -> Result<Tail, NoMemory>
-    ensures { IfOk result (λ t. t ≡ record { start = tail.now.start; ids = take MAX_ORDER (ids_behind cut.now reports.now tail.now.ids) }) }
+    ensures { IfOk result (λ t. t ≡ record {
+      start = tail.now.start;
+      ids = take MAX_ORDER
+          (ids_behind cut.now reports.now tail.now.ids);
+    }) }
 {
     let mut ids = Vec::from_slice(alloc, tail.ids())?;
     ids.retain(|id| is_within(cut, *id));
@@ -98,8 +106,9 @@ fn order_behind(
     Ok(Tail::from_parts(tail.start(), ids))
 }
 
-/// The order that the old view ends with, within the cut: the longest that is reported, and behind it at most 64 of the
-/// ABCASTs that some site keeps and knows no place for; at most 576 ids in all. `NoMemory` where memory is refused.
+/// The order that the old view ends with, within the cut: the longest that is reported, and behind
+/// it at most 64 of the ABCASTs that some site keeps and knows no place for; at most 576 ids in
+/// all. `NoMemory` where memory is refused.
 pub fn order_from(
     alloc: Global,
     cut: &Counts,

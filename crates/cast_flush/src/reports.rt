@@ -5,7 +5,9 @@ ghost use Rattle.cast_types.specs.Sets.{with_items};
 ghost use Rattle.cast_types.specs.Counts.{is_within};
 ghost use Rattle.cast_types.specs.declared.limits.TheConstants.{MAX_PLACED};
 ghost use Rattle.cast_types.specs.Rising.{is_rising};
-ghost use Rattle.cast_flush.specs.Reports.{has_report, is_complete, greatest_count, cut_from, keeps, all_kept, is_needed, keeper_of, has_body, wanting, want_of};
+ghost use Rattle.cast_flush.specs.Reports.{has_report, is_complete, greatest_count};
+ghost use Rattle.cast_flush.specs.Reports.{cut_from, keeps, all_kept, is_needed};
+ghost use Rattle.cast_flush.specs.Reports.{keeper_of, has_body, wanting, want_of};
 
 use crate::report::Report;
 use crate::sets::{Ids, insert_id, list_of};
@@ -39,8 +41,8 @@ fn greatest_count(reports: &[(SiteNo, Report)], process: Proc) -> u32
     greatest
 }
 
-/// For each of these members, who rise and are at most 64, the greatest count that a site reports: so many of its messages
-/// belong to the view. `NoMemory` where memory is refused.
+/// For each of these members, who rise and are at most 64, the greatest count that a site reports:
+/// so many of its messages belong to the view. `NoMemory` where memory is refused.
 pub fn cut_from(
     alloc: Global,
     members: &[Proc],
@@ -102,7 +104,8 @@ fn keeper_of(reports: &[(SiteNo, Report)], id: (Proc, u32)) -> Option<SiteNo>
 
 // Adds what a site keeps to a set.
 fn add_kept(ids: &mut Ids, report: &Report) -> Result<(), NoMemory>
-    ensures { OnOk result (ids.new.keys ≡ with_items entry_cmp ids.old.keys (map (λ k. k.0) report.now.kept)) }
+    ensures { OnOk result
+        (ids.new.keys ≡ with_items entry_cmp ids.old.keys (map (λ k. k.0) report.now.kept)) }
 {
     for (id, _) in report.kept.entries() {
         insert_id(ids, *id)?;
@@ -137,8 +140,9 @@ fn has_body(group: GroupNo, view: u32, bodies: &[Message], id: (Proc, u32)) -> b
     bodies.iter().any(|message| message.id == name)
 }
 
-/// The messages of a view within a cut, each a process and a count, that some of the sites keep and others lack and that are
-/// not among those that came, in rising order. `NoMemory` where memory is refused.
+/// The messages of a view within a cut, each a process and a count, that some of the sites keep and
+/// others lack and that are not among those that came, in rising order. `NoMemory` where memory is
+/// refused.
 pub fn wanted_ids(
     alloc: Global,
     group: GroupNo,
@@ -155,14 +159,15 @@ pub fn wanted_ids(
     Ok(ids)
 }
 
-/// The first 64 of these messages, each with the least site that keeps it, from which it is wanted; those that no site keeps
-/// are left out. `NoMemory` where memory is refused.
+/// The first 64 of these messages, each with the least site that keeps it, from which it is wanted;
+/// those that no site keeps are left out. `NoMemory` where memory is refused.
 pub fn wants_of(
     alloc: Global,
     reports: &[(SiteNo, Report)],
     wanting: &[(Proc, u32)],
 ) -> Result<List<(SiteNo, (Proc, u32))>, NoMemory>
-    ensures { IfOk result (λ l. l ≡ filter_map (want_of reports.now) (take MAX_PLACED wanting.now)) }
+    ensures { IfOk result
+        (λ l. l ≡ filter_map (want_of reports.now) (take MAX_PLACED wanting.now)) }
 {
     let mut wants = Vec::new(alloc);
     for id in &wanting[..MAX_PLACED.min(wanting.len())] {

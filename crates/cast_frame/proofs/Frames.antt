@@ -4,7 +4,8 @@
 -- field by field: a reader `Takes` what its spelling says, and leaves the bytes behind it alone.
 -- Each frame type has one such lemma (`data_takes` to `out_takes`), so a frame is a header and one
 -- of these cases.
-use Rattle.std.proofs.Common.{◌≡◌, ℕ, ◌≤◌, Bool, true, false, not, cond, eqb, ltb, List, [], ◌++◌, length, Result, Ok, Err, refl, sym, ap, subst, ◌∙◌, append_assoc, arith, lit<, lit≤, inl, inr}
+use Rattle.std.proofs.Common.{◌≡◌, ℕ, ◌≤◌, Bool, true, false, not, cond, eqb, ltb, List, [], ◌++◌, length, Result}
+use Rattle.std.proofs.Common.{Ok, Err, refl, sym, ap, subst, ◌∙◌, append_assoc, arith, lit<, lit≤, inl, inr}
 use Rattle.std.specs.Prelude.{◌||◌}
 use Rattle.std.specs.Int.{w16, w32}
 use Rattle.std.proofs.lemmas.Bool.{cases_Bool, false≢true, eqb-true, eq-eqb, le-ltb}
@@ -21,7 +22,8 @@ use Rattle.cast_message.specs.declared.message.Message.{Message}
 use Rattle.cast_message.specs.declared.site.Change.{Change}
 use Rattle.cast_message.specs.declared.site.Change.TheVariants.{Join, Leave}
 use Rattle.cast_message.specs.declared.site.SiteFrame.{SiteFrame}
-use Rattle.cast_message.specs.declared.site.SiteFrame.TheVariants.{Data, Ack, Stable, Ask, Asked, Prepare, Flushed, Want, Forward, Install, Installed, Out}
+use Rattle.cast_message.specs.declared.site.SiteFrame.TheVariants.{Data, Ack, Stable, Ask, Asked, Prepare, Flushed}
+use Rattle.cast_message.specs.declared.site.SiteFrame.TheVariants.{Want, Forward, Install, Installed, Out}
 use Rattle.cast_frame.specs.declared.reading.FrameType.{FrameType}
 use Rattle.cast_frame.specs.declared.reading.FrameType.TheVariants as types
 use Rattle.cast_message.specs.Membership.{Membership}
@@ -30,12 +32,17 @@ use Rattle.cast_message.specs.KeptIds.{KeptList}
 use Rattle.cast_message.specs.Bodies.{hands_over}
 use Rattle.cast_field.specs.Spelling.{byte, short, word, spelled_proc, spelled_counts, spelled_members, spelled_tail, spelled_kept}
 use Rattle.cast_frame.specs.Spelling.{change_code, full_code, frame_code, is_handing, version_code, spelled_fields, spelled_site}
-use Rattle.cast_field.specs.Reading.{◌>>=◌, byte_at, number_at, domain_at, site_at, group_at, count_at, proc_at, uid_at, counts_at, message_at, members_at, tail_at, kept_at}
-use Rattle.cast_frame.specs.Reading.{change_of, full_of, data_at, ack_at, stable_at, ask_at, asked_at, prepare_at, flushed_at, want_at, forward_at, install_at, installed_at, out_at, type_of, may_stand, type_at, fields_at, magic_at, version_of, version_at, frame_at, site_frame_of}
+use Rattle.cast_field.specs.Reading.{◌>>=◌, byte_at, number_at, domain_at, site_at, group_at, count_at}
+use Rattle.cast_field.specs.Reading.{proc_at, uid_at, counts_at, message_at, members_at, tail_at, kept_at}
+use Rattle.cast_frame.specs.Reading.{change_of, full_of, data_at, ack_at, stable_at, ask_at, asked_at, prepare_at}
+use Rattle.cast_frame.specs.Reading.{flushed_at, want_at, forward_at, install_at, installed_at, out_at, type_of, may_stand}
+use Rattle.cast_frame.specs.Reading.{type_at, fields_at, magic_at, version_of, version_at, frame_at, site_frame_of}
 use Rattle.cast_field.specs.Spelled.{IsFrom, IsName, IsCount, IsProc, IsUid, IsMessage}
 use Rattle.cast_frame.specs.Spelled.{IsFlushed, IsInstall, IsFrame, IsSpelled}
-use Rattle.cast_field.proofs.Fields.{IsBytes, bind_ok, guard_ok, pass_ok, ok_is, Took, joined, Takes, byte_takes, byte_again, short_takes, short_again, word_takes, word_again}
-use Rattle.cast_field.proofs.Parts.{domain_takes, domain_again, site_takes, site_again, group_takes, group_again, count_takes, count_again, proc_takes, proc_again, uid_takes, uid_again, counts_takes, counts_again}
+use Rattle.cast_field.proofs.Fields.{IsBytes, bind_ok, guard_ok, pass_ok, ok_is, Took, joined, Takes}
+use Rattle.cast_field.proofs.Fields.{byte_takes, byte_again, short_takes, short_again, word_takes, word_again}
+use Rattle.cast_field.proofs.Parts.{domain_takes, domain_again, site_takes, site_again, group_takes, group_again, count_takes}
+use Rattle.cast_field.proofs.Parts.{count_again, proc_takes, proc_again, uid_takes, uid_again, counts_takes, counts_again}
 use Rattle.cast_field.proofs.Holders.{chosen, members_take, members_again}
 use Rattle.cast_field.proofs.Orders.{stretch_parts, tail_takes, tail_again, kept_takes, kept_again}
 use Rattle.cast_field.proofs.Messages.{message_takes, message_again}
@@ -112,9 +119,15 @@ stable_takes bytes x fits e =
 pub ask_takes : Takes ask_at spelled_fields (IsOf false 4)
 unfolding ask_at spelled_fields
 ask_takes bytes x fits e =
-    let a1 = bind_ok (group_at bytes) (λ group. count_at group.1 >>= λ number. byte_at 1 2 number.1 >>= λ change. proc_at change.1 >>= λ proc. Ok (Ask group.0 number.0 (change_of change.0) proc.0, proc.1)) x e in
-    let a2 = bind_ok (count_at a1.0.1) (λ number. byte_at 1 2 number.1 >>= λ change. proc_at change.1 >>= λ proc. Ok (Ask a1.0.0 number.0 (change_of change.0) proc.0, proc.1)) x a1.2 in
-    let a3 = bind_ok (byte_at 1 2 a2.0.1) (λ change. proc_at change.1 >>= λ proc. Ok (Ask a1.0.0 a2.0.0 (change_of change.0) proc.0, proc.1)) x a2.2 in
+    let a1 =
+    bind_ok (group_at bytes) (λ group. count_at group.1 >>= λ number. byte_at 1 2 number.1
+    >>= λ change. proc_at change.1 >>= λ proc. Ok (Ask group.0 number.0 (change_of change.0) proc.0, proc.1)) x e in
+    let a2 =
+    bind_ok (count_at a1.0.1) (λ number. byte_at 1 2 number.1
+    >>= λ change. proc_at change.1 >>= λ proc. Ok (Ask a1.0.0 number.0 (change_of change.0) proc.0, proc.1)) x a1.2 in
+    let a3 =
+    bind_ok (byte_at 1 2 a2.0.1)
+    (λ change. proc_at change.1 >>= λ proc. Ok (Ask a1.0.0 a2.0.0 (change_of change.0) proc.0, proc.1)) x a2.2 in
     let a4 = bind_ok (proc_at a3.0.1) (λ proc. Ok (Ask a1.0.0 a2.0.0 (change_of a3.0.0) proc.0, proc.1)) x a3.2 in
     let t1 = group_takes bytes a1.0 fits a1.1 in
     let t2 = count_takes a1.0.1 a2.0 t1.rest_fits a2.1 in
@@ -132,8 +145,12 @@ ask_takes bytes x fits e =
 pub asked_takes : Takes asked_at spelled_fields (IsOf false 5)
 unfolding asked_at spelled_fields
 asked_takes bytes x fits e =
-    let a1 = bind_ok (group_at bytes) (λ group. count_at group.1 >>= λ number. byte_at 0 255 number.1 >>= λ code. full_of code.0 >>= λ full. Ok (Asked group.0 number.0 full, code.1)) x e in
-    let a2 = bind_ok (count_at a1.0.1) (λ number. byte_at 0 255 number.1 >>= λ code. full_of code.0 >>= λ full. Ok (Asked a1.0.0 number.0 full, code.1)) x a1.2 in
+    let a1 =
+    bind_ok (group_at bytes) (λ group. count_at group.1
+    >>= λ number. byte_at 0 255 number.1 >>= λ code. full_of code.0 >>= λ full. Ok (Asked group.0 number.0 full, code.1)) x e in
+    let a2 =
+    bind_ok (count_at a1.0.1)
+    (λ number. byte_at 0 255 number.1 >>= λ code. full_of code.0 >>= λ full. Ok (Asked a1.0.0 number.0 full, code.1)) x a1.2 in
     let a3 = bind_ok (byte_at 0 255 a2.0.1) (λ code. full_of code.0 >>= λ full. Ok (Asked a1.0.0 a2.0.0 full, code.1)) x a2.2 in
     let a4 = bind_ok (full_of a3.0.0) (λ full. Ok (Asked a1.0.0 a2.0.0 full, a3.0.1)) x a3.2 in
     let t1 = group_takes bytes a1.0 fits a1.1 in
@@ -161,10 +178,17 @@ prepare_takes bytes x fits e =
 pub flushed_takes : Takes flushed_at spelled_fields (IsOf false 7)
 unfolding flushed_at spelled_fields
 flushed_takes bytes x fits e =
-    let a1 = bind_ok (group_at bytes) (λ group. count_at group.1 >>= λ view. counts_at view.1 >>= λ counts. tail_at 512 counts.1 >>= λ tail. kept_at tail.1 >>= λ kept. Ok (Flushed group.0 view.0 counts.0 tail.0 kept.0, kept.1)) x e in
-    let a2 = bind_ok (count_at a1.0.1) (λ view. counts_at view.1 >>= λ counts. tail_at 512 counts.1 >>= λ tail. kept_at tail.1 >>= λ kept. Ok (Flushed a1.0.0 view.0 counts.0 tail.0 kept.0, kept.1)) x a1.2 in
-    let a3 = bind_ok (counts_at a2.0.1) (λ counts. tail_at 512 counts.1 >>= λ tail. kept_at tail.1 >>= λ kept. Ok (Flushed a1.0.0 a2.0.0 counts.0 tail.0 kept.0, kept.1)) x a2.2 in
-    let a4 = bind_ok (tail_at 512 a3.0.1) (λ tail. kept_at tail.1 >>= λ kept. Ok (Flushed a1.0.0 a2.0.0 a3.0.0 tail.0 kept.0, kept.1)) x a3.2 in
+    let a1 =
+    bind_ok (group_at bytes) (λ group. count_at group.1 >>= λ view. counts_at view.1 >>= λ counts.
+    tail_at 512 counts.1 >>= λ tail. kept_at tail.1 >>= λ kept. Ok (Flushed group.0 view.0 counts.0 tail.0 kept.0, kept.1)) x e in
+    let a2 =
+    bind_ok (count_at a1.0.1) (λ view. counts_at view.1 >>= λ counts.
+    tail_at 512 counts.1 >>= λ tail. kept_at tail.1 >>= λ kept. Ok (Flushed a1.0.0 view.0 counts.0 tail.0 kept.0, kept.1)) x a1.2 in
+    let a3 =
+    bind_ok (counts_at a2.0.1) (λ counts.
+    tail_at 512 counts.1 >>= λ tail. kept_at tail.1 >>= λ kept. Ok (Flushed a1.0.0 a2.0.0 counts.0 tail.0 kept.0, kept.1)) x a2.2 in
+    let a4 =
+    bind_ok (tail_at 512 a3.0.1) (λ tail. kept_at tail.1 >>= λ kept. Ok (Flushed a1.0.0 a2.0.0 a3.0.0 tail.0 kept.0, kept.1)) x a3.2 in
     let a5 = bind_ok (kept_at a4.0.1) (λ kept. Ok (Flushed a1.0.0 a2.0.0 a3.0.0 a4.0.0 kept.0, kept.1)) x a4.2 in
     let t1 = group_takes bytes a1.0 fits a1.1 in
     let t2 = count_takes a1.0.1 a2.0 t1.rest_fits a2.1 in
@@ -173,11 +197,22 @@ flushed_takes bytes x fits e =
     let t5 = kept_takes a4.0.1 a5.0 t4.rest_fits a5.1 in
     let j4 = joined a3.0.1 (spelled_tail a4.0.0) a4.0.1 (spelled_kept a5.0.0) a5.0.1 t4.parts t5.parts in
     let j3 = joined a2.0.1 (spelled_counts a3.0.0) a3.0.1 (spelled_tail a4.0.0 ++ spelled_kept a5.0.0) a5.0.1 t3.parts j4 in
-    let j2 = joined a1.0.1 (word a2.0.0) a2.0.1 (spelled_counts a3.0.0 ++ (spelled_tail a4.0.0 ++ spelled_kept a5.0.0)) a5.0.1 t2.parts j3 in
-    let j1 = joined bytes (short a1.0.0.0) a1.0.1 (word a2.0.0 ++ (spelled_counts a3.0.0 ++ (spelled_tail a4.0.0 ++ spelled_kept a5.0.0))) a5.0.1 t1.parts j2 in
+    let j2 =
+    joined a1.0.1 (word a2.0.0) a2.0.1 (spelled_counts a3.0.0 ++ (spelled_tail a4.0.0 ++ spelled_kept a5.0.0)) a5.0.1 t2.parts j3 in
+    let j1 =
+    joined bytes (short a1.0.0.0) a1.0.1 (word a2.0.0 ++ (spelled_counts a3.0.0 ++ (spelled_tail a4.0.0 ++ spelled_kept a5.0.0)))
+    a5.0.1 t1.parts j2 in
     let made : SiteFrame × List ℕ = (Flushed a1.0.0 a2.0.0 a3.0.0 a4.0.0 a5.0.0, a5.0.1) in
     subst (λ (y : SiteFrame × List ℕ). Took bytes (spelled_fields y.0) y.1 (IsOf false 7 y.0)) (ok_is made x a5.2)
-    (record { parts = j1; rest_fits = t5.rest_fits; holds = (record { group = t1.holds; view = t2.holds; counts = t3.holds; tail = t4.holds.0; few = t4.holds.1; kept = t5.holds }, refl, refl) })
+    (record {
+      parts = j1;
+      rest_fits = t5.rest_fits;
+      holds = (
+        record { group = t1.holds; view = t2.holds; counts = t3.holds; tail = t4.holds.0; few = t4.holds.1; kept = t5.holds },
+        refl,
+        refl,
+      );
+    })
 
 pub want_takes : Takes want_at spelled_fields (IsOf false 8)
 unfolding want_at spelled_fields
@@ -200,11 +235,23 @@ forward_takes handing bytes x fits e =
 pub install_takes : Takes install_at (spelled_fields) (IsOf false 10)
 unfolding install_at spelled_fields
 install_takes bytes x fits e =
-    let a1 = bind_ok (group_at bytes) (λ group. count_at group.1 >>= λ view. members_at view.1 >>= λ members. number_at w32 0 4294967295 members.1 >>= λ request. counts_at request.1 >>= λ cut. tail_at 576 cut.1 >>= λ tail. Ok (Install group.0 view.0 members.0 request.0 cut.0 tail.0, tail.1)) x e in
-    let a2 = bind_ok (count_at a1.0.1) (λ view. members_at view.1 >>= λ members. number_at w32 0 4294967295 members.1 >>= λ request. counts_at request.1 >>= λ cut. tail_at 576 cut.1 >>= λ tail. Ok (Install a1.0.0 view.0 members.0 request.0 cut.0 tail.0, tail.1)) x a1.2 in
-    let a3 = bind_ok (members_at a2.0.1) (λ members. number_at w32 0 4294967295 members.1 >>= λ request. counts_at request.1 >>= λ cut. tail_at 576 cut.1 >>= λ tail. Ok (Install a1.0.0 a2.0.0 members.0 request.0 cut.0 tail.0, tail.1)) x a2.2 in
-    let a4 = bind_ok (number_at w32 0 4294967295 a3.0.1) (λ request. counts_at request.1 >>= λ cut. tail_at 576 cut.1 >>= λ tail. Ok (Install a1.0.0 a2.0.0 a3.0.0 request.0 cut.0 tail.0, tail.1)) x a3.2 in
-    let a5 = bind_ok (counts_at a4.0.1) (λ cut. tail_at 576 cut.1 >>= λ tail. Ok (Install a1.0.0 a2.0.0 a3.0.0 a4.0.0 cut.0 tail.0, tail.1)) x a4.2 in
+    let a1 =
+    bind_ok (group_at bytes) (λ group. count_at group.1
+    >>= λ view. members_at view.1 >>= λ members. number_at w32 0 4294967295 members.1 >>= λ request. counts_at request.1
+    >>= λ cut. tail_at 576 cut.1 >>= λ tail. Ok (Install group.0 view.0 members.0 request.0 cut.0 tail.0, tail.1)) x e in
+    let a2 =
+    bind_ok (count_at a1.0.1)
+    (λ view. members_at view.1 >>= λ members. number_at w32 0 4294967295 members.1 >>= λ request. counts_at request.1
+    >>= λ cut. tail_at 576 cut.1 >>= λ tail. Ok (Install a1.0.0 view.0 members.0 request.0 cut.0 tail.0, tail.1)) x a1.2 in
+    let a3 =
+    bind_ok (members_at a2.0.1) (λ members. number_at w32 0 4294967295 members.1 >>= λ request. counts_at request.1
+    >>= λ cut. tail_at 576 cut.1 >>= λ tail. Ok (Install a1.0.0 a2.0.0 members.0 request.0 cut.0 tail.0, tail.1)) x a2.2 in
+    let a4 =
+    bind_ok (number_at w32 0 4294967295 a3.0.1) (λ request. counts_at request.1
+    >>= λ cut. tail_at 576 cut.1 >>= λ tail. Ok (Install a1.0.0 a2.0.0 a3.0.0 request.0 cut.0 tail.0, tail.1)) x a3.2 in
+    let a5 =
+    bind_ok (counts_at a4.0.1)
+    (λ cut. tail_at 576 cut.1 >>= λ tail. Ok (Install a1.0.0 a2.0.0 a3.0.0 a4.0.0 cut.0 tail.0, tail.1)) x a4.2 in
     let a6 = bind_ok (tail_at 576 a5.0.1) (λ tail. Ok (Install a1.0.0 a2.0.0 a3.0.0 a4.0.0 a5.0.0 tail.0, tail.1)) x a5.2 in
     let t1 = group_takes bytes a1.0 fits a1.1 in
     let t2 = count_takes a1.0.1 a2.0 t1.rest_fits a2.1 in
@@ -214,12 +261,26 @@ install_takes bytes x fits e =
     let t6 = tail_takes 576 (lit≤ tt) a5.0.1 a6.0 t5.rest_fits a6.1 in
     let j5 = joined a4.0.1 (spelled_counts (a5.0.0)) a5.0.1 (spelled_tail (a6.0.0)) a6.0.1 t5.parts t6.parts in
     let j4 = joined a3.0.1 (word (a4.0.0)) a4.0.1 (spelled_counts (a5.0.0) ++ spelled_tail (a6.0.0)) a6.0.1 t4.parts j5 in
-    let j3 = joined a2.0.1 (spelled_members (a3.0.0)) a3.0.1 (word (a4.0.0) ++ (spelled_counts (a5.0.0) ++ spelled_tail (a6.0.0))) a6.0.1 t3.parts j4 in
-    let j2 = joined a1.0.1 (word (a2.0.0)) a2.0.1 (spelled_members (a3.0.0) ++ (word (a4.0.0) ++ (spelled_counts (a5.0.0) ++ spelled_tail (a6.0.0)))) a6.0.1 t2.parts j3 in
-    let j1 = joined bytes (short (a1.0.0).0) a1.0.1 (word (a2.0.0) ++ (spelled_members (a3.0.0) ++ (word (a4.0.0) ++ (spelled_counts (a5.0.0) ++ spelled_tail (a6.0.0))))) a6.0.1 t1.parts j2 in
+    let j3 =
+    joined a2.0.1 (spelled_members (a3.0.0)) a3.0.1 (word (a4.0.0) ++ (spelled_counts (a5.0.0) ++ spelled_tail (a6.0.0)))
+    a6.0.1 t3.parts j4 in
+    let j2 =
+    joined a1.0.1 (word (a2.0.0)) a2.0.1 (spelled_members (a3.0.0) ++ (word (a4.0.0) ++ (spelled_counts (a5.0.0) ++ spelled_tail (a6.0.0))))
+    a6.0.1 t2.parts j3 in
+    let j1 =
+    joined bytes (short (a1.0.0).0) a1.0.1 (word (a2.0.0)
+    ++ (spelled_members (a3.0.0) ++ (word (a4.0.0) ++ (spelled_counts (a5.0.0) ++ spelled_tail (a6.0.0))))) a6.0.1 t1.parts j2 in
     let made : SiteFrame × List ℕ = (Install a1.0.0 a2.0.0 a3.0.0 a4.0.0 a5.0.0 a6.0.0, a6.0.1) in
     subst (λ (y : SiteFrame × List ℕ). Took bytes ((spelled_fields) y.0) y.1 ((IsOf false 10) y.0)) (ok_is made x a6.2)
-    (record { parts = j1; rest_fits = t6.rest_fits; holds = (record { group = t1.holds; view = t2.holds; members = t3.holds; request = t4.holds; cut = t5.holds; tail = t6.holds.0 }, refl, refl) })
+    (record {
+      parts = j1;
+      rest_fits = t6.rest_fits;
+      holds = (
+        record { group = t1.holds; view = t2.holds; members = t3.holds; request = t4.holds; cut = t5.holds; tail = t6.holds.0 },
+        refl,
+        refl,
+      );
+    })
 
 pub installed_takes : Takes installed_at (spelled_fields) (IsOf false 11)
 unfolding installed_at spelled_fields
@@ -259,57 +320,112 @@ stable_again : (u : Uid) (rest : List ℕ) → IsUid u → stable_at (spelled_fi
 unfolding stable_at spelled_fields
 stable_again u rest is_id = rw (uid_again u rest is_id) refl
 
-ask_again : (g : GroupNo) (n : ℕ) (c : Change) (p : Proc) (rest : List ℕ) → IsName g.0 → IsCount n → IsProc p → ask_at (spelled_fields (Ask g n c p) ++ rest) ≡ Ok (Ask g n c p, rest)
+ask_again : (g : GroupNo) (n : ℕ) (c : Change) (p : Proc) (rest : List ℕ) → IsName g.0 → IsCount n → IsProc p →
+    ask_at (spelled_fields (Ask g n c p) ++ rest) ≡ Ok (Ask g n c p, rest)
 unfolding ask_at spelled_fields
 ask_again g n c p rest is_group is_number is_proc =
-    let regrouped : spelled_fields (Ask g n c p) ++ rest ≡ (short g.0) ++ ((word n) ++ ((byte (change_code c)) ++ ((spelled_proc p) ++ rest))) = append_assoc (short g.0) (word n ++ (byte (change_code c) ++ spelled_proc p)) rest ∙ ap (λ (t : List ℕ). (short g.0) ++ t) (append_assoc (word n) (byte (change_code c) ++ spelled_proc p) rest ∙ ap (λ (t : List ℕ). (word n) ++ t) (append_assoc (byte (change_code c)) (spelled_proc p) rest)) in
-    ap ask_at regrouped ∙ rw (group_again (g) ((word n) ++ ((byte (change_code c)) ++ ((spelled_proc p) ++ rest))) is_group, count_again (n) ((byte (change_code c)) ++ ((spelled_proc p) ++ rest)) is_number, byte_again 1 2 (change_code c) ((spelled_proc p) ++ rest) (change_within c), proc_again (p) (rest) is_proc, change_again c) refl
+    let regrouped : spelled_fields (Ask g n c p) ++ rest
+    ≡ (short g.0) ++ ((word n) ++ ((byte (change_code c)) ++ ((spelled_proc p) ++ rest))) =
+    append_assoc (short g.0) (word n ++ (byte (change_code c) ++ spelled_proc p)) rest
+    ∙ ap (λ (t : List ℕ). (short g.0) ++ t) (append_assoc (word n) (byte (change_code c) ++ spelled_proc p) rest
+    ∙ ap (λ (t : List ℕ). (word n) ++ t) (append_assoc (byte (change_code c)) (spelled_proc p) rest)) in
+    ap ask_at regrouped ∙ rw (
+      group_again (g) ((word n) ++ ((byte (change_code c)) ++ ((spelled_proc p) ++ rest))) is_group,
+      count_again (n) ((byte (change_code c)) ++ ((spelled_proc p) ++ rest)) is_number,
+      byte_again 1 2 (change_code c) ((spelled_proc p) ++ rest) (change_within c),
+      proc_again (p) (rest) is_proc,
+      change_again c,
+    ) refl
 
-asked_again : (g : GroupNo) (n : ℕ) (full : Bool) (rest : List ℕ) → IsName g.0 → IsCount n → asked_at (spelled_fields (Asked g n full) ++ rest) ≡ Ok (Asked g n full, rest)
+asked_again : (g : GroupNo) (n : ℕ) (full : Bool) (rest : List ℕ) → IsName g.0 → IsCount n →
+    asked_at (spelled_fields (Asked g n full) ++ rest) ≡ Ok (Asked g n full, rest)
 unfolding asked_at spelled_fields
 asked_again g n full rest is_group is_number =
-    let regrouped : spelled_fields (Asked g n full) ++ rest ≡ (short g.0) ++ ((word n) ++ ((byte (full_code full)) ++ rest)) = append_assoc (short g.0) (word n ++ byte (full_code full)) rest ∙ ap (λ (t : List ℕ). (short g.0) ++ t) (append_assoc (word n) (byte (full_code full)) rest) in
-    ap asked_at regrouped ∙ rw (group_again (g) ((word n) ++ ((byte (full_code full)) ++ rest)) is_group, count_again (n) ((byte (full_code full)) ++ rest) is_number, byte_again 0 255 (full_code full) (rest) (full_within full), full_again full) refl
+    let regrouped : spelled_fields (Asked g n full) ++ rest ≡ (short g.0) ++ ((word n) ++ ((byte (full_code full)) ++ rest)) =
+    append_assoc (short g.0) (word n ++ byte (full_code full)) rest
+    ∙ ap (λ (t : List ℕ). (short g.0) ++ t) (append_assoc (word n) (byte (full_code full)) rest) in
+    ap asked_at regrouped ∙ rw (
+      group_again (g) ((word n) ++ ((byte (full_code full)) ++ rest)) is_group,
+      count_again (n) ((byte (full_code full)) ++ rest) is_number,
+      byte_again 0 255 (full_code full) (rest) (full_within full),
+      full_again full,
+    ) refl
 
-prepare_again : (g : GroupNo) (view : ℕ) (rest : List ℕ) → IsName g.0 → IsCount view → prepare_at (spelled_fields (Prepare g view) ++ rest) ≡ Ok (Prepare g view, rest)
+prepare_again : (g : GroupNo) (view : ℕ) (rest : List ℕ) → IsName g.0 → IsCount view →
+    prepare_at (spelled_fields (Prepare g view) ++ rest) ≡ Ok (Prepare g view, rest)
 unfolding prepare_at spelled_fields
 prepare_again g view rest is_group is_view =
-    ap prepare_at (append_assoc (short g.0) (word view) rest) ∙ rw (group_again g (word view ++ rest) is_group, count_again view rest is_view) refl
+    ap prepare_at (append_assoc (short g.0) (word view) rest)
+    ∙ rw (group_again g (word view ++ rest) is_group, count_again view rest is_view) refl
 
-flushed_again : (g : GroupNo) (view : ℕ) (counts : List Entry) (tail : Tail) (kept : KeptList) (rest : List ℕ) → IsFlushed g view counts tail kept → flushed_at (spelled_fields (Flushed g view counts tail kept) ++ rest) ≡ Ok (Flushed g view counts tail kept, rest)
+flushed_again : (g : GroupNo) (view : ℕ) (counts : List Entry) (tail : Tail) (kept : KeptList) (rest : List ℕ) →
+    IsFlushed g view counts tail kept →
+    flushed_at (spelled_fields (Flushed g view counts tail kept) ++ rest) ≡ Ok (Flushed g view counts tail kept, rest)
 unfolding flushed_at spelled_fields
 flushed_again g view counts tail kept rest fits =
     let r4 : List ℕ = spelled_kept kept ++ rest in
     let r3 : List ℕ = spelled_tail tail ++ r4 in
     let r2 : List ℕ = spelled_counts counts ++ r3 in
     let r1 : List ℕ = word view ++ r2 in
-    let regrouped : spelled_fields (Flushed g view counts tail kept) ++ rest ≡ short g.0 ++ r1 = append_assoc (short g.0) (word view ++ (spelled_counts counts ++ (spelled_tail tail ++ spelled_kept kept))) rest ∙ ap (λ (t : List ℕ). short g.0 ++ t) (append_assoc (word view) (spelled_counts counts ++ (spelled_tail tail ++ spelled_kept kept)) rest ∙ ap (λ (t : List ℕ). word view ++ t) (append_assoc (spelled_counts counts) (spelled_tail tail ++ spelled_kept kept) rest ∙ ap (λ (t : List ℕ). spelled_counts counts ++ t) (append_assoc (spelled_tail tail) (spelled_kept kept) rest))) in
-    ap flushed_at regrouped ∙ rw (group_again g r1 fits.group, count_again view r2 fits.view, counts_again counts r3 fits.counts, tail_again 512 (lit< tt) tail r4 (fits.tail, fits.few), kept_again kept rest fits.kept) refl
+    let regrouped : spelled_fields (Flushed g view counts tail kept) ++ rest ≡ short g.0 ++ r1 =
+    append_assoc (short g.0) (word view ++ (spelled_counts counts ++ (spelled_tail tail ++ spelled_kept kept))) rest
+    ∙ ap (λ (t : List ℕ). short g.0 ++ t) (append_assoc (word view) (spelled_counts counts ++ (spelled_tail tail ++ spelled_kept kept)) rest
+    ∙ ap (λ (t : List ℕ). word view ++ t) (append_assoc (spelled_counts counts) (spelled_tail tail ++ spelled_kept kept) rest
+    ∙ ap (λ (t : List ℕ). spelled_counts counts ++ t) (append_assoc (spelled_tail tail) (spelled_kept kept) rest))) in
+    ap flushed_at regrouped ∙ rw (
+      group_again g r1 fits.group,
+      count_again view r2 fits.view,
+      counts_again counts r3 fits.counts,
+      tail_again 512 (lit< tt) tail r4 (fits.tail, fits.few),
+      kept_again kept rest fits.kept,
+    ) refl
 
 want_again : (u : Uid) (rest : List ℕ) → IsUid u → want_at (spelled_fields (Want u) ++ rest) ≡ Ok (Want u, rest)
 unfolding want_at spelled_fields
 want_again u rest is_id = rw (uid_again u rest is_id) refl
 
-forward_again : (m : Message) (rest : List ℕ) → IsMessage m → forward_at (hands_over m.body) (spelled_fields (Forward m) ++ rest) ≡ Ok (Forward m, rest)
+forward_again : (m : Message) (rest : List ℕ) → IsMessage m →
+    forward_at (hands_over m.body) (spelled_fields (Forward m) ++ rest) ≡ Ok (Forward m, rest)
 unfolding forward_at spelled_fields
 forward_again m rest is_message = rw (message_again m rest is_message) refl
 
-install_again : (g : GroupNo) (view : ℕ) (m : Membership) (request : ℕ) (cut : List Entry) (tail : Tail) (rest : List ℕ) → IsInstall g view m request cut tail → install_at (spelled_fields (Install g view m request cut tail) ++ rest) ≡ Ok (Install g view m request cut tail, rest)
+install_again : (g : GroupNo) (view : ℕ) (m : Membership) (request : ℕ) (cut : List Entry) (tail : Tail) (rest : List ℕ) →
+    IsInstall g view m request cut tail →
+    install_at (spelled_fields (Install g view m request cut tail) ++ rest) ≡ Ok (Install g view m request cut tail, rest)
 unfolding install_at spelled_fields
 install_again g view m request cut tail rest fits =
-    let regrouped : spelled_fields (Install g view m request cut tail) ++ rest ≡ (short g.0) ++ ((word view) ++ ((spelled_members m) ++ ((word request) ++ ((spelled_counts cut) ++ ((spelled_tail tail) ++ rest))))) = append_assoc (short g.0) (word view ++ (spelled_members m ++ (word request ++ (spelled_counts cut ++ spelled_tail tail)))) rest ∙ ap (λ (t : List ℕ). (short g.0) ++ t) (append_assoc (word view) (spelled_members m ++ (word request ++ (spelled_counts cut ++ spelled_tail tail))) rest ∙ ap (λ (t : List ℕ). (word view) ++ t) (append_assoc (spelled_members m) (word request ++ (spelled_counts cut ++ spelled_tail tail)) rest ∙ ap (λ (t : List ℕ). (spelled_members m) ++ t) (append_assoc (word request) (spelled_counts cut ++ spelled_tail tail) rest ∙ ap (λ (t : List ℕ). (word request) ++ t) (append_assoc (spelled_counts cut) (spelled_tail tail) rest)))) in
-    ap install_at regrouped ∙ rw (group_again (g) ((word view) ++ ((spelled_members m) ++ ((word request) ++ ((spelled_counts cut) ++ ((spelled_tail tail) ++ rest))))) fits.group, count_again (view) ((spelled_members m) ++ ((word request) ++ ((spelled_counts cut) ++ ((spelled_tail tail) ++ rest)))) fits.view, members_again (m) ((word request) ++ ((spelled_counts cut) ++ ((spelled_tail tail) ++ rest))) fits.members, word_again 0 4294967295 (lit< tt) (request) ((spelled_counts cut) ++ ((spelled_tail tail) ++ rest)) fits.request, counts_again (cut) ((spelled_tail tail) ++ rest) fits.cut, tail_again 576 (lit< tt) tail rest (fits.tail, (stretch_parts tail fits.tail.short).1)) refl
+    let regrouped : spelled_fields (Install g view m request cut tail) ++ rest
+    ≡ (short g.0) ++ ((word view) ++ ((spelled_members m) ++ ((word request) ++ ((spelled_counts cut) ++ ((spelled_tail tail) ++ rest))))) =
+    append_assoc (short g.0) (word view ++ (spelled_members m ++ (word request ++ (spelled_counts cut ++ spelled_tail tail)))) rest
+    ∙ ap (λ (t : List ℕ). (short g.0) ++ t)
+    (append_assoc (word view) (spelled_members m ++ (word request ++ (spelled_counts cut ++ spelled_tail tail))) rest
+    ∙ ap (λ (t : List ℕ). (word view) ++ t) (append_assoc (spelled_members m) (word request ++ (spelled_counts cut ++ spelled_tail tail))
+    rest ∙ ap (λ (t : List ℕ). (spelled_members m) ++ t) (append_assoc (word request) (spelled_counts cut ++ spelled_tail tail) rest
+    ∙ ap (λ (t : List ℕ). (word request) ++ t) (append_assoc (spelled_counts cut) (spelled_tail tail) rest)))) in
+    ap install_at regrouped ∙ rw (
+      group_again (g) ((word view) ++ ((spelled_members m) ++ ((word request) ++ ((spelled_counts cut) ++ ((spelled_tail tail) ++ rest)))))
+          fits.group,
+      count_again (view) ((spelled_members m) ++ ((word request) ++ ((spelled_counts cut) ++ ((spelled_tail tail) ++ rest)))) fits.view,
+      members_again (m) ((word request) ++ ((spelled_counts cut) ++ ((spelled_tail tail) ++ rest))) fits.members,
+      word_again 0 4294967295 (lit< tt) (request) ((spelled_counts cut) ++ ((spelled_tail tail) ++ rest)) fits.request,
+      counts_again (cut) ((spelled_tail tail) ++ rest) fits.cut,
+      tail_again 576 (lit< tt) tail rest (fits.tail, (stretch_parts tail fits.tail.short).1),
+    ) refl
 
-installed_again : (g : GroupNo) (view : ℕ) (rest : List ℕ) → IsName g.0 → IsCount view → installed_at (spelled_fields (Installed g view) ++ rest) ≡ Ok (Installed g view, rest)
+installed_again : (g : GroupNo) (view : ℕ) (rest : List ℕ) → IsName g.0 → IsCount view →
+    installed_at (spelled_fields (Installed g view) ++ rest) ≡ Ok (Installed g view, rest)
 unfolding installed_at spelled_fields
 installed_again g view rest is_group is_view =
-    let regrouped : spelled_fields (Installed g view) ++ rest ≡ (short g.0) ++ ((word view) ++ rest) = append_assoc (short g.0) (word view) rest in
+    let regrouped : spelled_fields (Installed g view) ++ rest ≡ (short g.0) ++ ((word view) ++ rest) =
+    append_assoc (short g.0) (word view) rest in
     ap installed_at regrouped ∙ rw (group_again (g) ((word view) ++ rest) is_group, count_again (view) (rest) is_view) refl
 
-out_again : (g : GroupNo) (view : ℕ) (rest : List ℕ) → IsName g.0 → IsCount view → out_at (spelled_fields (Out g view) ++ rest) ≡ Ok (Out g view, rest)
+out_again : (g : GroupNo) (view : ℕ) (rest : List ℕ) → IsName g.0 → IsCount view →
+    out_at (spelled_fields (Out g view) ++ rest) ≡ Ok (Out g view, rest)
 unfolding out_at spelled_fields
 out_again g view rest is_group is_view =
-    ap out_at (append_assoc (short g.0) (word view) rest) ∙ rw (group_again g (word view ++ rest) is_group, count_again view rest is_view) refl
+    ap out_at (append_assoc (short g.0) (word view) rest)
+    ∙ rw (group_again g (word view ++ rest) is_group, count_again view rest is_view) refl
 
 -- ---- the header
 
@@ -364,22 +480,34 @@ plain : (handing : Bool) → (not handing || false) ≡ true → false ≡ handi
 plain true may = may
 plain false may = refl
 
-fields_take : (handing : Bool) (t : FrameType) → may_stand handing t ≡ true → Takes (fields_at handing t) spelled_fields (IsOf handing (type_code t))
+fields_take : (handing : Bool) (t : FrameType) → may_stand handing t ≡ true →
+    Takes (fields_at handing t) spelled_fields (IsOf handing (type_code t))
 unfolding fields_at
 fields_take handing types.Data may bytes x fits e = data_takes handing bytes x fits e
-fields_take handing types.Ack may bytes x fits e = subst (λ h. Took bytes (spelled_fields x.0) x.1 (IsOf h 2 x.0)) (plain handing may) (ack_takes bytes x fits e)
-fields_take handing types.Stable may bytes x fits e = subst (λ h. Took bytes (spelled_fields x.0) x.1 (IsOf h 3 x.0)) (plain handing may) (stable_takes bytes x fits e)
-fields_take handing types.Ask may bytes x fits e = subst (λ h. Took bytes (spelled_fields x.0) x.1 (IsOf h 4 x.0)) (plain handing may) (ask_takes bytes x fits e)
-fields_take handing types.Asked may bytes x fits e = subst (λ h. Took bytes (spelled_fields x.0) x.1 (IsOf h 5 x.0)) (plain handing may) (asked_takes bytes x fits e)
-fields_take handing types.Prepare may bytes x fits e = subst (λ h. Took bytes (spelled_fields x.0) x.1 (IsOf h 6 x.0)) (plain handing may) (prepare_takes bytes x fits e)
-fields_take handing types.Flushed may bytes x fits e = subst (λ h. Took bytes (spelled_fields x.0) x.1 (IsOf h 7 x.0)) (plain handing may) (flushed_takes bytes x fits e)
-fields_take handing types.Want may bytes x fits e = subst (λ h. Took bytes (spelled_fields x.0) x.1 (IsOf h 8 x.0)) (plain handing may) (want_takes bytes x fits e)
+fields_take handing types.Ack may bytes x fits e =
+    subst (λ h. Took bytes (spelled_fields x.0) x.1 (IsOf h 2 x.0)) (plain handing may) (ack_takes bytes x fits e)
+fields_take handing types.Stable may bytes x fits e =
+    subst (λ h. Took bytes (spelled_fields x.0) x.1 (IsOf h 3 x.0)) (plain handing may) (stable_takes bytes x fits e)
+fields_take handing types.Ask may bytes x fits e =
+    subst (λ h. Took bytes (spelled_fields x.0) x.1 (IsOf h 4 x.0)) (plain handing may) (ask_takes bytes x fits e)
+fields_take handing types.Asked may bytes x fits e =
+    subst (λ h. Took bytes (spelled_fields x.0) x.1 (IsOf h 5 x.0)) (plain handing may) (asked_takes bytes x fits e)
+fields_take handing types.Prepare may bytes x fits e =
+    subst (λ h. Took bytes (spelled_fields x.0) x.1 (IsOf h 6 x.0)) (plain handing may) (prepare_takes bytes x fits e)
+fields_take handing types.Flushed may bytes x fits e =
+    subst (λ h. Took bytes (spelled_fields x.0) x.1 (IsOf h 7 x.0)) (plain handing may) (flushed_takes bytes x fits e)
+fields_take handing types.Want may bytes x fits e =
+    subst (λ h. Took bytes (spelled_fields x.0) x.1 (IsOf h 8 x.0)) (plain handing may) (want_takes bytes x fits e)
 fields_take handing types.Forward may bytes x fits e = forward_takes handing bytes x fits e
-fields_take handing types.Install may bytes x fits e = subst (λ h. Took bytes (spelled_fields x.0) x.1 (IsOf h 10 x.0)) (plain handing may) (install_takes bytes x fits e)
-fields_take handing types.Installed may bytes x fits e = subst (λ h. Took bytes (spelled_fields x.0) x.1 (IsOf h 11 x.0)) (plain handing may) (installed_takes bytes x fits e)
-fields_take handing types.Out may bytes x fits e = subst (λ h. Took bytes (spelled_fields x.0) x.1 (IsOf h 12 x.0)) (plain handing may) (out_takes bytes x fits e)
+fields_take handing types.Install may bytes x fits e =
+    subst (λ h. Took bytes (spelled_fields x.0) x.1 (IsOf h 10 x.0)) (plain handing may) (install_takes bytes x fits e)
+fields_take handing types.Installed may bytes x fits e =
+    subst (λ h. Took bytes (spelled_fields x.0) x.1 (IsOf h 11 x.0)) (plain handing may) (installed_takes bytes x fits e)
+fields_take handing types.Out may bytes x fits e =
+    subst (λ h. Took bytes (spelled_fields x.0) x.1 (IsOf h 12 x.0)) (plain handing may) (out_takes bytes x fits e)
 
-fields_again : (f : SiteFrame) (rest : List ℕ) → IsFrame f → fields_at (is_handing f) (type_of_frame f) (spelled_fields f ++ rest) ≡ Ok (f, rest)
+fields_again : (f : SiteFrame) (rest : List ℕ) → IsFrame f →
+    fields_at (is_handing f) (type_of_frame f) (spelled_fields f ++ rest) ≡ Ok (f, rest)
 unfolding fields_at
 fields_again (Data m) rest fits = data_again m rest fits
 fields_again (Ack u) rest fits = ack_again u rest fits
@@ -395,7 +523,8 @@ fields_again (Installed g view) rest fits = installed_again g view rest fits.0 f
 fields_again (Out g view) rest fits = out_again g view rest fits.0 fits.1
 
 -- the number is a type's, or one of those that come later
-one_of : (n k : ℕ) (a t : FrameType) (later : Result FrameType FrameFault) → k ≡ type_code a → (later ≡ Ok t → n ≡ type_code t) → cond (eqb n k) (Ok a) later ≡ Ok t → n ≡ type_code t
+one_of : (n k : ℕ) (a t : FrameType) (later : Result FrameType FrameFault) → k ≡ type_code a → (later ≡ Ok t → n ≡ type_code t) →
+    cond (eqb n k) (Ok a) later ≡ Ok t → n ≡ type_code t
 one_of n k a t later code next e =
     elim (chosen (eqb n k) (Ok a) later (Ok t) e) [
       | inl is ↦ eqb-true n k is.0 ∙ code ∙ ap type_code (ok_is a t is.1)
@@ -451,10 +580,12 @@ type_within types.Install = record { above = lit≤ tt; below = lit≤ tt }
 type_within types.Installed = record { above = lit≤ tt; below = lit≤ tt }
 type_within types.Out = record { above = lit≤ tt; below = lit≤ tt }
 
-type_takes : (handing : Bool) (bytes : List ℕ) (x : FrameType × List ℕ) → IsBytes bytes → type_at handing bytes ≡ Ok x → Took bytes (byte (type_code x.0)) x.1 (may_stand handing x.0 ≡ true)
+type_takes : (handing : Bool) (bytes : List ℕ) (x : FrameType × List ℕ) → IsBytes bytes → type_at handing bytes ≡ Ok x →
+    Took bytes (byte (type_code x.0)) x.1 (may_stand handing x.0 ≡ true)
 unfolding type_at
 type_takes handing bytes x fits e =
-    let a1 = bind_ok (byte_at 0 255 bytes) (λ n. type_of n.0 >>= λ type. cond (may_stand handing type) (Ok (type, n.1)) (Err WrongType)) x e in
+    let a1 =
+    bind_ok (byte_at 0 255 bytes) (λ n. type_of n.0 >>= λ type. cond (may_stand handing type) (Ok (type, n.1)) (Err WrongType)) x e in
     let a2 = bind_ok (type_of a1.0.0) (λ type. cond (may_stand handing type) (Ok (type, a1.0.1)) (Err WrongType)) x a1.2 in
     let g = pass_ok (may_stand handing a2.0) WrongType (Ok (a2.0, a1.0.1)) x a2.2 in
     let t1 = byte_takes 0 255 bytes a1.0 fits a1.1 in
@@ -462,7 +593,8 @@ type_takes handing bytes x fits e =
     subst (λ (y : FrameType × List ℕ). Took bytes (byte (type_code y.0)) y.1 (may_stand handing y.0 ≡ true)) (ok_is made x g.1)
     (record { parts = t1.parts ∙ ap (λ (n : ℕ). byte n ++ a1.0.1) (type_of_is a1.0.0 a2.0 a2.1); rest_fits = t1.rest_fits; holds = g.0 })
 
-type_again : (handing : Bool) (t : FrameType) (rest : List ℕ) → may_stand handing t ≡ true → type_at handing (byte (type_code t) ++ rest) ≡ Ok (t, rest)
+type_again : (handing : Bool) (t : FrameType) (rest : List ℕ) → may_stand handing t ≡ true →
+    type_at handing (byte (type_code t) ++ rest) ≡ Ok (t, rest)
 unfolding type_at
 type_again handing t rest may = rw (byte_again 0 255 (type_code t) rest (type_within t), type_of_again t, may) refl
 
@@ -532,14 +664,25 @@ version_again handing rest = rw (byte_again 0 255 (version_code handing) rest (v
 abbrev ended : DomainNo × SiteNo × SiteFrame → List ℕ → Result (DomainNo × SiteNo × SiteFrame) FrameFault
 ended x rest = cond (eqb (length rest) 0) (Ok x) (Err Length)
 
-frame_takes : (bytes : List ℕ) (x : DomainNo × SiteNo × SiteFrame) → IsBytes bytes → frame_at bytes ≡ Ok x → IsSpelled x.0 x.1 x.2 × (bytes ≡ spelled_site x.0 x.1 x.2)
+frame_takes : (bytes : List ℕ) (x : DomainNo × SiteNo × SiteFrame) → IsBytes bytes → frame_at bytes ≡ Ok x →
+    IsSpelled x.0 x.1 x.2 × (bytes ≡ spelled_site x.0 x.1 x.2)
 unfolding frame_at spelled_site
 frame_takes bytes x fits e =
-    let a1 = bind_ok (magic_at bytes) (λ magic. version_at magic >>= λ version. type_at version.0 version.1 >>= λ type. domain_at type.1 >>= λ domain. site_at domain.1 >>= λ site. fields_at version.0 type.0 site.1 >>= λ frame. ended (domain.0, site.0, frame.0) frame.1) x e in
-    let a2 = bind_ok (version_at a1.0) (λ version. type_at version.0 version.1 >>= λ type. domain_at type.1 >>= λ domain. site_at domain.1 >>= λ site. fields_at version.0 type.0 site.1 >>= λ frame. ended (domain.0, site.0, frame.0) frame.1) x a1.2 in
-    let a3 = bind_ok (type_at a2.0.0 a2.0.1) (λ type. domain_at type.1 >>= λ domain. site_at domain.1 >>= λ site. fields_at a2.0.0 type.0 site.1 >>= λ frame. ended (domain.0, site.0, frame.0) frame.1) x a2.2 in
-    let a4 = bind_ok (domain_at a3.0.1) (λ domain. site_at domain.1 >>= λ site. fields_at a2.0.0 a3.0.0 site.1 >>= λ frame. ended (domain.0, site.0, frame.0) frame.1) x a3.2 in
-    let a5 = bind_ok (site_at a4.0.1) (λ site. fields_at a2.0.0 a3.0.0 site.1 >>= λ frame. ended (a4.0.0, site.0, frame.0) frame.1) x a4.2 in
+    let a1 =
+    bind_ok (magic_at bytes)
+    (λ magic. version_at magic >>= λ version. type_at version.0 version.1 >>= λ type. domain_at type.1 >>= λ domain.
+    site_at domain.1 >>= λ site. fields_at version.0 type.0 site.1 >>= λ frame. ended (domain.0, site.0, frame.0) frame.1) x e in
+    let a2 =
+    bind_ok (version_at a1.0) (λ version. type_at version.0 version.1 >>= λ type. domain_at type.1 >>= λ domain.
+    site_at domain.1 >>= λ site. fields_at version.0 type.0 site.1 >>= λ frame. ended (domain.0, site.0, frame.0) frame.1) x a1.2 in
+    let a3 =
+    bind_ok (type_at a2.0.0 a2.0.1) (λ type. domain_at type.1 >>= λ domain.
+    site_at domain.1 >>= λ site. fields_at a2.0.0 type.0 site.1 >>= λ frame. ended (domain.0, site.0, frame.0) frame.1) x a2.2 in
+    let a4 =
+    bind_ok (domain_at a3.0.1) (λ domain.
+    site_at domain.1 >>= λ site. fields_at a2.0.0 a3.0.0 site.1 >>= λ frame. ended (domain.0, site.0, frame.0) frame.1) x a3.2 in
+    let a5 =
+    bind_ok (site_at a4.0.1) (λ site. fields_at a2.0.0 a3.0.0 site.1 >>= λ frame. ended (a4.0.0, site.0, frame.0) frame.1) x a4.2 in
     let a6 = bind_ok (fields_at a2.0.0 a3.0.0 a5.0.1) (λ frame. ended (a4.0.0, a5.0.0, frame.0) frame.1) x a5.2 in
     let g = pass_ok (eqb (length a6.0.1) 0) Length (Ok (a4.0.0, a5.0.0, a6.0.0)) x a6.2 in
     let nothing : a6.0.1 ≡ [] = nil_from_length a6.0.1 (eqb-true (length a6.0.1) 0 g.0) in
@@ -556,10 +699,13 @@ frame_takes bytes x fits e =
     let p6 : a5.0.1 ≡ spelled_fields f = t6.parts ∙ ap (λ (r : List ℕ). spelled_fields f ++ r) nothing ∙ append-nil (spelled_fields f) in
     let p5 : a4.0.1 ≡ short a5.0.0.0 ++ spelled_fields f = t5.parts ∙ ap (λ (r : List ℕ). short a5.0.0.0 ++ r) p6 in
     let p4 : a3.0.1 ≡ byte a4.0.0.0 ++ (short a5.0.0.0 ++ spelled_fields f) = t4.parts ∙ ap (λ (r : List ℕ). byte a4.0.0.0 ++ r) p5 in
-    let q3 : a2.0.1 ≡ byte (frame_code f) ++ (byte a4.0.0.0 ++ (short a5.0.0.0 ++ spelled_fields f)) = p3 ∙ ap (λ (r : List ℕ). byte (frame_code f) ++ r) p4 in
-    let q2 : a1.0 ≡ version ++ (byte (frame_code f) ++ (byte a4.0.0.0 ++ (short a5.0.0.0 ++ spelled_fields f))) = p2 ∙ ap (λ (r : List ℕ). version ++ r) q3 in
+    let q3 : a2.0.1 ≡ byte (frame_code f) ++ (byte a4.0.0.0 ++ (short a5.0.0.0 ++ spelled_fields f)) =
+    p3 ∙ ap (λ (r : List ℕ). byte (frame_code f) ++ r) p4 in
+    let q2 : a1.0 ≡ version ++ (byte (frame_code f) ++ (byte a4.0.0.0 ++ (short a5.0.0.0 ++ spelled_fields f))) =
+    p2 ∙ ap (λ (r : List ℕ). version ++ r) q3 in
     let q1 : bytes ≡ spelled_site a4.0.0 a5.0.0 f = t1.parts ∙ ap (λ (r : List ℕ). short 0x4344 ++ r) q2 in
-    subst (λ (y : DomainNo × SiteNo × SiteFrame). IsSpelled y.0 y.1 y.2 × (bytes ≡ spelled_site y.0 y.1 y.2)) (ok_is (a4.0.0, a5.0.0, f) x g.1)
+    subst (λ (y : DomainNo × SiteNo × SiteFrame). IsSpelled y.0 y.1 y.2 × (bytes ≡ spelled_site y.0 y.1 y.2))
+    (ok_is (a4.0.0, a5.0.0, f) x g.1)
     (record { domain = t4.holds; site = t5.holds; frame = t6.holds.0 }, q1)
 
 frame_again : (d : DomainNo) (s : SiteNo) (f : SiteFrame) → IsSpelled d s f → frame_at (spelled_site d s f) ≡ Ok (d, s, f)
@@ -570,14 +716,25 @@ frame_again d s f fits =
     let r4 : List ℕ = short s.0 ++ spelled_fields f in
     let r3 : List ℕ = byte d.0 ++ (short s.0 ++ spelled_fields f) in
     let code : byte (frame_code f) ++ r3 ≡ byte (type_code t) ++ r3 = ap (λ (n : ℕ). byte n ++ r3) (frame_code_is f) in
-    let type : type_at (is_handing f) (byte (frame_code f) ++ r3) ≡ Ok (t, r3) = ap (type_at (is_handing f)) code ∙ type_again (is_handing f) t r3 (stands f) in
-    let fields : fields_at (is_handing f) t (spelled_fields f) ≡ Ok (f, []) = ap (fields_at (is_handing f) t) (sym (append-nil (spelled_fields f))) ∙ fields_again f [] fits.frame in
-    rw (magic_again (byte (version_code (is_handing f)) ++ (byte (frame_code f) ++ r3)), version_again (is_handing f) (byte (frame_code f) ++ r3), type, domain_again d r4 fits.domain, site_again s r5 fits.site, fields) refl
+    let type : type_at (is_handing f) (byte (frame_code f) ++ r3) ≡ Ok (t, r3) =
+    ap (type_at (is_handing f)) code ∙ type_again (is_handing f) t r3 (stands f) in
+    let fields : fields_at (is_handing f) t (spelled_fields f) ≡ Ok (f, []) =
+    ap (fields_at (is_handing f) t) (sym (append-nil (spelled_fields f))) ∙ fields_again f [] fits.frame in
+    rw (
+      magic_again (byte (version_code (is_handing f)) ++ (byte (frame_code f) ++ r3)),
+      version_again (is_handing f) (byte (frame_code f) ++ r3),
+      type,
+      domain_again d r4 fits.domain,
+      site_again s r5 fits.site,
+      fields,
+    ) refl
 
-pub found : (bytes : List ℕ) (x : DomainNo × SiteNo × SiteFrame) → IsBytes bytes → site_frame_of bytes ≡ Ok x → IsSpelled x.0 x.1 x.2 × (bytes ≡ spelled_site x.0 x.1 x.2)
+pub found : (bytes : List ℕ) (x : DomainNo × SiteNo × SiteFrame) → IsBytes bytes → site_frame_of bytes ≡ Ok x →
+    IsSpelled x.0 x.1 x.2 × (bytes ≡ spelled_site x.0 x.1 x.2)
 unfolding site_frame_of
 found bytes x fits e = frame_takes bytes x fits ((guard_ok (ltb 60000 (length bytes)) Length (frame_at bytes) (Ok x) e x refl).1)
 
-pub read_again : (d : DomainNo) (s : SiteNo) (f : SiteFrame) → IsSpelled d s f → length (spelled_site d s f) ≤ 60000 → site_frame_of (spelled_site d s f) ≡ Ok (d, s, f)
+pub read_again : (d : DomainNo) (s : SiteNo) (f : SiteFrame) → IsSpelled d s f → length (spelled_site d s f) ≤ 60000 →
+    site_frame_of (spelled_site d s f) ≡ Ok (d, s, f)
 unfolding site_frame_of
 read_again d s f fits few = rw (le-ltb _ _ few) (frame_again d s f fits)

@@ -9,7 +9,9 @@ use Rattle.cast_frame.specs.Spelled.{IsSpelled}
 
 -- a frame is read from its spelling
 abbrev pub SpelledIsRead : Type 0
-SpelledIsRead = (d : DomainNo) (s : SiteNo) (f : SiteFrame) → IsSpelled d s f → site_frame_of (spelled_site d s f) ≡ Ok (d, s, f)
+SpelledIsRead =
+    (d : DomainNo) (s : SiteNo) (f : SiteFrame) → IsSpelled d s f
+    → site_frame_of (spelled_site d s f) ≡ Ok (d, s, f)
 
 -- different frames have different spellings
 abbrev pub SpellingsDiffer : Type 0
@@ -19,4 +21,6 @@ SpellingsDiffer =
 
 -- no spelling is longer than a frame may be
 abbrev pub SpelledFits : Type 0
-SpelledFits = (d : DomainNo) (s : SiteNo) (f : SiteFrame) → IsSpelled d s f → length (spelled_site d s f) ≤ 60000
+SpelledFits =
+    (d : DomainNo) (s : SiteNo) (f : SiteFrame) → IsSpelled d s f
+    → length (spelled_site d s f) ≤ 60000

@@ -1,18 +1,24 @@
 -- Reading a frame between sites from left to right.
 -- What is read is its header and the fields of its type, or the first fault.
-use Rattle.std.specs.Prelude.{ℕ, Bool, true, false, not, ◌||◌, ◌==◌, nat_lt, if◌then◌else◌, List, length, Result, Ok, Err}
+use Rattle.std.specs.Prelude.{ℕ, Bool, true, false, not, ◌||◌, ◌==◌, nat_lt}
+use Rattle.std.specs.Prelude.{if◌then◌else◌, List, length, Result, Ok, Err}
 use Rattle.std.specs.Int.{w16, w32}
 use Rattle.cast_types.specs.declared.names.DomainNo.{DomainNo}
 use Rattle.cast_types.specs.declared.names.SiteNo.{SiteNo}
 use Rattle.cast_field.specs.declared.fault.FrameFault.{FrameFault}
-use Rattle.cast_field.specs.declared.fault.FrameFault.TheVariants.{Magic, Version, WrongType, Length, Range}
+use Rattle.cast_field.specs.declared.fault.FrameFault.TheVariants.{Magic, Version}
+use Rattle.cast_field.specs.declared.fault.FrameFault.TheVariants.{WrongType, Length, Range}
 use Rattle.cast_message.specs.declared.site.Change.{Change}
 use Rattle.cast_message.specs.declared.site.Change.TheVariants.{Join, Leave}
 use Rattle.cast_message.specs.declared.site.SiteFrame.{SiteFrame}
-use Rattle.cast_message.specs.declared.site.SiteFrame.TheVariants.{Data, Ack, Stable, Ask, Asked, Prepare, Flushed, Want, Forward, Install, Installed, Out}
+use Rattle.cast_message.specs.declared.site.SiteFrame.TheVariants.{Data, Ack, Stable, Ask, Asked}
+use Rattle.cast_message.specs.declared.site.SiteFrame.TheVariants.{Prepare, Flushed, Want, Forward}
+use Rattle.cast_message.specs.declared.site.SiteFrame.TheVariants.{Install, Installed, Out}
 use Rattle.cast_frame.specs.declared.reading.FrameType.{FrameType}
 use Rattle.cast_frame.specs.declared.reading.FrameType.TheVariants as types
-use Rattle.cast_field.specs.Reading.{◌>>=◌, Reader, byte_at, number_at, domain_at, site_at, group_at, count_at, proc_at, uid_at, counts_at, message_at, members_at, tail_at, kept_at}
+use Rattle.cast_field.specs.Reading.{◌>>=◌, Reader, byte_at, number_at, domain_at}
+use Rattle.cast_field.specs.Reading.{site_at, group_at, count_at, proc_at, uid_at}
+use Rattle.cast_field.specs.Reading.{counts_at, message_at, members_at, tail_at, kept_at}
 
 abbrev pub change_of : ℕ → Change
 change_of n = if n == 1 then Join else Leave
@@ -101,10 +107,14 @@ out_at bytes = do
 
 unfoldable pub type_of : ℕ → Result FrameType FrameFault
 type_of n =
-    if n == 1 then Ok types.Data else if n == 2 then Ok types.Ack else if n == 3 then Ok types.Stable
-    else if n == 4 then Ok types.Ask else if n == 5 then Ok types.Asked else if n == 6 then Ok types.Prepare
-    else if n == 7 then Ok types.Flushed else if n == 8 then Ok types.Want else if n == 9 then Ok types.Forward
-    else if n == 10 then Ok types.Install else if n == 11 then Ok types.Installed else if n == 12 then Ok types.Out
+    if n == 1 then Ok types.Data else if n == 2 then Ok types.Ack
+    else if n == 3 then Ok types.Stable
+    else if n == 4 then Ok types.Ask else if n == 5 then Ok types.Asked
+    else if n == 6 then Ok types.Prepare
+    else if n == 7 then Ok types.Flushed else if n == 8 then Ok types.Want
+    else if n == 9 then Ok types.Forward
+    else if n == 10 then Ok types.Install else if n == 11 then Ok types.Installed
+    else if n == 12 then Ok types.Out
     else Err WrongType
 
 -- a frame of the type holds a message
@@ -122,7 +132,8 @@ has_message types.Install = false
 has_message types.Installed = false
 has_message types.Out = false
 
--- a frame of the version whose messages hand over the token has a message; of the other version each frame may be
+-- a frame of the version whose messages hand over the token has a message; of the other version
+-- each frame may be
 abbrev pub may_stand : Bool → FrameType → Bool
 may_stand handing type = not handing || has_message type
 

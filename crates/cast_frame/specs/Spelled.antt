@@ -6,11 +6,14 @@ use Rattle.cast_types.specs.declared.names.SiteNo.{SiteNo}
 use Rattle.cast_types.specs.declared.names.GroupNo.{GroupNo}
 use Rattle.cast_types.specs.Names.{Entry}
 use Rattle.cast_message.specs.declared.site.SiteFrame.{SiteFrame}
-use Rattle.cast_message.specs.declared.site.SiteFrame.TheVariants.{Data, Ack, Stable, Ask, Asked, Prepare, Flushed, Want, Forward, Install, Installed, Out}
+use Rattle.cast_message.specs.declared.site.SiteFrame.TheVariants.{Data, Ack, Stable, Ask, Asked}
+use Rattle.cast_message.specs.declared.site.SiteFrame.TheVariants.{Prepare, Flushed, Want, Forward}
+use Rattle.cast_message.specs.declared.site.SiteFrame.TheVariants.{Install, Installed, Out}
 use Rattle.cast_message.specs.Membership.{Membership}
 use Rattle.cast_message.specs.Tail.{Tail}
 use Rattle.cast_message.specs.KeptIds.{KeptList}
-use Rattle.cast_field.specs.Spelled.{IsFrom, IsName, IsCount, IsProc, IsUid, AreCounts, IsMessage, AreMembers, IsTail, AreKept}
+use Rattle.cast_field.specs.Spelled.{IsFrom, IsName, IsCount, IsProc, IsUid, AreCounts}
+use Rattle.cast_field.specs.Spelled.{IsMessage, AreMembers, IsTail, AreKept}
 
 pub record IsFlushed (g : GroupNo) (v : ℕ) (c : List Entry) (t : Tail) (k : KeptList) : Type 0 where
   pub group : IsName g.0
@@ -21,7 +24,8 @@ pub record IsFlushed (g : GroupNo) (v : ℕ) (c : List Entry) (t : Tail) (k : Ke
   pub few : length t.ids ≤ 512
   pub kept : AreKept k
 
-pub record IsInstall (g : GroupNo) (v : ℕ) (m : Membership) (r : ℕ) (c : List Entry) (t : Tail) : Type 0 where
+pub record IsInstall (g : GroupNo) (v : ℕ) (m : Membership) (r : ℕ) (c : List Entry)
+    (t : Tail) : Type 0 where
   pub group : IsName g.0
   pub view : IsCount v
   pub members : AreMembers m

@@ -5,9 +5,12 @@ use Rattle.cast_types.specs.declared.names.SiteNo.{SiteNo}
 use Rattle.cast_message.specs.declared.site.Change.{Change}
 use Rattle.cast_message.specs.declared.site.Change.TheVariants.{Join, Leave}
 use Rattle.cast_message.specs.declared.site.SiteFrame.{SiteFrame}
-use Rattle.cast_message.specs.declared.site.SiteFrame.TheVariants.{Data, Ack, Stable, Ask, Asked, Prepare, Flushed, Want, Forward, Install, Installed, Out}
+use Rattle.cast_message.specs.declared.site.SiteFrame.TheVariants.{Data, Ack, Stable, Ask, Asked}
+use Rattle.cast_message.specs.declared.site.SiteFrame.TheVariants.{Prepare, Flushed, Want, Forward}
+use Rattle.cast_message.specs.declared.site.SiteFrame.TheVariants.{Install, Installed, Out}
 use Rattle.cast_message.specs.Bodies.{hands_over}
-use Rattle.cast_field.specs.Spelling.{byte, short, word, spelled_proc, spelled_uid, spelled_counts, spelled_message, spelled_members, spelled_tail, spelled_kept}
+use Rattle.cast_field.specs.Spelling.{byte, short, word, spelled_proc, spelled_uid, spelled_counts}
+use Rattle.cast_field.specs.Spelling.{spelled_message, spelled_members, spelled_tail, spelled_kept}
 
 abbrev pub change_code : Change → ℕ
 change_code Join = 1
@@ -53,7 +56,8 @@ unfoldable pub spelled_fields : SiteFrame → List ℕ
 spelled_fields (Data m) = spelled_message m
 spelled_fields (Ack u) = spelled_uid u
 spelled_fields (Stable u) = spelled_uid u
-spelled_fields (Ask g number change p) = short g.0 ++ (word number ++ (byte (change_code change) ++ spelled_proc p))
+spelled_fields (Ask g number change p) =
+    short g.0 ++ (word number ++ (byte (change_code change) ++ spelled_proc p))
 spelled_fields (Asked g number full) = short g.0 ++ (word number ++ byte (full_code full))
 spelled_fields (Prepare g view) = short g.0 ++ word view
 spelled_fields (Flushed g view counts tail kept) =
@@ -61,11 +65,14 @@ spelled_fields (Flushed g view counts tail kept) =
 spelled_fields (Want u) = spelled_uid u
 spelled_fields (Forward m) = spelled_message m
 spelled_fields (Install g view members request cut tail) =
-    short g.0 ++ (word view ++ (spelled_members members ++ (word request ++ (spelled_counts cut ++ spelled_tail tail))))
+    short g.0 ++ (word view
+    ++ (spelled_members members ++ (word request ++ (spelled_counts cut ++ spelled_tail tail))))
 spelled_fields (Installed g view) = short g.0 ++ word view
 spelled_fields (Out g view) = short g.0 ++ word view
 
--- a frame of a domain from a site: the magic, the version, the type, the domain, the sender and the fields
+-- a frame of a domain from a site: the magic, the version, the type, the domain, the sender and the
+-- fields
 unfoldable pub spelled_site : DomainNo → SiteNo → SiteFrame → List ℕ
 spelled_site d s f =
-    short 0x4344 ++ (byte (version_code (is_handing f)) ++ (byte (frame_code f) ++ (byte d.0 ++ (short s.0 ++ spelled_fields f))))
+    short 0x4344 ++ (byte (version_code (is_handing f))
+    ++ (byte (frame_code f) ++ (byte d.0 ++ (short s.0 ++ spelled_fields f))))

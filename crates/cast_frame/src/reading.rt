@@ -1,6 +1,10 @@
 ghost use Rattle.std.specs.Prelude.{◌≡◌, Ok, IfOk};
 ghost use Rattle.cast_field.specs.Reading.{Gives, GivesAs, GivesField};
-ghost use Rattle.cast_frame.specs.Reading.{ack_at, ask_at, asked_at, change_of, data_at, fields_at, flushed_at, forward_at, frame_at, full_of, install_at, installed_at, magic_at, may_stand, out_at, prepare_at, site_frame_of, stable_at, type_at, type_of, version_at, version_of, want_at};
+ghost use Rattle.cast_frame.specs.Reading.{ack_at, ask_at, asked_at, change_of, data_at};
+ghost use Rattle.cast_frame.specs.Reading.{fields_at, flushed_at, forward_at, frame_at, full_of};
+ghost use Rattle.cast_frame.specs.Reading.{install_at, installed_at, magic_at, may_stand};
+ghost use Rattle.cast_frame.specs.Reading.{out_at, prepare_at, site_frame_of, stable_at};
+ghost use Rattle.cast_frame.specs.Reading.{type_at, type_of, version_at, version_of, want_at};
 ghost use Rattle.cast_frame.specs.Spelled.{IsSpelled};
 ghost use Rattle.cast_frame.specs.Spelling.{spelled_site};
 
@@ -53,7 +57,8 @@ fn type_of_number(number: u8) -> Result<FrameType, FrameFault>
     }
 }
 
-// Whether a frame of this type may be of the version whose messages hand over the token, or of the other one.
+// Whether a frame of this type may be of the version whose messages hand over the token, or of the
+// other one.
 fn may_stand(handing: bool, frame_type: FrameType) -> bool
     ensures { result ≡ may_stand handing frame_type }
 {
@@ -324,22 +329,25 @@ fn read_all(alloc: Global, bytes: &[u8]) -> Result<(DomainNo, SiteNo, SiteFrame)
     read_frame(alloc, bytes)
 }
 
-/// Reads a frame between sites: its domain, the site that sends it, and the frame. The bytes are the frame, all of them.
+/// Reads a frame between sites: its domain, the site that sends it, and the frame. The bytes are
+/// the frame, all of them.
 ///
-/// A frame is of version 2 if it is `Data` or `Forward` and its message hands over the token, and of version 1 if not.
-/// Another version is `Version` (3). In version 2 another type is `WrongType` (4), and a message of another kind than 3
-/// is `Range` (7); the message has 0 to 64 ids, and the 6 bytes of its new holder stand last. In version 1 a set-order
-/// message has 1 to 64 ids.
+/// A frame is of version 2 if it is `Data` or `Forward` and its message hands over the token, and
+/// of version 1 if not. Another version is `Version` (3). In version 2 another type is `WrongType`
+/// (4), and a message of another kind than 3 is `Range` (7); the message has 0 to 64 ids, and the 6
+/// bytes of its new holder stand last. In version 1 a set-order message has 1 to 64 ids.
 ///
-/// The fault is the first one from left to right; more than 60,000 bytes are `Length` before anything else. `NoMemory`
-/// comes where an allocation was refused, and says nothing of the bytes.
+/// The fault is the first one from left to right; more than 60,000 bytes are `Length` before
+/// anything else. `NoMemory` comes where an allocation was refused, and says nothing of the bytes.
 pub fn decode_site(alloc: Global, bytes: &[u8]) -> Result<(DomainNo, SiteNo, SiteFrame), FrameFault>
     // Which frame, or which fault.
     ensures exact { Gives result (site_frame_of bytes.now) }
     // What is read is spelled so.
-    ensures found { IfOk result (λ x. IsSpelled x.0 x.1 x.2 × (bytes.now ≡ spelled_site x.0 x.1 x.2)) }
+    ensures found { IfOk result
+        (λ x. IsSpelled x.0 x.1 x.2 × (bytes.now ≡ spelled_site x.0 x.1 x.2)) }
     // What is spelled so is read, unless memory runs out.
-    ensures only { (d : DomainNo) (s : SiteNo) (f : SiteFrame) → IsSpelled d s f → bytes.now ≡ spelled_site d s f
+    ensures only { (d : DomainNo) (s : SiteNo) (f : SiteFrame) → IsSpelled d s f
+        → bytes.now ≡ spelled_site d s f
         → Gives result (Ok (d, s, f)) }
 {
     read_all(alloc, bytes)

@@ -1,7 +1,9 @@
 ghost use Rattle.std.specs.Prelude.{◌≡◌, ◌++◌, IfOk, OnOk};
-ghost use Rattle.cast_message.specs.declared.site.SiteFrame.TheVariants.{Ask, Asked, Flushed, Install};
+ghost use Rattle.cast_message.specs.declared.site.SiteFrame.TheVariants.{Ask, Asked, Flushed};
+ghost use Rattle.cast_message.specs.declared.site.SiteFrame.TheVariants.{Install};
 ghost use Rattle.cast_field.specs.Spelling.{short, word};
-ghost use Rattle.cast_frame.specs.Spelling.{change_code, frame_code, full_code, is_handing, spelled_fields, spelled_site, version_code};
+ghost use Rattle.cast_frame.specs.Spelling.{change_code, frame_code, full_code, is_handing};
+ghost use Rattle.cast_frame.specs.Spelling.{spelled_fields, spelled_site, version_code};
 
 use crate::header::{HANDING_VERSION, MAGIC, VERSION};
 use bytes::{BufMut, Bytes};
@@ -77,7 +79,8 @@ fn put_ask(
     change: Change,
     proc: Proc,
 ) -> Result<(), NoMemory>
-    ensures { OnOk result (out.new.items ≡ out.old.items ++ spelled_fields (Ask group number change proc)) }
+    ensures { OnOk result
+        (out.new.items ≡ out.old.items ++ spelled_fields (Ask group number change proc)) }
 {
     out.put_u16(group.0)?;
     out.put_u32(number)?;
@@ -88,7 +91,8 @@ fn put_ask(
 
 #[tactic(auto, unfolding(crate::specs::Spelling::spelled_fields, cast_field::specs::Spelling::byte, cast_field::specs::Spelling::short, cast_field::specs::Spelling::word))]
 fn put_asked(out: &mut Vec<u8>, group: GroupNo, number: u32, full: bool) -> Result<(), NoMemory>
-    ensures { OnOk result (out.new.items ≡ out.old.items ++ spelled_fields (Asked group number full)) }
+    ensures { OnOk result
+        (out.new.items ≡ out.old.items ++ spelled_fields (Asked group number full)) }
 {
     out.put_u16(group.0)?;
     out.put_u32(number)?;
@@ -105,7 +109,8 @@ fn put_flushed(
     tail: &Tail,
     kept: &KeptIds,
 ) -> Result<(), NoMemory>
-    ensures { OnOk result (out.new.items ≡ out.old.items ++ spelled_fields (Flushed group view counts.now tail.now kept.now)) }
+    ensures { OnOk result (out.new.items
+        ≡ out.old.items ++ spelled_fields (Flushed group view counts.now tail.now kept.now)) }
 {
     out.put_u16(group.0)?;
     out.put_u32(view)?;
@@ -125,7 +130,8 @@ fn put_install(
     cut: &Counts,
     tail: &Tail,
 ) -> Result<(), NoMemory>
-    ensures { OnOk result (out.new.items ≡ out.old.items ++ spelled_fields (Install group view members.now request cut.now tail.now)) }
+    ensures { OnOk result (out.new.items ≡ out.old.items
+        ++ spelled_fields (Install group view members.now request cut.now tail.now)) }
 {
     out.put_u16(group.0)?;
     out.put_u32(view)?;
@@ -175,9 +181,10 @@ fn put_fields(out: &mut Vec<u8>, frame: &SiteFrame) -> Result<(), NoMemory>
     }
 }
 
-/// The one spelling of a frame of a domain from a site, at most 60,000 bytes where its numbers are in their ranges. Its
-/// version is 2 for `Data` and `Forward` of a message that hands over the token, and 1 for every other frame. The frame is
-/// only read; `NoMemory` comes where an allocation was refused.
+/// The one spelling of a frame of a domain from a site, at most 60,000 bytes where its numbers are
+/// in their ranges. Its version is 2 for `Data` and `Forward` of a message that hands over the
+/// token, and 1 for every other frame. The frame is only read; `NoMemory` comes where an allocation
+/// was refused.
 #[tactic(auto, unfolding(crate::specs::Spelling::spelled_site, cast_field::specs::Spelling::byte, cast_field::specs::Spelling::short))]
 pub fn encode_site(
     alloc: Global,

@@ -2,7 +2,9 @@ ghost use Rattle.std.specs.Prelude.{◌≡◌, ◌<◌, true, false, None, ◌&&
 ghost use Rattle.std.specs.List.{list_all};
 ghost use Rattle.cast_types.specs.Names.{group_eq};
 ghost use Rattle.cast_types.specs.Sets.{is_among};
-ghost use Rattle.cast_rules.specs.Rules.Data.{counts_itself, names_member, want_no_more, is_used, is_well_formed, on_data, use_data, acknowledge, is_outdated};
+ghost use Rattle.cast_rules.specs.Rules.Data.{counts_itself, names_member, want_no_more};
+ghost use Rattle.cast_rules.specs.Rules.Data.{is_used, is_well_formed, on_data};
+ghost use Rattle.cast_rules.specs.Rules.Data.{use_data, acknowledge, is_outdated};
 ghost use Rattle.cast_domain.specs.Records.{GivesBack, KeepsBeside, Makes, TellsAlone};
 ghost use Rattle.cast_domain.specs.Calls.{records};
 ghost use Rattle.cast_view.specs.Sites.{is_at};
@@ -29,8 +31,8 @@ pub(crate) fn want_no_more(domain: &Domain, id: Uid, lent: &mut Lent<'_>)
     domain.pay(&message_key(OwedKind::Want, id, domain.config.home), lent);
 }
 
-// Data: a message of the site's view, from the process's own site, which is another; or one of an older view, from a site that has
-// no part in it any more and is told so.
+// Data: a message of the site's view, from the process's own site, which is another; or one of an
+// older view, from a site that has no part in it any more and is told so.
 pub(crate) fn on_data(
     domain: &mut Domain,
     place: usize,
@@ -40,7 +42,8 @@ pub(crate) fn on_data(
 ) -> Result<(), NoMemory>
     requires { place < vec_len domain.old.groups }
     ensures stays { KeepsBeside domain.old lent.old domain.new lent.new }
-    ensures made { OnOk result (Makes (λ r. on_data records r place from message.now) domain.old lent.old domain.new lent.new) }
+    ensures made { OnOk result (Makes (λ r. on_data records r place from message.now)
+        domain.old lent.old domain.new lent.new) }
 {
     if is_used(domain, place, from, message) {
         return use_data(domain, from, message, lent);
@@ -72,7 +75,8 @@ fn use_data(
     lent: &mut Lent<'_>,
 ) -> Result<(), NoMemory>
     ensures stays { KeepsBeside domain.old lent.old domain.new lent.new }
-    ensures made { OnOk result (Makes (λ r. use_data records r from message.now) domain.old lent.old domain.new lent.new) }
+    ensures made { OnOk result
+        (Makes (λ r. use_data records r from message.now) domain.old lent.old domain.new lent.new) }
 {
     if domain.acks.is_received(message.id) {
         domain.send(lent.outs, from, SiteFrame::Ack(message.id))?;
@@ -87,8 +91,8 @@ fn use_data(
     Ok(())
 }
 
-// Whether all groups of the message's time are configured, its process is one of these members, and so is the one to
-// which it hands the token over, and its own time counts it.
+// Whether all groups of the message's time are configured, its process is one of these members, and
+// so is the one to which it hands the token over, and its own time counts it.
 pub(crate) fn is_well_formed(domain: &Domain, members: &[Proc], message: &Message) -> bool
     ensures { TellsAlone (λ r. is_well_formed records r members.now message.now) domain.now result }
 {
@@ -100,7 +104,8 @@ pub(crate) fn is_well_formed(domain: &Domain, members: &[Proc], message: &Messag
 
 // Whether all groups of the message's time are configured.
 fn knows_groups(domain: &Domain, message: &Message) -> bool
-    ensures { result ≡ list_all (λ c. is_among group_eq c.0 domain.now.config.groups) message.now.times }
+    ensures { result
+        ≡ list_all (λ c. is_among group_eq c.0 domain.now.config.groups) message.now.times }
 {
     are_known(domain.config.groups.as_slice(), message.times.clocks())
 }
@@ -108,7 +113,8 @@ fn knows_groups(domain: &Domain, message: &Message) -> bool
 // Acknowledges a received message: its site is owed that until it tells that the message is stable.
 fn acknowledge(domain: &Domain, to: SiteNo, id: Uid, lent: &mut Lent<'_>) -> Result<(), NoMemory>
     ensures back { GivesBack domain.now.config.domain lent.old lent.new }
-    ensures made { OnOk result (Makes (λ r. acknowledge records r to id) domain.now lent.old domain.now lent.new) }
+    ensures made { OnOk result
+        (Makes (λ r. acknowledge records r to id) domain.now lent.old domain.now lent.new) }
 {
     if domain.acks.is_stable(id) {
         return domain.send(lent.outs, to, SiteFrame::Ack(id));
@@ -116,7 +122,8 @@ fn acknowledge(domain: &Domain, to: SiteNo, id: Uid, lent: &mut Lent<'_>) -> Res
     domain.owe(message_key(OwedKind::Ack, id, to), lent)
 }
 
-// Whether a message is of an older view than the one that the group at a place has here, in which its site has no member.
+// Whether a message is of an older view than the one that the group at a place has here, in which
+// its site has no member.
 fn is_outdated(domain: &Domain, place: usize, from: SiteNo, message: &Message) -> bool
     requires { place < vec_len domain.now.groups }
     ensures { TellsAlone (λ r. is_outdated records r place from message.now) domain.now result }

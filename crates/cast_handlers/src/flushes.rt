@@ -1,11 +1,15 @@
-ghost use Rattle.std.specs.Prelude.{◌≡◌, ◌<◌, OnOk, length, ◌≤◌, ◌&&◌, ◌==◌, min, true, false, IfOk, vec_len, ◌||◌, ◌++◌, map, ◌+◌};
+ghost use Rattle.std.specs.Prelude.{◌≡◌, ◌<◌, OnOk, length, ◌≤◌, ◌&&◌, ◌==◌, min};
+ghost use Rattle.std.specs.Prelude.{true, false, IfOk, vec_len, ◌||◌, ◌++◌, map, ◌+◌};
 ghost use Rattle.std.specs.List.{list_any};
 ghost use Rattle.cast_types.specs.declared.limits.TheConstants.{MAX_POSITION};
 ghost use Rattle.cast_domain.specs.PartCalls.{record_at, added_if};
-ghost use Rattle.cast_domain.specs.FlushCalls.{is_kept_of, with_name_of, is_abcast_named, freeze_in, had_of, pend_in, report_at, pending_of, last_sent_of, kept_of_view, is_unplaced_of};
+ghost use Rattle.cast_domain.specs.FlushCalls.{is_kept_of, with_name_of, is_abcast_named};
+ghost use Rattle.cast_domain.specs.FlushCalls.{freeze_in, had_of, pend_in, report_at, pending_of};
+ghost use Rattle.cast_domain.specs.FlushCalls.{last_sent_of, kept_of_view, is_unplaced_of};
 ghost use Rattle.cast_domain.specs.Calls.{records};
 ghost use Rattle.cast_rules.specs.Rules.Home.{start, wants};
-ghost use Rattle.cast_domain.specs.Records.{Keeps, KeepsBeside, records_in, Makes, MakesAlone, own_records, TellsAlone};
+ghost use Rattle.cast_domain.specs.Records.{Keeps, KeepsBeside, records_in, Makes};
+ghost use Rattle.cast_domain.specs.Records.{MakesAlone, own_records, TellsAlone};
 ghost use Rattle.cast_types.specs.Names.{entry_cmp, entry_of};
 ghost use Rattle.cast_types.specs.Sets.{set_of};
 ghost use Rattle.cast_order.specs.Log.{log_of, whole_kept};
@@ -32,8 +36,8 @@ use cast_timer::OwedKind;
 use cast_types::limits::{MAX_KEPT, MAX_POSITION};
 use cast_types::{Counts, List, NoMemory, Proc, SiteNo, sorted};
 
-// Prepare: the home asks what the site has of a view. From the first answer on the group is frozen, and the site answers as
-// often as it is asked, until an Install waits.
+// Prepare: the home asks what the site has of a view. From the first answer on the group is frozen,
+// and the site answers as often as it is asked, until an Install waits.
 pub(crate) fn on_prepare(
     domain: &mut Domain,
     place: usize,
@@ -43,7 +47,8 @@ pub(crate) fn on_prepare(
 ) -> Result<(), NoMemory>
     requires { place < vec_len domain.old.groups }
     ensures stays { KeepsBeside domain.old lent.old domain.new lent.new }
-    ensures made { OnOk result (Makes (λ r. on_prepare records r place from view) domain.old lent.old domain.new lent.new) }
+    ensures made { OnOk result (Makes (λ r. on_prepare records r place from view)
+        domain.old lent.old domain.new lent.new) }
 {
     if !is_asked(domain, place, from, view) {
         return Ok(());
@@ -65,7 +70,8 @@ pub(crate) fn on_prepare(
 // Whether the home asks for a report of the view of the group at a place, and no Install waits.
 fn is_asked(domain: &Domain, place: usize, from: SiteNo, view: u32) -> bool
     requires { place < vec_len domain.now.groups }
-    ensures { TellsAlone (λ r. is_from_home records r from && answers_prepare (record_at r.groups place).here view) domain.now result }
+    ensures { TellsAlone (λ r. is_from_home records r from
+        && answers_prepare (record_at r.groups place).here view) domain.now result }
 {
     is_from_home(domain, from) && domain.record(place).here.answers_prepare(view)
 }
@@ -83,7 +89,8 @@ fn freeze(domain: &mut Domain, place: usize, view: u32) -> Result<(), NoMemory>
     Ok(())
 }
 
-// The Install of the next view waits at the group of a place, and tells the end of the order of the one that ends.
+// The Install of the next view waits at the group of a place, and tells the end of the order of the
+// one that ends.
 pub(crate) fn pend(
     domain: &mut Domain,
     place: usize,
@@ -96,7 +103,9 @@ pub(crate) fn pend(
     requires placed { place < vec_len domain.old.groups }
     requires waits { verdict_of (record_at domain.old.groups.items place).here view ≡ Pends }
     ensures same { Keeps domain.old domain.new }
-    ensures made { OnOk result (MakesAlone (λ r. pend_in r place (pending_of members.now request cut.now) tail.now) domain.old domain.new) }
+    ensures made { OnOk result
+        (MakesAlone (λ r. pend_in r place (pending_of members.now request cut.now) tail.now)
+        domain.old domain.new) }
 {
     let group = domain.record(place).name;
     pend_at(&mut domain.groups, place, view, members, request, cut)?;
@@ -108,7 +117,8 @@ pub(crate) fn pend(
 // What the site has of the view of the group at a place.
 fn report(domain: &Domain, place: usize, lent: &Lent<'_>) -> Result<Report, NoMemory>
     requires { place < vec_len domain.now.groups }
-    ensures { IfOk result (λ report. report ≡ report_at (records_in domain.now lent.now) (record_at domain.now.groups.items place)) }
+    ensures { IfOk result (λ report. report
+        ≡ report_at (records_in domain.now lent.now) (record_at domain.now.groups.items place)) }
 {
     let record = domain.record(place);
     let had = had(domain, record)?;
@@ -124,7 +134,8 @@ fn report(domain: &Domain, place: usize, lent: &Lent<'_>) -> Result<Report, NoMe
     record.here.flush_report(had.as_slice(), tail, kept)
 }
 
-// How far the messages of each process were delivered here in the view of a group, and the last ones that members here sent.
+// How far the messages of each process were delivered here in the view of a group, and the last
+// ones that members here sent.
 fn had(domain: &Domain, group: &GroupRecord) -> Result<Vec<(Proc, u32)>, NoMemory>
     ensures { IfOk result (λ had. had.items ≡ had_of (own_records domain.now) group.now) }
 {
@@ -144,7 +155,8 @@ fn add_sent(
     member: Proc,
     had: &mut Vec<(Proc, u32)>,
 ) -> Result<(), NoMemory>
-    ensures { OnOk result (had.new.items ≡ added_if (is_at domain.now.site member) (last_sent_of (own_records domain.now) group.now member) had.old.items) }
+    ensures { OnOk result (had.new.items ≡ added_if (is_at domain.now.site member)
+        (last_sent_of (own_records domain.now) group.now member) had.old.items) }
 {
     if member.site != domain.site {
         return Ok(());
@@ -156,14 +168,16 @@ fn add_sent(
     Ok(())
 }
 
-// The names of kept messages of the view of a group, in order, each marked where it is an ABCAST for which its order has no place.
+// The names of kept messages of the view of a group, in order, each marked where it is an ABCAST
+// for which its order has no place.
 fn kept_of(
     domain: &Domain,
     group: &GroupRecord,
     holder: Option<Proc>,
     kept: &Kept<'_>,
 ) -> Result<KeptIds, NoMemory>
-    ensures { IfOk result (λ list. list ≡ kept_list (kept_of_view group.now kept.now) (whole_kept (log_of domain.now.orders group.now.name) holder)) }
+    ensures { IfOk result (λ list. list ≡ kept_list (kept_of_view group.now kept.now)
+        (whole_kept (log_of domain.now.orders group.now.name) holder)) }
 {
     let mut names = names_of(domain, group, kept)?;
     names.truncate(MAX_KEPT);
@@ -177,7 +191,8 @@ fn names_of(
     group: &GroupRecord,
     kept: &Kept<'_>,
 ) -> Result<Vec<(Proc, u32)>, NoMemory>
-    ensures { IfOk result (λ names. names.items ≡ set_of entry_cmp (map (λ m. entry_of m.id) (kept_of_view group.now kept.now))) }
+    ensures { IfOk result (λ names. names.items
+        ≡ set_of entry_cmp (map (λ m. entry_of m.id) (kept_of_view group.now kept.now))) }
 {
     let mut names = Vec::new(*domain.groups.allocator());
     for position in 0..kept.len() {
@@ -187,7 +202,8 @@ fn names_of(
     Ok(names)
 }
 
-// Names of messages of the view of a group, each marked where it is an ABCAST for which its order has no place.
+// Names of messages of the view of a group, each marked where it is an ABCAST for which its order
+// has no place.
 fn mark_names(
     domain: &Domain,
     group: &GroupRecord,
@@ -195,7 +211,8 @@ fn mark_names(
     kept: &Kept<'_>,
     names: &[(Proc, u32)],
 ) -> Result<Vec<((Proc, u32), bool)>, NoMemory>
-    ensures { IfOk result (λ marked. marked.items ≡ map (λ e. (e, is_unplaced_of (own_records domain.now) group.now holder kept.now e)) names.now) }
+    ensures { IfOk result (λ marked. marked.items ≡ map
+        (λ e. (e, is_unplaced_of (own_records domain.now) group.now holder kept.now e)) names.now) }
 {
     let mut marked = Vec::new(*domain.groups.allocator());
     for name in names {
@@ -227,7 +244,8 @@ pub(crate) fn on_wanted(
 ) -> Result<(), NoMemory>
     requires { place < vec_len domain.old.groups }
     ensures stays { KeepsBeside domain.old lent.old domain.new lent.new }
-    ensures made { OnOk result (Makes (λ r. on_wanted records r place from message.now) domain.old lent.old domain.new lent.new) }
+    ensures made { OnOk result (Makes (λ r. on_wanted records r place from message.now)
+        domain.old lent.old domain.new lent.new) }
     ensures len { OnOk result (vec_len domain.new.groups ≡ vec_len domain.old.groups) }
 {
     if !is_from_home(domain, from) || !is_wanted_here(domain, place, message, lent) {
@@ -238,7 +256,8 @@ pub(crate) fn on_wanted(
     Ok(())
 }
 
-// Whether an Install waits at the group of a place, and a message is wanted, of the view that ends and well formed in it.
+// Whether an Install waits at the group of a place, and a message is wanted, of the view that ends
+// and well formed in it.
 fn is_wanted_here(domain: &Domain, place: usize, message: &Message, lent: &Lent<'_>) -> bool
     requires { place < vec_len domain.now.groups }
     ensures { result ≡ is_wanted_here records (records_in domain.now lent.now) place message.now }
@@ -275,7 +294,8 @@ fn add_name(
 
 // Whether one of the kept messages of the view of a group is an ABCAST of this name.
 fn is_abcast_among(group: &GroupRecord, kept: &Kept<'_>, name: (Proc, u32)) -> bool
-    ensures { result ≡ list_any (λ r. is_kept_of group.now r.message && is_abcast_named name r.message) kept.now }
+    ensures { result ≡ list_any
+        (λ r. is_kept_of group.now r.message && is_abcast_named name r.message) kept.now }
 {
     for position in 0..kept.len() {
         let (_, message) = kept.at(position);

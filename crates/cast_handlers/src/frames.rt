@@ -26,7 +26,8 @@ pub fn on_frame(
     lent: &mut Lent<'_>,
 ) -> Result<(), NoMemory>
     ensures stays { KeepsBeside domain.old lent.old domain.new lent.new }
-    ensures made { OnOk result (Makes (λ r. framed records r from frame.now) domain.old lent.old domain.new lent.new) }
+    ensures made { OnOk result
+        (Makes (λ r. framed records r from frame.now) domain.old lent.old domain.new lent.new) }
 {
     if !is_among(from, domain.config.sites.as_slice()) {
         return Ok(());
@@ -47,7 +48,8 @@ fn frame_at(
 ) -> Result<(), NoMemory>
     requires { place < vec_len domain.old.groups }
     ensures stays { KeepsBeside domain.old lent.old domain.new lent.new }
-    ensures made { OnOk result (Makes (λ r. on_frame records r place from frame.now) domain.old lent.old domain.new lent.new) }
+    ensures made { OnOk result (Makes (λ r. on_frame records r place from frame.now)
+        domain.old lent.old domain.new lent.new) }
 {
     match frame {
         SiteFrame::Data(message) => on_data(domain, place, from, message, lent),

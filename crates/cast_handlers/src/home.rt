@@ -2,7 +2,8 @@ ghost use Rattle.std.specs.Prelude.{◌≡◌, ◌<◌, ◌&&◌, ◌==◌, None
 ghost use Rattle.cast_types.specs.Names.{entry_of, entry_eq, uid_eq, site_eq};
 ghost use Rattle.std.specs.List.{find};
 ghost use Rattle.std.specs.Option.{option_copied};
-ghost use Rattle.cast_rules.specs.Rules.Home.{wants, forwardable, is_of_home, on_forward, on_installed, on_want};
+ghost use Rattle.cast_rules.specs.Rules.Home.{wants, forwardable, is_of_home};
+ghost use Rattle.cast_rules.specs.Rules.Home.{on_forward, on_installed, on_want};
 ghost use Rattle.cast_rules.specs.Rules.Commands.{body_of};
 ghost use Rattle.cast_domain.specs.Records.{GivesBack, KeepsBeside, records_in, Makes, TellsAlone};
 ghost use Rattle.cast_domain.specs.FlushCalls.{report_at};
@@ -30,7 +31,8 @@ pub(crate) fn on_installed(
 ) -> Result<(), NoMemory>
     requires { place < vec_len domain.old.groups }
     ensures stays { KeepsBeside domain.old lent.old domain.new lent.new }
-    ensures made { OnOk result (Makes (λ r. on_installed records r place from view) domain.old lent.old domain.new lent.new) }
+    ensures made { OnOk result (Makes (λ r. on_installed records r place from view)
+        domain.old lent.old domain.new lent.new) }
 {
     if domain.is_home() && domain.record(place).home.takes_installed(from, view) {
         let key = home_key(OwedKind::Install, domain.record(place).name, from);
@@ -40,7 +42,8 @@ pub(crate) fn on_installed(
     Ok(())
 }
 
-// Flushed: a site's first report of the view that the home flushes counts, and Prepare is owed to it no more.
+// Flushed: a site's first report of the view that the home flushes counts, and Prepare is owed to
+// it no more.
 pub(crate) fn on_flushed(
     domain: &mut Domain,
     place: usize,
@@ -53,7 +56,9 @@ pub(crate) fn on_flushed(
 ) -> Result<(), NoMemory>
     requires { place < vec_len domain.old.groups }
     ensures stays { KeepsBeside domain.old lent.old domain.new lent.new }
-    ensures made { OnOk result (Makes (λ r. on_flushed_in r place from view counts.now tail.now kept.now) domain.old lent.old domain.new lent.new) }
+    ensures made { OnOk result
+        (Makes (λ r. on_flushed_in r place from view counts.now tail.now kept.now)
+        domain.old lent.old domain.new lent.new) }
 {
     if domain.is_home() && domain.record(place).home.takes_report(from, view) {
         let key = home_key(OwedKind::Prepare, domain.record(place).name, from);
@@ -77,7 +82,8 @@ pub(crate) fn on_forward(
 ) -> Result<(), NoMemory>
     requires { place < vec_len domain.old.groups }
     ensures stays { KeepsBeside domain.old lent.old domain.new lent.new }
-    ensures made { OnOk result (Makes (λ r. on_forward records r place message.now) domain.old lent.old domain.new lent.new) }
+    ensures made { OnOk result (Makes (λ r. on_forward records r place message.now)
+        domain.old lent.old domain.new lent.new) }
 {
     let Some(wanted) = want_for(domain, place, message.id)? else {
         return Ok(());
@@ -98,7 +104,9 @@ fn want_for(
     id: Uid,
 ) -> Result<Option<(SiteNo, (Proc, u32))>, NoMemory>
     requires { place < vec_len domain.now.groups }
-    ensures { IfOk result (TellsAlone (λ r. find (λ x. entry_eq x.1 (entry_of id)) (wants records r place)) domain.now) }
+    ensures { IfOk result
+        (TellsAlone (λ r. find (λ x. entry_eq x.1 (entry_of id)) (wants records r place))
+        domain.now) }
 {
     let wants = domain.wants(place)?;
     Ok(want_of(wants.as_slice(), id).copied())
@@ -106,7 +114,8 @@ fn want_for(
 
 // Whether a Want is from this site itself, which is not the home.
 fn is_own_want(domain: &Domain, from: SiteNo) -> bool
-    ensures { result ≡ (site_eq from domain.now.site && not (site_eq domain.now.site domain.now.config.home)) }
+    ensures { result
+        ≡ (site_eq from domain.now.site && not (site_eq domain.now.site domain.now.config.home)) }
 {
     from == domain.site && !domain.is_home()
 }
@@ -120,7 +129,8 @@ fn is_flushed_message(domain: &Domain, place: usize, message: &Message) -> bool
     message.id.view == home.number() && is_well_formed(domain, home.members().list(), message)
 }
 
-// Want: a message is forwarded that came because some sites lack it, or that is kept. A site sends itself none unless it is the home.
+// Want: a message is forwarded that came because some sites lack it, or that is kept. A site sends
+// itself none unless it is the home.
 pub(crate) fn on_want(
     domain: &Domain,
     place: usize,
@@ -130,7 +140,8 @@ pub(crate) fn on_want(
 ) -> Result<(), NoMemory>
     requires { place < vec_len domain.now.groups }
     ensures back { GivesBack domain.now.config.domain lent.old lent.new }
-    ensures made { OnOk result (Makes (λ r. on_want records r place from id) domain.now lent.old domain.now lent.new) }
+    ensures made { OnOk result
+        (Makes (λ r. on_want records r place from id) domain.now lent.old domain.now lent.new) }
 {
     if is_own_want(domain, from) {
         return Ok(());
@@ -144,7 +155,8 @@ pub(crate) fn on_want(
     }
 }
 
-// The message of an id among those that came because some sites lack them, and else among the kept ones.
+// The message of an id among those that came because some sites lack them, and else among the kept
+// ones.
 fn forwardable(
     domain: &Domain,
     place: usize,

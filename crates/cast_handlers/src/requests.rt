@@ -1,5 +1,6 @@
 ghost use Rattle.std.specs.Prelude.{◌≡◌, false, ◌==◌, ◌<◌, None, OnOk, vec_len, ◌&&◌, not, Some};
-ghost use Rattle.cast_rules.specs.Rules.Requests.{is_joining_by, deny, deny_if, on_asked, take_answer, answer_ask, on_ask};
+ghost use Rattle.cast_rules.specs.Rules.Requests.{is_joining_by, deny, deny_if, on_asked};
+ghost use Rattle.cast_rules.specs.Rules.Requests.{take_answer, answer_ask, on_ask};
 ghost use Rattle.cast_rules.specs.Rules.Asking.{request, is_from_home, ask_home};
 ghost use Rattle.cast_domain.specs.Records.{Keeps, KeepsBeside, Makes, MakesWithOuts};
 ghost use Rattle.cast_domain.specs.Calls.{records};
@@ -18,7 +19,8 @@ use cast_ready::ProcessUpdate;
 use cast_types::{NoMemory, Proc, Refusal, SiteNo, Standing};
 use cast_view::PendingRequest;
 
-// Asked: the first request is answered, and the next one is asked. Where the group was full its process is told.
+// Asked: the first request is answered, and the next one is asked. Where the group was full its
+// process is told.
 pub(crate) fn on_asked(
     domain: &mut Domain,
     place: usize,
@@ -29,7 +31,8 @@ pub(crate) fn on_asked(
 ) -> Result<(), NoMemory>
     requires { place < vec_len domain.old.groups }
     ensures stays { KeepsBeside domain.old lent.old domain.new lent.new }
-    ensures made { OnOk result (Makes (λ r. on_asked records r place from number full) domain.old lent.old domain.new lent.new) }
+    ensures made { OnOk result (Makes (λ r. on_asked records r place from number full)
+        domain.old lent.old domain.new lent.new) }
 {
     match domain.record(place).here.first_request() {
         Some(asking) => {
@@ -47,7 +50,8 @@ pub(crate) fn on_asked(
 fn take_answer(domain: &mut Domain, place: usize, lent: &mut Lent<'_>) -> Result<(), NoMemory>
     requires { place < vec_len domain.old.groups }
     ensures stays { KeepsBeside domain.old lent.old domain.new lent.new }
-    ensures made { OnOk result (Makes (λ r. take_answer records r place) domain.old lent.old domain.new lent.new) }
+    ensures made { OnOk result
+        (Makes (λ r. take_answer records r place) domain.old lent.old domain.new lent.new) }
     ensures len { vec_len domain.new.groups ≡ vec_len domain.old.groups }
 {
     let key = ask_key(domain.record(place).name, domain.config.home);
@@ -67,7 +71,8 @@ fn deny_if(
 ) -> Result<(), NoMemory>
     requires { place < vec_len domain.old.groups }
     ensures stays { KeepsBeside domain.old lent.old domain.new lent.new }
-    ensures made { OnOk result (Makes (λ r. deny_if records full r place asking) domain.old lent.old domain.new lent.new) }
+    ensures made { OnOk result
+        (Makes (λ r. deny_if records full r place asking) domain.old lent.old domain.new lent.new) }
 {
     if full {
         deny(domain, place, asking, lent)?;
@@ -83,7 +88,8 @@ fn deny(
 ) -> Result<(), NoMemory>
     requires { place < vec_len domain.old.groups }
     ensures stays { KeepsBeside domain.old lent.old domain.new lent.new }
-    ensures made { OnOk result (Makes (λ r. deny records r place asking) domain.old lent.old domain.new lent.new) }
+    ensures made { OnOk result
+        (Makes (λ r. deny records r place asking) domain.old lent.old domain.new lent.new) }
 {
     let group = domain.record(place).name;
     let serial = asking.proc.serial;
@@ -99,7 +105,8 @@ fn deny(
     Ok(())
 }
 
-// Ask: at the home a request is taken in, and answered where it is the next one of its site or was answered before.
+// Ask: at the home a request is taken in, and answered where it is the next one of its site or was
+// answered before.
 pub(crate) fn on_ask(
     domain: &mut Domain,
     place: usize,
@@ -111,7 +118,9 @@ pub(crate) fn on_ask(
 ) -> Result<(), NoMemory>
     requires { place < vec_len domain.old.groups }
     ensures same { Keeps domain.old domain.new }
-    ensures made { OnOk result (MakesWithOuts (λ r. on_ask records r place from number change process) domain.old outs.old domain.new outs.new) }
+    ensures made { OnOk result
+        (MakesWithOuts (λ r. on_ask records r place from number change process)
+        domain.old outs.old domain.new outs.new) }
 {
     if !domain.is_home() {
         return Ok(());
@@ -131,7 +140,8 @@ fn answer_ask(
     outs: &mut Outs,
 ) -> Result<(), NoMemory>
     requires { place < vec_len domain.now.groups }
-    ensures { OnOk result (MakesWithOuts (λ r. answer_ask records r place to number full) domain.now outs.old domain.now outs.new) }
+    ensures { OnOk result (MakesWithOuts (λ r. answer_ask records r place to number full)
+        domain.now outs.old domain.now outs.new) }
 {
     match full {
         Some(full) => {

@@ -5,7 +5,8 @@ ghost use Rattle.std.specs.List.{fold};
 ghost use Rattle.cast_types.specs.Sets.{is_among};
 ghost use Rattle.cast_rules.specs.Rules.Keys.{message_key};
 ghost use Rattle.cast_events.specs.declared.event.Outs.{Outs};
-ghost use Rattle.cast_rules.specs.Rules.Stability.{is_used_ack, on_ack, on_stable, tell_more, tell_stable, with_ack};
+ghost use Rattle.cast_rules.specs.Rules.Stability.{is_used_ack, on_ack, on_stable};
+ghost use Rattle.cast_rules.specs.Rules.Stability.{tell_more, tell_stable, with_ack};
 
 use cast_domain::Domain;
 use cast_domain::keys::message_key;
@@ -16,8 +17,9 @@ use cast_timer::OwedKind;
 use cast_types::{NoMemory, SiteNo, Uid};
 use cast_view::is_among;
 
-// Ack: another site of the view has an own message, and is owed it no more. Where more messages are stable now, all
-// other sites are told; where that one was stable before, the site was not told and is told again.
+// Ack: another site of the view has an own message, and is owed it no more. Where more messages are
+// stable now, all other sites are told; where that one was stable before, the site was not told and
+// is told again.
 pub(crate) fn on_ack(
     domain: &mut Domain,
     place: usize,
@@ -27,7 +29,8 @@ pub(crate) fn on_ack(
 ) -> Result<(), NoMemory>
     requires { place < vec_len domain.old.groups }
     ensures stays { KeepsBeside domain.old lent.old domain.new lent.new }
-    ensures made { OnOk result (Makes (λ r. on_ack records r place from id) domain.old lent.old domain.new lent.new) }
+    ensures made { OnOk result
+        (Makes (λ r. on_ack records r place from id) domain.old lent.old domain.new lent.new) }
 {
     if !is_used_ack(domain, place, from, id) {
         return Ok(());
@@ -40,7 +43,8 @@ pub(crate) fn on_ack(
     tell_more(domain, id, before, lent.outs)
 }
 
-// Whether an acknowledgement is of a message of the current view of a local process, and from another site of it.
+// Whether an acknowledgement is of a message of the current view of a local process, and from
+// another site of it.
 fn is_used_ack(domain: &Domain, place: usize, from: SiteNo, id: Uid) -> bool
     requires { place < vec_len domain.now.groups }
     ensures { TellsAlone (λ r. is_used_ack records r place from id) domain.now result }
@@ -54,7 +58,8 @@ fn is_used_ack(domain: &Domain, place: usize, from: SiteNo, id: Uid) -> bool
 // Takes in that a site has an own message.
 fn take_ack(domain: &mut Domain, from: SiteNo, id: Uid, lent: &mut Lent<'_>) -> Result<(), NoMemory>
     ensures stays { KeepsBeside domain.old lent.old domain.new lent.new }
-    ensures made { OnOk result (Makes (λ r. with_ack records r from id) domain.old lent.old domain.new lent.new) }
+    ensures made { OnOk result
+        (Makes (λ r. with_ack records r from id) domain.old lent.old domain.new lent.new) }
 {
     domain.pay(&message_key(OwedKind::Data, id, from), lent);
     domain.acks.ack(from, id)?;
@@ -69,14 +74,16 @@ fn tell_stable(
     to: SiteNo,
     outs: &mut Outs,
 ) -> Result<(), NoMemory>
-    ensures { OnOk result (MakesWithOuts (λ r. tell_stable records id count r to) domain.now outs.old domain.now outs.new) }
+    ensures { OnOk result (MakesWithOuts (λ r. tell_stable records id count r to)
+        domain.now outs.old domain.now outs.new) }
 {
     domain.send(outs, to, SiteFrame::Stable(Uid { count, ..id }))
 }
 
 // Tells all other sites of the view, where more messages are stable than before.
 fn tell_more(domain: &Domain, id: Uid, before: u32, outs: &mut Outs) -> Result<(), NoMemory>
-    ensures { OnOk result (MakesWithOuts (tell_more records id before) domain.now outs.old domain.now outs.new) }
+    ensures { OnOk result
+        (MakesWithOuts (tell_more records id before) domain.now outs.old domain.now outs.new) }
 {
     let upto = domain.acks.stable_upto(id);
     if before < upto {
@@ -93,7 +100,8 @@ fn tell_sites(
     sites: &[SiteNo],
     outs: &mut Outs,
 ) -> Result<(), NoMemory>
-    ensures { OnOk result (MakesWithOuts (λ r. fold (tell_stable records id count) r sites.now) domain.now outs.old domain.now outs.new) }
+    ensures { OnOk result (MakesWithOuts (λ r. fold (tell_stable records id count) r sites.now)
+        domain.now outs.old domain.now outs.new) }
 {
     for site in sites {
         tell_stable(domain, id, count, *site, outs)?;
@@ -111,7 +119,8 @@ pub(crate) fn on_stable(
 ) -> Result<(), NoMemory>
     requires { place < vec_len domain.old.groups }
     ensures stays { KeepsBeside domain.old lent.old domain.new lent.new }
-    ensures made { OnOk result (Makes (λ r. on_stable records r place from id) domain.old lent.old domain.new lent.new) }
+    ensures made { OnOk result
+        (Makes (λ r. on_stable records r place from id) domain.old lent.old domain.new lent.new) }
 {
     if domain.record(place).here.is_current(id.view) && id.proc.site == from {
         let key = message_key(OwedKind::Ack, id, from);

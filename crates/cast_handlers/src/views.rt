@@ -15,8 +15,9 @@ use cast_message::{Membership, SiteFrame, Tail};
 use cast_types::{Counts, NoMemory, Proc, SiteNo};
 use cast_view::Verdict;
 
-// Install: answered again where the site knows its number; else completed where the site has no view, and where it skips
-// a view. The Install of the next view of a site that has one waits, unless one does.
+// Install: answered again where the site knows its number; else completed where the site has no
+// view, and where it skips a view. The Install of the next view of a site that has one waits,
+// unless one does.
 pub(crate) fn on_install(
     domain: &mut Domain,
     place: usize,
@@ -30,7 +31,9 @@ pub(crate) fn on_install(
 ) -> Result<(), NoMemory>
     requires { place < vec_len domain.old.groups }
     ensures stays { KeepsBeside domain.old lent.old domain.new lent.new }
-    ensures made { OnOk result (Makes (λ r. on_install_in r place from view members.now request cut.now tail.now) domain.old lent.old domain.new lent.new) }
+    ensures made { OnOk result
+        (Makes (λ r. on_install_in r place from view members.now request cut.now tail.now)
+        domain.old lent.old domain.new lent.new) }
 {
     if !is_from_home(domain, from) {
         return Ok(());
@@ -52,8 +55,8 @@ pub(crate) fn on_install(
     Ok(())
 }
 
-// Out: a view of the group at a place has no member here. It counts where the site has not reached its number: then the members
-// here are put out.
+// Out: a view of the group at a place has no member here. It counts where the site has not reached
+// its number: then the members here are put out.
 pub(crate) fn on_out(
     domain: &mut Domain,
     place: usize,
@@ -62,7 +65,8 @@ pub(crate) fn on_out(
 ) -> Result<(), NoMemory>
     requires { place < vec_len domain.old.groups }
     ensures stays { KeepsBeside domain.old lent.old domain.new lent.new }
-    ensures made { OnOk result (Makes (λ r. on_out records r place view) domain.old lent.old domain.new lent.new) }
+    ensures made { OnOk result
+        (Makes (λ r. on_out records r place view) domain.old lent.old domain.new lent.new) }
 {
     if domain.record(place).here.number() < view {
         let nobody = Membership::new(*domain.groups.allocator());

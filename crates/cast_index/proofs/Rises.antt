@@ -1,5 +1,6 @@
 -- Lists in which a number of each item rises: where an item stands, and what is left without one.
-use Rattle.std.proofs.Common.{◌≡◌, ℕ, zero, suc, ◌+◌, ◌-◌, ◌<◌, ◌≤◌, Bool, true, false, cond, not, List, [], ◌∷◌, ◌++◌, length, length-take, take, get_or, Option, Some, None, Ok, Err, refl, sym, ap, ◌∙◌, inl, inr, arith}
+use Rattle.std.proofs.Common.{◌≡◌, ℕ, zero, suc, ◌+◌, ◌-◌, ◌<◌, ◌≤◌, Bool, true, false, cond, not, List, [], ◌∷◌, ◌++◌, length}
+use Rattle.std.proofs.Common.{length-take, take, get_or, Option, Some, None, Ok, Err, refl, sym, ap, ◌∙◌, inl, inr, arith}
 use Rattle.std.specs.Prelude.{◌==◌, nat_lt, slice_get}
 use Rattle.std.specs.List.{list_all, filter, find, position, position_or_len, remove}
 use Rattle.std.specs.List.Sorted.{IsBinarySearchResult, IsNonDecreasingBy}
@@ -20,7 +21,8 @@ module _ {X : Type 0} (n : X → ℕ) where
   pub above_at : (m : ℕ) (xs : List X) (i : ℕ) (d : X) → list_all (λ y. nat_lt m (n y)) xs ≡ true → i < length xs → m < n (get_or xs i d)
   above_at m [] i d all lt = absurd (omega arith)
   above_at m (x ∷ xs) zero d all lt = ltb-true m (n x) (and_parts (nat_lt m (n x)) (list_all (λ y. nat_lt m (n y)) xs) all).0
-  above_at m (x ∷ xs) (suc i) d all lt = above_at m xs i d (and_parts (nat_lt m (n x)) (list_all (λ y. nat_lt m (n y)) xs) all).1 (omega arith)
+  above_at m (x ∷ xs) (suc i) d all lt =
+      above_at m xs i d (and_parts (nat_lt m (n x)) (list_all (λ y. nat_lt m (n y)) xs) all).1 (omega arith)
 
   -- the numbers at two places
   at_two : (xs : List X) (i j : ℕ) (d : X) → rises n xs ≡ true → i < j → j < length xs → n (get_or xs i d) < n (get_or xs j d)
@@ -40,12 +42,16 @@ module _ {X : Type 0} (n : X → ℕ) where
   all_higher low high le [] all = refl
   all_higher low high le (x ∷ xs) all =
       let parts = and_parts (nat_lt (n x) low) (all_below n low xs) all in
-      and_from (nat_lt (n x) high) (all_below n high xs) (lt-ltb (n x) high (omega (arith, ltb-true (n x) low parts.0))) (all_higher low high le xs parts.1)
+      and_from (nat_lt (n x) high) (all_below n high xs) (lt-ltb (n x) high (omega (arith, ltb-true (n x) low parts.0)))
+      (all_higher low high le xs parts.1)
 
-  pub below_push : (low high : ℕ) (xs : List X) (x : X) → low ≤ n x → n x < high → all_below n low xs ≡ true → all_below n high (xs ++ x ∷ []) ≡ true
-  below_push low high xs x le lt all = all_push (λ y. nat_lt (n y) high) xs x (all_higher low high (omega (arith, le, lt)) xs all) (lt-ltb (n x) high lt)
+  pub below_push : (low high : ℕ) (xs : List X) (x : X) → low ≤ n x → n x < high → all_below n low xs ≡ true →
+      all_below n high (xs ++ x ∷ []) ≡ true
+  below_push low high xs x le lt all =
+      all_push (λ y. nat_lt (n y) high) xs x (all_higher low high (omega (arith, le, lt)) xs all) (lt-ltb (n x) high lt)
 
-  pub rises_push : (low : ℕ) (xs : List X) (x : X) → low ≤ n x → rises n xs ≡ true → all_below n low xs ≡ true → rises n (xs ++ x ∷ []) ≡ true
+  pub rises_push : (low : ℕ) (xs : List X) (x : X) → low ≤ n x → rises n xs ≡ true → all_below n low xs ≡ true →
+      rises n (xs ++ x ∷ []) ≡ true
   rises_push low [] x le up all = refl
   rises_push low (y ∷ ys) x le up all =
       let parts = parts_of y ys up in
@@ -61,7 +67,9 @@ module _ {X : Type 0} (n : X → ℕ) where
       let parts = parts_of x xs up in
       let rest = rises_kept keep xs parts.1 in
       elim (keep x) as (λ b. rises n (cond b (x ∷ filter keep xs) (filter keep xs)) ≡ true) [
-        | true ↦ and_from (list_all (λ y. nat_lt (n x) (n y)) (filter keep xs)) (rises n (filter keep xs)) (all_kept (λ y. nat_lt (n x) (n y)) keep xs parts.0) rest
+        | true ↦
+            and_from (list_all (λ y. nat_lt (n x) (n y)) (filter keep xs)) (rises n (filter keep xs))
+            (all_kept (λ y. nat_lt (n x) (n y)) keep xs parts.0) rest
         | false ↦ rest
       ]
 
@@ -89,18 +97,21 @@ module _ {X : Type 0} (n : X → ℕ) where
     -- the comparisons with k rise along the list, as a binary search asks
     comparisons_rise : (xs : List X) → rises n xs ≡ true → IsNonDecreasingBy (λ x. ordering_index (nat_cmp (n x) k)) xs
     comparisons_rise xs up i j d le lt =
-        let keys : n (get_or xs i d) ≤ n (get_or xs j d) = grind (arith, at_two xs i j d up, λ (same : i ≡ j). ap (λ m. n (get_or xs m d)) same) in
+        let keys : n (get_or xs i d) ≤ n (get_or xs j d) =
+        grind (arith, at_two xs i j d up, λ (same : i ≡ j). ap (λ m. n (get_or xs m d)) same) in
         grind (arith, nat_tests)
 
     -- a binary search finds the place of the number
-    pub searched_ok : (xs : List X) (i : ℕ) → rises n xs ≡ true → i < length xs → IsBinarySearchResult (λ x. nat_cmp (n x) k) xs (Ok i) → position is_k xs ≡ Some i
+    pub searched_ok : (xs : List X) (i : ℕ) → rises n xs ≡ true → i < length xs → IsBinarySearchResult (λ x. nat_cmp (n x) k) xs (Ok i) →
+        position is_k xs ≡ Some i
     searched_ok [] i up lt is = absurd (omega (arith, lt))
     searched_ok (x ∷ xs) i up lt is =
         let place = place_is (x ∷ xs) i x up lt (ranked (n (get_or (x ∷ xs) i x)) k _ (sym (is x))) in
         (λ j. cond {A = Option ℕ} (nat_lt (place j) (length (x ∷ xs))) (Some (place j)) None)
         ∙ ap (λ b. cond {A = Option ℕ} b (Some i) None) (lt-ltb i (length (x ∷ xs)) lt)
 
-    pub searched_err : (xs : List X) (i : ℕ) → rises n xs ≡ true → IsBinarySearchResult (λ x. nat_cmp (n x) k) xs (Err i) → position is_k xs ≡ None
+    pub searched_err : (xs : List X) (i : ℕ) → rises n xs ≡ true → IsBinarySearchResult (λ x. nat_cmp (n x) k) xs (Err i) →
+        position is_k xs ≡ None
     searched_err xs i up parted =
         let parts = parted (comparisons_rise xs up) in
         let none : (j : ℕ) (d : X) → j < length xs → n (get_or xs j d) ≡ k → ⊥ = λ j d lt is. elim (cases_lt j i) [
@@ -116,11 +127,13 @@ module _ {X : Type 0} (n : X → ℕ) where
     apart [] all = refl
     apart (x ∷ xs) all =
         let parts = and_parts (nat_lt k (n x)) (list_all (λ y. nat_lt k (n y)) xs) all in
-        ap (λ b. cond (not b) (x ∷ filter (λ y. not (is_k y)) xs) (filter (λ y. not (is_k y)) xs)) (ne_eqb (n x) k (λ same. omega (arith, same, ltb-true k (n x) parts.0)))
+        ap (λ b. cond (not b) (x ∷ filter (λ y. not (is_k y)) xs) (filter (λ y. not (is_k y)) xs))
+        (ne_eqb (n x) k (λ same. omega (arith, same, ltb-true k (n x) parts.0)))
         ∙ ap (λ rest. x ∷ rest) (apart xs parts.1)
 
     -- so to take out the item at its place is to take out all that have the number
-    removed_at : (xs : List X) (i : ℕ) → rises n xs ≡ true → position_or_len is_k xs ≡ i → i < length xs → remove xs i ≡ filter (λ x. not (is_k x)) xs
+    removed_at : (xs : List X) (i : ℕ) → rises n xs ≡ true → position_or_len is_k xs ≡ i → i < length xs →
+        remove xs i ≡ filter (λ x. not (is_k x)) xs
     removed_at [] i up at lt = absurd (omega arith)
     removed_at (x ∷ xs) i up at lt =
         let parts = parts_of x xs up in
@@ -158,10 +171,12 @@ module _ {X : Type 0} (n : X → ℕ) where
     apart_first (x ∷ xs) zero all = refl
     apart_first (x ∷ xs) (suc m) all =
         let parts = and_parts (nat_lt k (n x)) (list_all (λ y. nat_lt k (n y)) xs) all in
-        ap (λ b. cond (not b) (x ∷ filter (λ y. not (is_k y)) (take m xs)) (filter (λ y. not (is_k y)) (take m xs))) (ne_eqb (n x) k (λ same. omega (arith, same, ltb-true k (n x) parts.0)))
+        ap (λ b. cond (not b) (x ∷ filter (λ y. not (is_k y)) (take m xs)) (filter (λ y. not (is_k y)) (take m xs)))
+        (ne_eqb (n x) k (λ same. omega (arith, same, ltb-true k (n x) parts.0)))
         ∙ ap (λ rest. x ∷ rest) (apart_first xs m parts.1)
 
-    less_one : (xs : List X) (i m : ℕ) → rises n xs ≡ true → position_or_len is_k xs ≡ i → i < m → m ≤ length xs → length (filter (λ x. not (is_k x)) (take m xs)) + 1 ≡ m
+    less_one : (xs : List X) (i m : ℕ) → rises n xs ≡ true → position_or_len is_k xs ≡ i → i < m → m ≤ length xs →
+        length (filter (λ x. not (is_k x)) (take m xs)) + 1 ≡ m
     less_one [] i m up at lt le = absurd (omega arith)
     less_one (x ∷ xs) i zero up at lt le = absurd (omega arith)
     less_one (x ∷ xs) i (suc m) up at lt le =
@@ -169,17 +184,21 @@ module _ {X : Type 0} (n : X → ℕ) where
         let rest = filter (λ y. not (is_k y)) (take m xs) in
         elim (cases_Bool (is_k x)) [
           | inl here ↦
-              let all : rest ≡ take m xs = apart_first xs m (ap (λ l. list_all (λ y. nat_lt l (n y)) xs) (sym (eqb-true (n x) k here)) ∙ parts.0) in
-              let is : length (cond (not (is_k x)) (x ∷ rest) rest) ≡ length (take m xs) = ap (λ b. length (cond (not b) (x ∷ rest) rest)) here ∙ ap length all in
+              let all : rest ≡ take m xs =
+              apart_first xs m (ap (λ l. list_all (λ y. nat_lt l (n y)) xs) (sym (eqb-true (n x) k here)) ∙ parts.0) in
+              let is : length (cond (not (is_k x)) (x ∷ rest) rest) ≡ length (take m xs) =
+              ap (λ b. length (cond (not b) (x ∷ rest) rest)) here ∙ ap length all in
               omega (arith, is, length-take m xs, le)
           | inr there ↦
               let j = position_or_len is_k xs in
               let later : i ≡ suc j = sym at ∙ ap (λ b. cond (not b) (1 + j) 0) there ∙ omega arith in
-              let is : length (cond (not (is_k x)) (x ∷ rest) rest) ≡ length (x ∷ rest) = ap (λ b. length (cond (not b) (x ∷ rest) rest)) there in
+              let is : length (cond (not (is_k x)) (x ∷ rest) rest) ≡ length (x ∷ rest) =
+              ap (λ b. length (cond (not b) (x ∷ rest) rest)) there in
               omega (arith, is, less_one xs j m parts.1 refl (omega (arith, later, lt)) (omega (arith, le)))
         ]
 
-    pub one_less : (xs : List X) (i m : ℕ) → rises n xs ≡ true → position is_k xs ≡ Some i → i < m → m ≤ length xs → length (filter (λ x. not (is_k x)) (take m xs)) ≡ m - 1
+    pub one_less : (xs : List X) (i m : ℕ) → rises n xs ≡ true → position is_k xs ≡ Some i → i < m → m ≤ length xs →
+        length (filter (λ x. not (is_k x)) (take m xs)) ≡ m - 1
     one_less xs i m up is lt le =
         let at = position_or_len is_k xs in
         let parts = cond_some (nat_lt at (length xs)) at i is in
@@ -199,14 +218,18 @@ module _ {X : Type 0} (n : X → ℕ) where
           ∙ ap (λ rest. x ∷ rest) (as_many xs m (omega (arith, le, later)))
     ]
 
-    pub none_less : (xs : List X) (i m : ℕ) → position is_k xs ≡ Some i → m ≤ i → m ≤ length xs → length (filter (λ x. not (is_k x)) (take m xs)) ≡ m
+    pub none_less : (xs : List X) (i m : ℕ) → position is_k xs ≡ Some i → m ≤ i → m ≤ length xs →
+        length (filter (λ x. not (is_k x)) (take m xs)) ≡ m
     none_less xs i m is behind le =
         let at = position_or_len is_k xs in
         let parts = cond_some (nat_lt at (length xs)) at i is in
         ap length (as_many xs m (omega (arith, behind, parts.1))) ∙ omega (arith, length-take m xs, le)
 
     past : (at len : ℕ) → cond {A = Option ℕ} (nat_lt at len) (Some at) None ≡ None → len ≤ at
-    past at len none = elim (cases_Bool (nat_lt at len)) [ inl passes ↦ absurd (cc (ap (λ b. cond {A = Option ℕ} b (Some at) None) passes)) | inr fails ↦ ltb-false at len fails ]
+    past at len none = elim (cases_Bool (nat_lt at len)) [
+      | inl passes ↦ absurd (cc (ap (λ b. cond {A = Option ℕ} b (Some at) None) passes))
+      | inr fails ↦ ltb-false at len fails
+    ]
 
     pub none_taken : (xs : List X) (m : ℕ) → position is_k xs ≡ None → m ≤ length xs → filter (λ x. not (is_k x)) (take m xs) ≡ take m xs
     none_taken xs m none le = as_many xs m (omega (arith, le, past (position_or_len is_k xs) (length xs) none))
@@ -215,7 +238,10 @@ module _ {X : Type 0} (n : X → ℕ) where
     none_fewer xs m none le = ap length (none_taken xs m none le) ∙ omega (arith, length-take m xs, le)
 
     pub none_removed : (xs : List X) → position is_k xs ≡ None → filter (λ x. not (is_k x)) xs ≡ xs
-    none_removed xs none = ap (filter (λ x. not (is_k x))) (sym (take_all (length xs) xs (omega arith))) ∙ none_taken xs (length xs) none (omega arith) ∙ take_all (length xs) xs (omega arith)
+    none_removed xs none =
+        ap (filter (λ x. not (is_k x))) (sym (take_all (length xs) xs (omega arith)))
+        ∙ none_taken xs (length xs) none (omega arith)
+        ∙ take_all (length xs) xs (omega arith)
 
     -- what a search finds stands at the place
     pub found_at : (xs : List X) (i : ℕ) → position is_k xs ≡ Some i → find is_k xs ≡ slice_get xs i

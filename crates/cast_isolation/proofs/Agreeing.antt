@@ -12,7 +12,8 @@ own_events_decide here config events others answers told g h same x y =
     let first : Outcome = record { answers = x.taken; sent = g.sent; pushed = x.pushed; end = x.end } in
     let second : Outcome = record { answers = y.taken; sent = h.sent; pushed = y.pushed; end = y.end } in
     let one : first ≡ second =
-    run_is_one (opening here config) (own config.domain others) first second (subst (λ (es : List Event). RunsAs (opening here config) es first) same x.runs) y.runs in (
+    run_is_one (opening here config) (own config.domain others)
+    first second (subst (λ (es : List Event). RunsAs (opening here config) es first) same x.runs) y.runs in (
       (λ i. record {
         domain = (x.domain ∙ sym y.domain) i;
         pushes = (x.pushes ∙ ap (λ (o : Outcome). by_session o.pushed) one ∙ sym y.pushes) i;

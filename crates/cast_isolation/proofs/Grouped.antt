@@ -1,5 +1,6 @@
 -- Entries by session, with one more at their end.
-use Rattle.std.proofs.Common.{◌≡◌, ◌≢◌, ℕ, zero, suc, ◌+◌, ◌-◌, ◌<◌, ◌≤◌, max, ◌==◌, false, cond, List, [], ◌∷◌, ◌++◌, map, filter, length, get_or, set, replicate, refl, sym, ap, ◌∙◌, append_assoc, arith}
+use Rattle.std.proofs.Common.{◌≡◌, ◌≢◌, ℕ, zero, suc, ◌+◌, ◌-◌, ◌<◌, ◌≤◌, max, ◌==◌, false, cond, List, [], ◌∷◌, ◌++◌}
+use Rattle.std.proofs.Common.{map, filter, length, get_or, set, replicate, refl, sym, ap, ◌∙◌, append_assoc, arith}
 use Rattle.std.specs.List.{range_with_len}
 use Rattle.std.proofs.lemmas.Bool.{eq-eqb, ne_eqb}
 use Rattle.std.proofs.lemmas.List.{append-nil, map-append, replicate_more}
@@ -18,7 +19,8 @@ same_mapped f g a (suc n) same =
     λ i. same a (omega arith) i ∷ later i
 
 -- another value at one place
-set_mapped : {X : Type 0} (f g : ℕ → X) (a n i k : ℕ) → i < n → a + i ≡ k → ((j : ℕ) → j ≢ k → f j ≡ g j) → set (map f (range_with_len a n)) i (g k) ≡ map g (range_with_len a n)
+set_mapped : {X : Type 0} (f g : ℕ → X) (a n i k : ℕ) → i < n → a + i ≡ k → ((j : ℕ) → j ≢ k → f j ≡ g j) →
+    set (map f (range_with_len a n)) i (g k) ≡ map g (range_with_len a n)
 set_mapped f g a zero i k below at same = absurd (omega arith)
 set_mapped f g a (suc n) zero k below at same =
     let first : k ≡ a = omega arith in
@@ -39,7 +41,8 @@ none_for (x ∷ pushed) j below =
     ap (λ b. map (λ (y : ℕ × Push). y.1) (cond b (x ∷ rest) rest)) other ∙ none_for pushed j (omega arith)
 
 -- lists of sessions behind the last are empty
-none_behind : (pushed : List (ℕ × Push)) (n m : ℕ) → last_serial pushed ≤ n → map (entries_for pushed) (range_with_len 1 n) ++ replicate m [] ≡ map (entries_for pushed) (range_with_len 1 (n + m))
+none_behind : (pushed : List (ℕ × Push)) (n m : ℕ) → last_serial pushed ≤ n →
+    map (entries_for pushed) (range_with_len 1 n) ++ replicate m [] ≡ map (entries_for pushed) (range_with_len 1 (n + m))
 none_behind pushed n zero within =
     let all : n ≡ n + 0 = omega arith in
     append-nil (map (entries_for pushed) (range_with_len 1 n)) ∙ ap (λ k. map (entries_for pushed) (range_with_len 1 k)) all
@@ -60,7 +63,8 @@ module _ (k : ℕ) (p : Push) where
   last_more (x ∷ pushed) =
       ap (max x.0) (last_more pushed) ∙ omega arith
 
-  entries_more : (pushed : List (ℕ × Push)) (j : ℕ) → entries_for (pushed ++ (k, p) ∷ []) j ≡ entries_for pushed j ++ entries_for ((k, p) ∷ []) j
+  entries_more : (pushed : List (ℕ × Push)) (j : ℕ) →
+      entries_for (pushed ++ (k, p) ∷ []) j ≡ entries_for pushed j ++ entries_for ((k, p) ∷ []) j
   entries_more pushed j =
       ap (map (λ (y : ℕ × Push). y.1)) (filter-append (λ (y : ℕ × Push). y.0 == j) pushed ((k, p) ∷ []))
       ∙ map-append (λ (y : ℕ × Push). y.1) (filter (λ y. y.0 == j) pushed) (filter (λ y. y.0 == j) ((k, p) ∷ []))
@@ -78,17 +82,20 @@ module _ (k : ℕ) (p : Push) where
       ∙ sym (entries_more pushed k)
 
 -- no session has the serial 0
-pub nowhere_more : (pushed : List (ℕ × Push)) (p : Push) → by_session pushed ++ replicate (0 - length (by_session pushed)) [] ≡ by_session (pushed ++ (0, p) ∷ [])
+pub nowhere_more : (pushed : List (ℕ × Push)) (p : Push) →
+    by_session pushed ++ replicate (0 - length (by_session pushed)) [] ≡ by_session (pushed ++ (0, p) ∷ [])
 nowhere_more pushed p =
     let none : 0 - length (by_session pushed) ≡ 0 = omega arith in
     let last : last_serial (pushed ++ (0, p) ∷ []) ≡ last_serial pushed = last_more 0 p pushed ∙ omega arith in
     ap (λ n. by_session pushed ++ replicate n []) none
     ∙ append-nil (by_session pushed)
-    ∙ same_mapped (entries_for pushed) (entries_for (pushed ++ (0, p) ∷ [])) 1 (last_serial pushed) (λ j above. other_same 0 p pushed j (λ is. absurd (omega arith)))
+    ∙ same_mapped (entries_for pushed) (entries_for (pushed ++ (0, p) ∷ [])) 1 (last_serial pushed)
+    (λ j above. other_same 0 p pushed j (λ is. absurd (omega arith)))
     ∙ sym (ap (λ n. map (entries_for (pushed ++ (0, p) ∷ [])) (range_with_len 1 n)) last)
 
 -- the lists reach the session of a serial
-pub reached : (pushed : List (ℕ × Push)) (k : ℕ) → by_session pushed ++ replicate (k - length (by_session pushed)) [] ≡ map (entries_for pushed) (range_with_len 1 (max (last_serial pushed) k))
+pub reached : (pushed : List (ℕ × Push)) (k : ℕ) → by_session pushed ++ replicate (k - length (by_session pushed))
+    [] ≡ map (entries_for pushed) (range_with_len 1 (max (last_serial pushed) k))
 reached pushed k =
     let long = length-map-range_with_len (entries_for pushed) 1 (last_serial pushed) in
     let last : last_serial pushed + (k - last_serial pushed) ≡ max (last_serial pushed) k = omega arith in
@@ -97,7 +104,9 @@ reached pushed k =
     ∙ ap (λ n. map (entries_for pushed) (range_with_len 1 n)) last
 
 -- and its own has the entry at the end
-pub session_more : (pushed : List (ℕ × Push)) (k i : ℕ) → 1 + i ≡ k → (p : Push) (lists : List (List Push)) → lists ≡ by_session pushed ++ replicate (k - length (by_session pushed)) [] → (own : List Push) → own ≡ get_or lists i own → set lists i (own ++ p ∷ []) ≡ by_session (pushed ++ (k, p) ∷ [])
+pub session_more : (pushed : List (ℕ × Push)) (k i : ℕ) → 1 + i ≡ k → (p : Push) (lists : List (List Push)) →
+    lists ≡ by_session pushed ++ replicate (k - length (by_session pushed)) [] → (own : List Push) → own ≡ get_or lists i own →
+    set lists i (own ++ p ∷ []) ≡ by_session (pushed ++ (k, p) ∷ [])
 session_more pushed k i at p lists is own read =
     let f : ℕ → List Push = entries_for pushed in
     let g : ℕ → List Push = entries_for (pushed ++ (k, p) ∷ []) in

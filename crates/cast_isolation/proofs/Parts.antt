@@ -20,7 +20,8 @@ push_chosen : {X : Type 0} (b : Bool) (x : X) (xs ys : List X) → cond b (x ∷
 push_chosen true x xs ys = refl
 push_chosen false x xs ys = refl
 
-pub named_more : {X : Type 0} (d : DomainNo) (events : List Event) (answers : List X) (e : Event) (a : X) → length events ≡ length answers → named_answers d (events ++ e ∷ []) (answers ++ a ∷ []) ≡ named_answers d events answers ++ named_answers d (e ∷ []) (a ∷ [])
+pub named_more : {X : Type 0} (d : DomainNo) (events : List Event) (answers : List X) (e : Event) (a : X) → length events ≡ length answers →
+    named_answers d (events ++ e ∷ []) (answers ++ a ∷ []) ≡ named_answers d events answers ++ named_answers d (e ∷ []) (a ∷ [])
 named_more d [] [] e a long = refl
 named_more d [] (b ∷ answers) e a long = absurd (omega arith)
 named_more d (f ∷ events) [] e a long = absurd (omega arith)
@@ -49,17 +50,20 @@ own_at_within d [] place at = absurd (false≢true at)
 own_at_within d (e ∷ events) zero at = omega arith
 own_at_within d (e ∷ events) (suc place) at = let later = own_at_within d events place at in omega (arith, later)
 
-pub own_at_more : (d : DomainNo) (events more : List Event) (place : ℕ) → is_own_at d events place ≡ true → is_own_at d (events ++ more) place ≡ true
+pub own_at_more : (d : DomainNo) (events more : List Event) (place : ℕ) → is_own_at d events place ≡ true →
+    is_own_at d (events ++ more) place ≡ true
 own_at_more d [] more place at = absurd (false≢true at)
 own_at_more d (e ∷ events) more zero at = at
 own_at_more d (e ∷ events) more (suc place) at = own_at_more d events more place at
 
-pub own_at_last : (d : DomainNo) (events : List Event) (e : Event) → is_own d e ≡ true → is_own_at d (events ++ e ∷ []) (length events) ≡ true
+pub own_at_last : (d : DomainNo) (events : List Event) (e : Event) → is_own d e ≡ true →
+    is_own_at d (events ++ e ∷ []) (length events) ≡ true
 own_at_last d [] e its = its
 own_at_last d (f ∷ events) e its = own_at_last d events e its
 
 -- answers to later events are none of the first ones
-pub named_front : {X : Type 0} (d : DomainNo) (events : List Event) (answers more : List X) → length events ≤ length answers → named_answers d events (answers ++ more) ≡ named_answers d events answers
+pub named_front : {X : Type 0} (d : DomainNo) (events : List Event) (answers more : List X) → length events ≤ length answers →
+    named_answers d events (answers ++ more) ≡ named_answers d events answers
 named_front d [] answers more few = refl
 named_front d (e ∷ events) [] more few = absurd (omega arith)
 named_front d (e ∷ events) (a ∷ answers) more few =
@@ -67,7 +71,8 @@ named_front d (e ∷ events) (a ∷ answers) more few =
 
 -- more with the numbers of domains
 
-pub tagged_more : {A B : Type 0} (d : DomainNo) (before more : List (DomainNo × A × B)) → without_domain (of_domain d (before ++ more)) ≡ without_domain (of_domain d before) ++ without_domain (of_domain d more)
+pub tagged_more : {A B : Type 0} (d : DomainNo) (before more : List (DomainNo × A × B)) →
+    without_domain (of_domain d (before ++ more)) ≡ without_domain (of_domain d before) ++ without_domain (of_domain d more)
 tagged_more {A} {B} d before more =
     ap without_domain (filter-append (λ (x : DomainNo × A × B). domain_eq x.0 d) before more)
     ∙ map-append (λ (x : DomainNo × A × B). (x.1, x.2)) (of_domain d before) (of_domain d more)
@@ -79,7 +84,8 @@ tagged_own {A} {B} d (x ∷ xs) =
     ap (λ b. without_domain (cond b ((d, x.0, x.1) ∷ rest) rest)) (domain_itself d)
     ∙ ap (λ (later : List (A × B)). x ∷ later) (tagged_own d xs)
 
-pub tagged_other : {A B : Type 0} (d q : DomainNo) (xs : List (A × B)) → domain_eq d q ≡ false → without_domain (of_domain q (with_domain d xs)) ≡ []
+pub tagged_other : {A B : Type 0} (d q : DomainNo) (xs : List (A × B)) → domain_eq d q ≡ false →
+    without_domain (of_domain q (with_domain d xs)) ≡ []
 tagged_other d q [] differ = refl
 tagged_other {A} {B} d q (x ∷ xs) differ =
     let rest : List (DomainNo × A × B) = of_domain q (with_domain d xs) in

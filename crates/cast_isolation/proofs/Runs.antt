@@ -9,7 +9,9 @@ use Rattle.cast_events.specs.declared.event.Taken.{Taken}
 use Rattle.cast_rules.specs.State.{State}
 use Rattle.cast_rules.specs.Run.{IsRun, IsStep}
 
-pub run_more : (s : State) (events : List Event) (answers : List Taken) (sent : List (SiteNo × SiteFrame)) (pushed : List (ℕ × Push)) (t : State) (e : Event) (a : Taken) (u : State) → IsRun s events answers sent pushed t → IsStep t e a u → IsRun s (events ++ e ∷ []) (answers ++ a ∷ []) (sent ++ u.frames) (pushed ++ u.pushes) u
+pub run_more : (s : State) (events : List Event) (answers : List Taken) (sent : List (SiteNo × SiteFrame)) (pushed : List (ℕ × Push))
+    (t : State) (e : Event) (a : Taken) (u : State) → IsRun s events answers sent pushed t → IsStep t e a u →
+    IsRun s (events ++ e ∷ []) (answers ++ a ∷ []) (sent ++ u.frames) (pushed ++ u.pushes) u
 run_more s [] [] sent pushed t e a u run step = (
   u,
   [],
@@ -32,7 +34,8 @@ run_more s (f ∷ events) (b ∷ answers) sent pushed t e a u run step =
       more,
     )
 
-pub run_length : (s : State) (events : List Event) (answers : List Taken) (sent : List (SiteNo × SiteFrame)) (pushed : List (ℕ × Push)) (t : State) → IsRun s events answers sent pushed t → length events ≡ length answers
+pub run_length : (s : State) (events : List Event) (answers : List Taken) (sent : List (SiteNo × SiteFrame)) (pushed : List (ℕ × Push))
+    (t : State) → IsRun s events answers sent pushed t → length events ≡ length answers
 run_length s [] [] sent pushed t run = refl
 run_length s [] (b ∷ answers) sent pushed t run = absurd run
 run_length s (f ∷ events) [] sent pushed t run = absurd run

@@ -1,6 +1,8 @@
 -- What a replay gives: for each domain, what a daemon gives that serves it alone.
 -- It gives that up to where want of memory halted the domain.
-use Rattle.std.specs.Prelude.{◌≡◌, ◌==◌, ℕ, ◌+◌, ◌<◌, max, Bool, true, false, if◌then◌else◌, List, [], ◌∷◌, ◌++◌, map, filter, take, slice_get, Option, Some, None, is_some, Result, Ok, Err, ◌↔◌}
+use Rattle.std.specs.Prelude.{◌≡◌, ◌==◌, ℕ, ◌+◌, ◌<◌, max, Bool, true, false}
+use Rattle.std.specs.Prelude.{if◌then◌else◌, List, [], ◌∷◌, ◌++◌, map, filter, take}
+use Rattle.std.specs.Prelude.{slice_get, Option, Some, None, is_some, Result, Ok, Err, ◌↔◌}
 use Rattle.std.specs.Option.{option_map_or}
 use Rattle.std.specs.List.{AllZip, find, range_with_len}
 use Rattle.cast_types.specs.declared.names.DomainNo.{DomainNo}
@@ -64,9 +66,12 @@ last_serial (x ∷ pushed) = max x.0 (last_serial pushed)
 abbrev pub by_session : List (ℕ × Push) → List (List Push)
 by_session pushed = map (entries_for pushed) (range_with_len 1 (last_serial pushed))
 
--- the lists by session of whatever entries become those with one entry more, pushed to the session of a serial
+-- the lists by session of whatever entries become those with one entry more, pushed to the session
+-- of a serial
 abbrev pub AddsEntry : ℕ → Push → List (List Push) → List (List Push) → Type 0
-AddsEntry k entry old new = (pushed : List (ℕ × Push)) → old ≡ by_session pushed → new ≡ by_session (pushed ++ (k, entry) ∷ [])
+AddsEntry k entry old new =
+    (pushed : List (ℕ × Push)) → old ≡ by_session pushed
+    → new ≡ by_session (pushed ++ (k, entry) ∷ [])
 
 -- an answer says that there was no memory to begin with
 abbrev pub lacks_memory : Result Taken Fault → Bool
@@ -87,8 +92,8 @@ given_of outs d =
 
 -- Where domains were halted
 
--- a domain as it was served: how it is configured, and the place, from 0 on, of the event at which want of memory halted
--- it, if one did
+-- a domain as it was served: how it is configured, and the place, from 0 on, of the event at which
+-- want of memory halted it, if one did
 pub record Served : Type 0 where
   pub config : DomainConfig
   pub halt : Option ℕ
@@ -120,15 +125,16 @@ served_as d served = find (λ s. domain_eq s.config.domain d) served
 
 -- Answers
 
--- the answer to a tick, by the domains that it halted: the least of them, or that there is nothing to tell
+-- the answer to a tick, by the domains that it halted: the least of them, or that there is nothing
+-- to tell
 abbrev pub IsTickAnswer : List DomainNo → Result Taken Fault → Type 0
 IsTickAnswer halted (Ok taken) = (taken ≡ Nothing) × IsLeastOf None halted
 IsTickAnswer halted (Err NoMemory) = ⊥
 IsTickAnswer halted (Err (Halted d)) = IsLeastOf (Some d) halted
 IsTickAnswer halted (Err NoDomain) = ⊥
 
--- the answer at a place to an event that names a domain, by where that was halted: there it tells so, behind it refuses.
--- What it is before, the domain says where it is served alone
+-- the answer at a place to an event that names a domain, by where that was halted: there it tells
+-- so, behind it refuses. What it is before, the domain says where it is served alone
 abbrev pub IsNamedAnswer : ℕ → DomainNo → Option ℕ → Result Taken Fault → Type 0
 IsNamedAnswer place d None answer = Unit {0}
 IsNamedAnswer place d (Some halt) answer =
@@ -162,9 +168,10 @@ AreAnswers served events answers = AreAnswersFrom 0 served events answers
 
 -- Whole replays
 
--- what is given for a domain that was served so: up to its halt it answered, sent and pushed what a daemon does that serves
--- it alone, with its own events and no other
-pub record IsServed (here : SiteNo) (events : List Event) (answers : List (Result Taken Fault)) (s : Served) (g : Given) : Type 0 where
+-- what is given for a domain that was served so: up to its halt it answered, sent and pushed what a
+-- daemon does that serves it alone, with its own events and no other
+pub record IsServed (here : SiteNo) (events : List Event) (answers : List (Result Taken Fault))
+    (s : Served) (g : Given) : Type 0 where
   pub domain : g.domain ≡ s.config.domain
   pub shown : g.halted ≡ is_some s.halt
   -- none but its own event halts a domain
@@ -172,28 +179,32 @@ pub record IsServed (here : SiteNo) (events : List Event) (answers : List (Resul
   pub taken : List Taken
   pub pushed : List (ℕ × Push)
   pub end : State
-  pub answered : named_answers s.config.domain (until s.halt events) answers ≡ map Ok (named_answers s.config.domain (taken_by s events) taken)
+  pub answered : named_answers s.config.domain (until s.halt events) answers
+      ≡ map Ok (named_answers s.config.domain (taken_by s events) taken)
   pub runs : IsRun (opening here s.config) (taken_by s events) taken g.sent pushed end
   pub pushes : g.pushes ≡ by_session pushed
 
--- a log is all that comes of the events: each configured domain is served, in the order of the configuration, and each
--- event is answered by where want of memory halted domains
+-- a log is all that comes of the events: each configured domain is served, in the order of the
+-- configuration, and each event is answered by where want of memory halted domains
 pub record IsReplay (config : Config) (events : List Event) (log : Log) : Type 0 where
   pub served : List Served
   pub configured : map (λ s. s.config) served ≡ config.domains
   pub given : AllZip (IsServed config.site events log.answers) served log.given
   pub answers : AreAnswers served events log.answers
 
--- what the log of a replay says, where no two domains have one number and each names its groups in rising order
+-- what the log of a replay says, where no two domains have one number and each names its groups in
+-- rising order
 abbrev pub SaysReplay : Config → List Event → Log → Type 0
 SaysReplay config events log =
-    are_distinct config.domains ≡ true → have_rising_groups config.domains ≡ true → IsReplay config events log
+    are_distinct config.domains ≡ true → have_rising_groups config.domains ≡ true
+    → IsReplay config events log
 
 -- an event is for a domain: it names one that is configured, or is a tick
 abbrev pub finds_domain : Event → List DomainConfig → Bool
 finds_domain event configs = option_map_or (λ d. is_configured d configs) (domain_of event) true
 
--- an event is answered that it names no domain exactly where it names one that is not configured; a tick never is
+-- an event is answered that it names no domain exactly where it names one that is not configured; a
+-- tick never is
 abbrev pub TellsNoDomain : List DomainConfig → Event → Result Taken Fault → Type 0
 TellsNoDomain configs event answer = (answer ≡ Err NoDomain) ↔ (finds_domain event configs ≡ false)
 

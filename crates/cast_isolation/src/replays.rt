@@ -1,8 +1,11 @@
 ghost use Rattle.std.specs.Prelude.{◌≡◌, ◌-◌, ◌++◌, [], IfOk, OnOk, length, map, replicate};
 ghost use Rattle.std.specs.List.{find};
 ghost use Rattle.cast_domain.specs.Records.{number_of};
-ghost use Rattle.cast_table.specs.Tables.{AreApplied, domain_eq, domains_of, pick_domains, without, InTable};
-ghost use Rattle.cast_isolation.specs.Replays.{AddsEntry, AnswersNoDomain, by_session, frames_of, given_of, lacks_memory, of_domain, without_domain, SaysReplay};
+ghost use Rattle.cast_table.specs.Tables.{AreApplied, domain_eq, domains_of};
+ghost use Rattle.cast_table.specs.Tables.{pick_domains, without, InTable};
+ghost use Rattle.cast_isolation.specs.Replays.{AddsEntry, AnswersNoDomain, by_session};
+ghost use Rattle.cast_isolation.specs.Replays.{frames_of, given_of, lacks_memory};
+ghost use Rattle.cast_isolation.specs.Replays.{of_domain, without_domain, SaysReplay};
 
 use crate::watch::{Unwatched, Watch};
 use cast_domain::Domain;
@@ -12,9 +15,9 @@ use cast_table::{Table, place_of};
 use cast_types::{DomainNo, List, NoMemory, SiteNo};
 use std::alloc::{AllocError, Global};
 
-/// Applies events one after another to a daemon that was just started. Until want of memory halts it, each domain answers,
-/// sends and pushes what it does where it is served alone, with no other event. `NoMemory` where an event finds no memory
-/// to begin with, or the log has no room.
+/// Applies events one after another to a daemon that was just started. Until want of memory halts
+/// it, each domain answers, sends and pushes what it does where it is served alone, with no other
+/// event. `NoMemory` where an event finds no memory to begin with, or the log has no room.
 pub fn replay(alloc: Global, config: Config, events: &[Event]) -> Result<Log, NoMemory>
     ensures all { IfOk result (λ log. length log.answers ≡ length events.now) }
     ensures replayed { IfOk result (SaysReplay config events.now) }
@@ -41,8 +44,8 @@ pub fn replay_watched<P: Watch>(
     Ok(Log { answers, given })
 }
 
-// Applies events one after another, and gathers the answers. `NoMemory` where an event finds no memory to begin with, or
-// the answers have no room.
+// Applies events one after another, and gathers the answers. `NoMemory` where an event finds no
+// memory to begin with, or the answers have no room.
 fn apply_each<P: Watch>(
     alloc: Global,
     table: &mut Table,
@@ -50,7 +53,8 @@ fn apply_each<P: Watch>(
     outs: &mut Outs,
     watch: &mut P,
 ) -> Result<List<Result<Taken, Fault>>, NoMemory>
-    ensures { IfOk result (λ all. InTable (AreApplied all events.now) table.old outs.old table.new outs.new) }
+    ensures { IfOk result
+        (λ all. InTable (AreApplied all events.now) table.old outs.old table.new outs.new) }
 {
     let mut answers = List::new(alloc);
     watch.begin(events.len());
@@ -79,7 +83,8 @@ fn given_by_all(
     table: Table,
     outs: &Outs,
 ) -> Result<List<Given>, NoMemory>
-    ensures { IfOk result (λ given. given ≡ map (given_of outs.now) (pick_domains config.now.domains (domains_of table))) }
+    ensures { IfOk result (λ given.
+        given ≡ map (given_of outs.now) (pick_domains config.now.domains (domains_of table))) }
 {
     let mut domains = table.into_domains();
     let mut given = List::new(alloc);
@@ -180,7 +185,8 @@ fn add_entry(
 
 // Adds empty lists until there are so many.
 fn reach(alloc: Global, sessions: &mut Vec<List<Push>>, len: usize) -> Result<(), NoMemory>
-    ensures { OnOk result (sessions.new.items ≡ sessions.old.items ++ replicate (len - length sessions.old.items) []) }
+    ensures { OnOk result (sessions.new.items
+        ≡ sessions.old.items ++ replicate (len - length sessions.old.items) []) }
 {
     let missing = len.saturating_sub(sessions.len());
     for _more in 0..missing {

@@ -1,5 +1,6 @@
 -- Frames, each behind its length.
-use Rattle.std.proofs.Common.{◌≡◌, ℕ, ◌+◌, ◌≤◌, ◌<◌, List, [], ◌∷◌, ◌++◌, length, take, drop, get_or, Some, None, true, refl, sym, ap, ◌∙◌, append_assoc, arith}
+use Rattle.std.proofs.Common.{◌≡◌, ℕ, ◌+◌, ◌≤◌, ◌<◌, List, [], ◌∷◌, ◌++◌, length, take, drop}
+use Rattle.std.proofs.Common.{get_or, Some, None, true, refl, sym, ap, ◌∙◌, append_assoc, arith}
 use Rattle.std.specs.Prelude.{IsTrue, nat_lt}
 use Rattle.std.specs.List.{flat_map}
 use Rattle.std.specs.Int.{w16, to_be_bytes, from_be_bytes}
@@ -17,7 +18,8 @@ use Rattle.cast_link.specs.Bundles.{in_bundle, fit, BeginsAsBundle, IsBundle, Is
 -- whatever frames these bytes are, the rest are some of them
 abbrev pub LeadsTo : List ℕ → List ℕ → Type 0
 LeadsTo bytes rest =
-    (all : List (List ℕ)) → IsTrue (fit all) → bytes ≡ flat_map in_bundle all → (left : List (List ℕ)) × IsTrue (fit left) × (rest ≡ flat_map in_bundle left)
+    (all : List (List ℕ)) → IsTrue (fit all) → bytes ≡ flat_map in_bundle all →
+    (left : List (List ℕ)) × IsTrue (fit left) × (rest ≡ flat_map in_bundle left)
 
 -- ---- the first of some frames
 
@@ -29,13 +31,15 @@ says : (n m : ℕ) (more : List ℕ) → n < 65536 → m < 65536 → take 2 (to_
 says n m more lt lt_m e = sym (from_be_bytes-to_be_bytes_2 m lt_m) ∙ (ap (from_be_bytes w16) e ∙ from_be_bytes-to_be_bytes_2 n lt)
 
 -- the others are what stands behind it
-others : (n : ℕ) (rest frame more : List ℕ) → length frame < 65536 → IsFirst rest (Some n) → rest ≡ in_bundle frame ++ more → drop n (drop 2 rest) ≡ more
+others : (n : ℕ) (rest frame more : List ℕ) → length frame < 65536 → IsFirst rest (Some n) → rest ≡ in_bundle frame ++ more →
+    drop n (drop 2 rest) ≡ more
 others n rest frame more short first is =
     let there : rest ≡ to_be_bytes w16 (length frame) ++ (frame ++ more) = is ∙ append_assoc (to_be_bytes w16 (length frame)) frame more in
     let same : length frame ≡ n = says n (length frame) (frame ++ more) first.1 short (ap (take 2) (sym there) ∙ first.0) in
     ap (λ (l : List ℕ). drop n (drop 2 l)) there ∙ (ap (λ (k : ℕ). drop k (frame ++ more)) (sym same) ∙ drop-append_seam frame more)
 
-leads_on : (n : ℕ) (rest : List ℕ) (left : List (List ℕ)) → IsFirst rest (Some n) → IsTrue (fit left) → rest ≡ flat_map in_bundle left → (next : List (List ℕ)) × IsTrue (fit next) × (drop n (drop 2 rest) ≡ flat_map in_bundle next)
+leads_on : (n : ℕ) (rest : List ℕ) (left : List (List ℕ)) → IsFirst rest (Some n) → IsTrue (fit left) → rest ≡ flat_map in_bundle left →
+    (next : List (List ℕ)) × IsTrue (fit next) × (drop n (drop 2 rest) ≡ flat_map in_bundle next)
 leads_on n rest [] first fits is = absurd (omega (arith, first.2, ap length is))
 leads_on n rest (frame ∷ left) first fits is =
     let parts = and_parts (nat_lt (length frame) 65536) (fit left) fits in
@@ -47,7 +51,8 @@ led_further bytes rest n leads first all fits are =
     leads_on n rest left.0 first left.1 left.2
 
 -- no frame stands there
-none_there : (rest : List ℕ) (left : List (List ℕ)) → 1 ≤ length rest → IsFirst rest None → IsTrue (fit left) → rest ≡ flat_map in_bundle left → ⊥
+none_there : (rest : List ℕ) (left : List (List ℕ)) → 1 ≤ length rest → IsFirst rest None → IsTrue (fit left) →
+    rest ≡ flat_map in_bundle left → ⊥
 none_there rest [] some first fits is = omega (arith, some, ap length is)
 none_there rest (frame ∷ left) some first fits is =
     first frame (flat_map in_bundle left) (ltb-true (length frame) 65536 (and_parts (nat_lt (length frame) 65536) (fit left) fits).0) is
@@ -58,7 +63,8 @@ splits_none bytes rest leads some first all fits are =
     none_there rest left.0 some first left.1 left.2
 
 -- frames of the same bytes are the same
-pub same_frames : (frames others : List (List ℕ)) → IsTrue (fit frames) → IsTrue (fit others) → flat_map in_bundle frames ≡ flat_map in_bundle others → frames ≡ others
+pub same_frames : (frames others : List (List ℕ)) → IsTrue (fit frames) → IsTrue (fit others) →
+    flat_map in_bundle frames ≡ flat_map in_bundle others → frames ≡ others
 same_frames [] [] fits fits_others same = refl
 same_frames [] (other ∷ others) fits fits_others same = absurd (omega (arith, ap length same, length_in other (flat_map in_bundle others)))
 same_frames (frame ∷ frames) [] fits fits_others same = absurd (omega (arith, ap length same, length_in frame (flat_map in_bundle frames)))
@@ -68,14 +74,23 @@ same_frames (frame ∷ frames) (other ∷ others) fits fits_others same =
     let more = flat_map in_bundle frames in
     let more_other = flat_map in_bundle others in
     let there : to_be_bytes w16 (length frame) ++ (frame ++ more) ≡ to_be_bytes w16 (length other) ++ (other ++ more_other) =
-    sym (append_assoc (to_be_bytes w16 (length frame)) frame more) ∙ (same ∙ append_assoc (to_be_bytes w16 (length other)) other more_other) in
+    sym (append_assoc (to_be_bytes w16 (length frame)) frame more)
+    ∙ (same
+    ∙ append_assoc (to_be_bytes w16 (length other)) other more_other) in
     let long : length frame ≡ length other =
-    says (length other) (length frame) (frame ++ more) (ltb-true (length other) 65536 parts_other.0) (ltb-true (length frame) 65536 parts.0) (ap (take 2) there) in
+    says (length other) (length frame) (frame ++ more) (ltb-true (length other) 65536 parts_other.0) (ltb-true (length frame) 65536 parts.0)
+    (ap (take 2) there) in
     let behind_both : frame ++ more ≡ other ++ more_other = ap (drop 2) there in
     let first : frame ≡ other =
-    sym (take-append_seam frame more) ∙ (ap (take (length frame)) behind_both ∙ (ap (λ (k : ℕ). take k (other ++ more_other)) long ∙ take-append_seam other more_other)) in
+    sym (take-append_seam frame more)
+    ∙ (ap (take (length frame)) behind_both
+    ∙ (ap (λ (k : ℕ). take k (other ++ more_other)) long
+    ∙ take-append_seam other more_other)) in
     let rest : more ≡ more_other =
-    sym (drop-append_seam frame more) ∙ (ap (drop (length frame)) behind_both ∙ (ap (λ (k : ℕ). drop k (other ++ more_other)) long ∙ drop-append_seam other more_other)) in
+    sym (drop-append_seam frame more)
+    ∙ (ap (drop (length frame)) behind_both
+    ∙ (ap (λ (k : ℕ). drop k (other ++ more_other)) long
+    ∙ drop-append_seam other more_other)) in
     ap (λ (l : List (List ℕ)). frame ∷ l) (same_frames frames others parts.1 parts_other.1 rest) ∙ ap (λ (l : List ℕ). l ∷ others) first
 
 -- ---- those that were split off
@@ -92,26 +107,31 @@ taken_off rest n first =
     let same : length frame ≡ n = length-take-le n (drop 2 rest) whole in
     sym (take-append-drop 2 rest)
     ∙ (ap (λ (l : List ℕ). l ++ drop 2 rest) (first.0 ∙ ap (to_be_bytes w16) (sym same))
-    ∙ (ap (λ (l : List ℕ). to_be_bytes w16 (length frame) ++ l) (sym (take-append-drop n (drop 2 rest))) ∙ sym (append_assoc (to_be_bytes w16 (length frame)) frame more)))
+    ∙ (ap (λ (l : List ℕ). to_be_bytes w16 (length frame) ++ l) (sym (take-append-drop n (drop 2 rest)))
+    ∙ sym (append_assoc (to_be_bytes w16 (length frame)) frame more)))
 
 -- so many frames and the rest are these bytes
 pub record HasSplit (bytes : List ℕ) (frames : List (List ℕ)) (rest : List ℕ) : Type 0 where
   pub fitting : IsTrue (fit frames)
   pub spelled : bytes ≡ flat_map in_bundle frames ++ rest
 
-pub one_more : (bytes rest : List ℕ) (frames : List (List ℕ)) (n : ℕ) → HasSplit bytes frames rest → IsFirst rest (Some n) → HasSplit bytes (frames ++ take n (drop 2 rest) ∷ []) (drop n (drop 2 rest))
+pub one_more : (bytes rest : List ℕ) (frames : List (List ℕ)) (n : ℕ) → HasSplit bytes frames rest → IsFirst rest (Some n) →
+    HasSplit bytes (frames ++ take n (drop 2 rest) ∷ []) (drop n (drop 2 rest))
 one_more bytes rest frames n split first =
     let frame = take n (drop 2 rest) in
     let more = drop n (drop 2 rest) in
     let same : length frame ≡ n = length-take-le n (drop 2 rest) (fits_behind rest n first.2) in
-    let one : fit (frame ∷ []) ≡ true = and_from (nat_lt (length frame) 65536) true (lt-ltb (length frame) 65536 (omega (arith, same, first.1))) refl in
+    let one : fit (frame ∷ []) ≡ true =
+    and_from (nat_lt (length frame) 65536) true (lt-ltb (length frame) 65536 (omega (arith, same, first.1))) refl in
     record {
-      fitting = list_all-append (λ f. nat_lt (length f) 65536) frames (frame ∷ []) ∙ and_from (fit frames) (fit (frame ∷ [])) split.fitting one;
+      fitting =
+          list_all-append (λ f. nat_lt (length f) 65536) frames (frame ∷ []) ∙ and_from (fit frames) (fit (frame ∷ [])) split.fitting one;
       spelled =
           split.spelled
           ∙ (ap (λ (l : List ℕ). flat_map in_bundle frames ++ l) (taken_off rest n first)
           ∙ (sym (append_assoc (flat_map in_bundle frames) (in_bundle frame) more)
-          ∙ ap (λ (l : List ℕ). l ++ more) (sym (flat_map-append in_bundle frames (frame ∷ []) ∙ ap (λ (l : List ℕ). flat_map in_bundle frames ++ l) (append-nil (in_bundle frame))))));
+          ∙ ap (λ (l : List ℕ). l ++ more) (sym (flat_map-append in_bundle frames (frame ∷ [])
+          ∙ ap (λ (l : List ℕ). flat_map in_bundle frames ++ l) (append-nil (in_bundle frame))))));
     }
 
 -- ---- bundles

@@ -32,7 +32,8 @@ spelled_alone own site (f ∷ frames) = elim (cases_Bool (f.1.0 == site.0)) [
   | inr other ↦ rw other (spelled_alone own site frames)
 ]
 
-one_read : (most : ℕ) (datagram : List ℕ) (own : List (List ℕ)) (unpacked : Unpacked) → IsCarried most datagram own → StandAlone own → IsUnpacked datagram unpacked → frames_in unpacked ≡ own
+one_read : (most : ℕ) (datagram : List ℕ) (own : List (List ℕ)) (unpacked : Unpacked) → IsCarried most datagram own → StandAlone own →
+    IsUnpacked datagram unpacked → frames_in unpacked ≡ own
 one_read most datagram own (Alone bytes) (inl one) alone read = ap (λ (b : List ℕ). b ∷ []) read.0 ∙ sym one
 one_read most datagram own (Bundle frames) (inl one) alone read = absurd ((subst StandAlone one alone).0 (begins datagram frames read))
 one_read most datagram own Bad (inl one) alone read = absurd ((subst StandAlone one alone).0 read.0)
@@ -40,7 +41,8 @@ one_read most datagram own (Alone bytes) (inr shared) alone read = absurd (read.
 one_read most datagram own (Bundle frames) (inr shared) alone read = bundles_are_unique datagram frames own read shared.bundle
 one_read most datagram own Bad (inr shared) alone read = absurd (read.1 own shared.bundle)
 
-all_read : (most : ℕ) (datagrams frames : List (List ℕ)) (read : List Unpacked) → Carry most datagrams frames → StandAlone frames → AreUnpacked datagrams read → flat_map frames_in read ≡ frames
+all_read : (most : ℕ) (datagrams frames : List (List ℕ)) (read : List Unpacked) → Carry most datagrams frames → StandAlone frames →
+    AreUnpacked datagrams read → flat_map frames_in read ≡ frames
 all_read most [] frames [] carry alone are = sym carry
 all_read most [] frames (unpacked ∷ more) carry alone are = absurd are
 all_read most (datagram ∷ others) frames [] carry alone are = absurd are

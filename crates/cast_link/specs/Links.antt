@@ -24,7 +24,8 @@ AsksFor (asked.Event event) expected = ⊥
 AsksFor (asked.Show d) expected = ⊥
 
 -- the datagram that was first is handed on under this number, or none is received
-abbrev pub HandsOn : Option (List (List ℕ)) → Option (List (List ℕ)) → ℕ → Result Raw LinkFault → Type 0
+abbrev pub HandsOn : Option (List (List ℕ)) → Option (List (List ℕ)) → ℕ
+    → Result Raw LinkFault → Type 0
 HandsOn old new number (Ok raw) =
     (raw.number ≡ number) × ((bytes : List ℕ) × AsksFor raw.asked bytes × TakesFirst old new bytes)
 HandsOn old new number (Err fault) = ReceivesNone old new fault

@@ -1,5 +1,6 @@
 -- Datagrams that carry the frames for a site: one each, or several as a bundle.
-use Rattle.std.specs.Prelude.{◌≡◌, ◌⊎◌, ◌≤◌, ℕ, List, [], ◌∷◌, ◌++◌, IsTrue, filter, length, map, Option}
+use Rattle.std.specs.Prelude.{◌≡◌, ◌⊎◌, ◌≤◌, ℕ, List, [], ◌∷◌, ◌++◌}
+use Rattle.std.specs.Prelude.{IsTrue, filter, length, map, Option}
 use Rattle.std.specs.List.{flat_map}
 use Rattle.cast_types.specs.declared.names.SiteNo.{SiteNo}
 use Rattle.cast_types.specs.Names.{site_eq}
@@ -25,7 +26,10 @@ IsCarried most datagram frames = (frames ≡ datagram ∷ []) ⊎ IsShared most 
 abbrev pub Carry : ℕ → List (List ℕ) → List (List ℕ) → Type 0
 Carry most [] frames = frames ≡ []
 Carry most (datagram ∷ more) frames =
-    (own others : List (List ℕ)) × IsCarried most datagram own × Carry most more others × (frames ≡ own ++ others)
+    (own others : List (List ℕ))
+    × IsCarried most datagram own
+    × Carry most more others
+    × (frames ≡ own ++ others)
 
 -- what goes to a site, in its order
 abbrev pub to_site : SiteNo → List (SiteNo × List ℕ) → List (List ℕ)
@@ -33,9 +37,14 @@ to_site site sent = map (λ d. d.1) (filter (λ d. site_eq d.0 site) sent)
 
 -- the datagrams for each site carry the frames for it
 abbrev pub IsPacked : ℕ → List (SiteNo × List ℕ) → List (SiteNo × List ℕ) → Type 0
-IsPacked most frames datagrams = (site : SiteNo) → Carry most (to_site site datagrams) (to_site site frames)
+IsPacked most frames datagrams =
+    (site : SiteNo) → Carry most (to_site site datagrams) (to_site site frames)
 
 -- a wire is given datagrams that carry these frames, and so many
-abbrev pub AddsPacked : ℕ → Option (List (SiteNo × List ℕ)) → Option (List (SiteNo × List ℕ)) → List (SiteNo × List ℕ) → ℕ → Type 0
+abbrev pub AddsPacked : ℕ → Option (List (SiteNo × List ℕ)) → Option (List (SiteNo × List ℕ))
+    → List (SiteNo × List ℕ) → ℕ → Type 0
 AddsPacked most old new frames count =
-    (datagrams : List (SiteNo × List ℕ)) × IsPacked most frames datagrams × AddsAll old new datagrams × (count ≡ length datagrams)
+    (datagrams : List (SiteNo × List ℕ))
+    × IsPacked most frames datagrams
+    × AddsAll old new datagrams
+    × (count ≡ length datagrams)

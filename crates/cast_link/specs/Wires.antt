@@ -1,5 +1,6 @@
 -- What a wire was given, and what waits in it, at types that tell of it.
-use Rattle.std.specs.Prelude.{◌≡◌, ◌⊎◌, ℕ, List, [], ◌∷◌, ◌++◌, ⊤, Option, Some, None, Result, Ok, Err}
+use Rattle.std.specs.Prelude.{◌≡◌, ◌⊎◌, ℕ, List, [], ◌∷◌, ◌++◌, ⊤}
+use Rattle.std.specs.Prelude.{Option, Some, None, Result, Ok, Err}
 use Rattle.cast_link.specs.declared.wire.LinkFault.{LinkFault}
 use Rattle.cast_link.specs.declared.wire.LinkFault.TheVariants.{Device, NoMemory}
 
@@ -27,7 +28,8 @@ TakesFirst None new x = ⊤
 TakesFirst (Some old) None x = ⊥
 TakesFirst (Some old) (Some new) x = old ≡ x ∷ new
 
--- no datagram is received. Where the device failed, what waits is what waited; where there was no memory, the first may be lost
+-- no datagram is received. Where the device failed, what waits is what waited; where there was no
+-- memory, the first may be lost
 abbrev pub ReceivesNone : Option (List (List ℕ)) → Option (List (List ℕ)) → LinkFault → Type 0
 ReceivesNone None new fault = ⊤
 ReceivesNone (Some old) None fault = ⊥
@@ -35,6 +37,7 @@ ReceivesNone (Some old) (Some new) Device = new ≡ old
 ReceivesNone (Some old) (Some new) NoMemory = (new ≡ old) ⊎ ((bytes : List ℕ) × (old ≡ bytes ∷ new))
 
 -- what was received is the datagram that was first
-abbrev pub Receives : Option (List (List ℕ)) → Option (List (List ℕ)) → Result (List ℕ) LinkFault → Type 0
+abbrev pub Receives : Option (List (List ℕ)) → Option (List (List ℕ))
+    → Result (List ℕ) LinkFault → Type 0
 Receives old new (Ok bytes) = TakesFirst old new bytes
 Receives old new (Err fault) = ReceivesNone old new fault

@@ -71,7 +71,8 @@ pub fn unpack(alloc: Global, datagram: Bytes) -> Result<Unpacked, NoMemory>
     Ok(Unpacked::Bundle(frames))
 }
 
-// How many bytes the first of frames has, each of which stands behind its length. `None` if there is none, or it is cut off.
+// How many bytes the first of frames has, each of which stands behind its length. `None` if there
+// is none, or it is cut off.
 fn first_len(bytes: &[u8]) -> Option<usize>
     ensures { IsFirst bytes.now result }
 {

@@ -67,8 +67,8 @@ fn send_each<W: Wire>(wire: &mut W, datagrams: &[(SiteNo, Bytes)]) -> Sent
     sent
 }
 
-/// Gives the wire the frames of an event, from the own site, each once and in order. All of them are spelled before the first is
-/// sent: at `NoMemory` none was.
+/// Gives the wire the frames of an event, from the own site, each once and in order. All of them
+/// are spelled before the first is sent: at `NoMemory` none was.
 pub fn send_all<W: Wire>(
     alloc: Global,
     wire: &mut W,
@@ -76,7 +76,8 @@ pub fn send_all<W: Wire>(
     outs: &Outs,
 ) -> Result<Sent, NoMemory>
     requires { W.failed wire.old + length outs.now.frames < 2 ^ 64 }
-    ensures given { OnOk result (AddsAll (W.given wire.old) (W.given wire.new) (datagrams_of own outs.now.frames)) }
+    ensures given { OnOk result
+        (AddsAll (W.given wire.old) (W.given wire.new) (datagrams_of own outs.now.frames)) }
     // It receives nothing.
     ensures waiting { Stays (W.waiting wire.old) (W.waiting wire.new) }
     ensures counted { IfOk result (λ s. s.sent + s.lost ≡ length outs.now.frames) }
@@ -88,8 +89,8 @@ pub fn send_all<W: Wire>(
     Ok(send_each(wire, &datagrams))
 }
 
-/// As `send_all`, but frames for the same site share datagrams: bundles of at most so many bytes. A frame that has none to share with, or
-/// no room, goes as itself.
+/// As `send_all`, but frames for the same site share datagrams: bundles of at most so many bytes. A
+/// frame that has none to share with, or no room, goes as itself.
 pub fn send_bundled<W: Wire>(
     alloc: Global,
     wire: &mut W,
@@ -99,7 +100,8 @@ pub fn send_bundled<W: Wire>(
 ) -> Result<Sent, NoMemory>
     requires { W.failed wire.old + length outs.now.frames < 2 ^ 64 }
     // What is counted is the datagrams.
-    ensures given { IfOk result (λ s. AddsPacked most (W.given wire.old) (W.given wire.new) (datagrams_of own outs.now.frames) (s.sent + s.lost)) }
+    ensures given { IfOk result (λ s. AddsPacked most (W.given wire.old) (W.given wire.new)
+        (datagrams_of own outs.now.frames) (s.sent + s.lost)) }
     ensures waiting { Stays (W.waiting wire.old) (W.waiting wire.new) }
     // They are no more than the frames.
     ensures counted { IfOk result (λ s. s.sent + s.lost ≤ length outs.now.frames) }
@@ -111,8 +113,8 @@ pub fn send_bundled<W: Wire>(
     Ok(send_each(wire, &datagrams))
 }
 
-/// Hands on the datagram that is first, under this number. `Device` comes only where the wire failed, and leaves what waits as it
-/// is. Nothing is sent.
+/// Hands on the datagram that is first, under this number. `Device` comes only where the wire
+/// failed, and leaves what waits as it is. Nothing is sent.
 pub fn receive_one<W: Wire>(wire: &mut W, number: u64) -> Result<Raw, LinkFault>
     requires { W.failed wire.old + 1 < 2 ^ 64 }
     ensures handed { HandsOn (W.waiting wire.old) (W.waiting wire.new) number result }

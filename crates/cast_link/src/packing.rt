@@ -1,4 +1,5 @@
-ghost use Rattle.std.specs.Prelude.{◌≡◌, ◌+◌, ◌<◌, ◌≤◌, ◌++◌, IfOk, IsTrue, OnOk, filter, length, map, not, take};
+ghost use Rattle.std.specs.Prelude.{◌≡◌, ◌+◌, ◌<◌, ◌≤◌, ◌++◌, IfOk, IsTrue};
+ghost use Rattle.std.specs.Prelude.{OnOk, filter, length, map, not, take};
 ghost use Rattle.std.specs.List.{flat_map};
 ghost use Rattle.cast_types.specs.Names.{site_eq};
 ghost use Rattle.cast_link.specs.Bundles.{IsBundle, fit, head, in_bundle};
@@ -12,7 +13,8 @@ use std::alloc::Global;
 /// The most bytes of a frame that a bundle has room for.
 const MOST_OF_FRAME: usize = 65_535;
 
-// How many of these frames go in one datagram, from the first on: 1, or as many as a bundle of at most so many bytes has.
+// How many of these frames go in one datagram, from the first on: 1, or as many as a bundle of at
+// most so many bytes has.
 fn fitting_count(frames: &[Bytes], most: usize) -> usize
     requires { 1 ≤ length frames.now }
     ensures some { 1 ≤ result }
@@ -92,7 +94,8 @@ fn part(
     site: SiteNo,
 ) -> Result<(Vec<Bytes>, Vec<(SiteNo, Bytes)>), NoMemory>
     ensures own { IfOk result (λ p. p.0.items ≡ to_site site frames.items) }
-    ensures others { IfOk result (λ p. p.1.items ≡ filter (λ f. not (site_eq f.0 site)) frames.items) }
+    ensures others { IfOk result
+        (λ p. p.1.items ≡ filter (λ f. not (site_eq f.0 site)) frames.items) }
 {
     let mut own = Vec::new(alloc);
     let mut others = Vec::new(alloc);
@@ -112,7 +115,8 @@ fn add_all(
     site: SiteNo,
     datagrams: Vec<Bytes>,
 ) -> Result<(), NoMemory>
-    ensures { OnOk result (packed.new.items ≡ packed.old.items ++ map (λ d. (site, d)) datagrams.items) }
+    ensures { OnOk result
+        (packed.new.items ≡ packed.old.items ++ map (λ d. (site, d)) datagrams.items) }
 {
     for datagram in datagrams {
         packed.push((site, datagram))?;
@@ -120,8 +124,9 @@ fn add_all(
     Ok(())
 }
 
-/// The datagrams that carry these frames, in their order for each site. Frames for the same site share datagrams: bundles of at most so
-/// many bytes. A frame that has none to share with, or no room, goes as itself.
+/// The datagrams that carry these frames, in their order for each site. Frames for the same site
+/// share datagrams: bundles of at most so many bytes. A frame that has none to share with, or no
+/// room, goes as itself.
 pub fn pack(
     alloc: Global,
     frames: Vec<(SiteNo, Bytes)>,

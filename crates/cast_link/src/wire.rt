@@ -44,7 +44,8 @@ pub trait Wire {
         requires { failed self.old + 1 < 2 ^ 64 }
         ensures given { Adds (given self.old) (given self.new) (to, bytes.now) }
         ensures waiting { Stays (waiting self.old) (waiting self.new) }
-        ensures failed { failed self.new ≡ (if result then failed self.old else failed self.old + 1) };
+        ensures failed { failed self.new
+            ≡ (if result then failed self.old else failed self.old + 1) };
 
     /// The datagram that is first. Waits for one, where the device does.
     fn receive(&mut self) -> Result<Bytes, LinkFault>

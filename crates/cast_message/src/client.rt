@@ -5,7 +5,8 @@ use crate::payload::Payload;
 use bytes::Bytes;
 use cast_types::{GroupNo, NoMemory, Proc, Refusal, Uid};
 
-/// Most bytes of the payload of a cast that one frame holds. More than a message's are decoded, and refused later.
+/// Most bytes of the payload of a cast that one frame holds. More than a message's are decoded, and
+/// refused later.
 pub const MAX_CAST: usize = 19_988;
 
 /// How the deliveries of a cast are ordered.

@@ -5,8 +5,9 @@ use cast_types::{NoMemory, Proc};
 use std::alloc::Global;
 use std::marker::Model;
 
-/// The messages that a site keeps of a view, at most 2,048, each a process and a count, in rising order. A message is
-/// marked where it is atomic and the site knows no place for it. Contracts see the list of ids with their marks.
+/// The messages that a site keeps of a view, at most 2,048, each a process and a count, in rising
+/// order. A message is marked where it is atomic and the site knows no place for it. Contracts see
+/// the list of ids with their marks.
 #[derive(Drop)]
 pub struct KeptIds {
     entries: Vec<((Proc, u32), bool)>,

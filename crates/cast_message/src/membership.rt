@@ -6,8 +6,8 @@ use cast_types::{NoMemory, Proc};
 use std::alloc::Global;
 use std::marker::Model;
 
-/// The members of a view, at most 64 in rising order, and which of them sets the order: its holder. Only where there
-/// are no members there is no holder. Contracts see a `Membership`.
+/// The members of a view, at most 64 in rising order, and which of them sets the order: its holder.
+/// Only where there are no members there is no holder. Contracts see a `Membership`.
 #[derive(Drop)]
 pub struct Membership {
     list: Vec<Proc>,
@@ -22,7 +22,8 @@ impl Model for Membership {
 
     ghost view = { λ m. record { list = m.list.items; holder = m.holder } };
 
-    ghost invariant = { λ m. IsTrue (is_members (record { list = m.list.items; holder = m.holder })) };
+    ghost invariant = { λ m.
+        IsTrue (is_members (record { list = m.list.items; holder = m.holder })) };
 }
 
 impl Membership {
@@ -71,8 +72,8 @@ impl Membership {
     }
 }
 
-/// The end of a view's order: how many ids stand before it, at most 4,000,000,000, and its ids, at most 576, each a
-/// process and a count. Contracts see a `Tail`.
+/// The end of a view's order: how many ids stand before it, at most 4,000,000,000, and its ids, at
+/// most 576, each a process and a count. Contracts see a `Tail`.
 #[derive(Drop)]
 pub struct Tail {
     start: u32,

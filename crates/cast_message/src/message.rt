@@ -11,7 +11,8 @@ pub enum Body {
     Causal(Payload),
     /// The payload of an atomic message.
     Atomic(Payload),
-    /// The places that a message sets in the order of its view. It may hand over the token of the view too.
+    /// The places that a message sets in the order of its view. It may hand over the token of the
+    /// view too.
     Order(Placement),
 }
 

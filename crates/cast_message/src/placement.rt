@@ -4,9 +4,10 @@ ghost use Rattle.cast_message.specs.Placement.{is_placement};
 use cast_types::{NoMemory, Proc};
 use std::marker::Model;
 
-/// Places of a view's order: the first of them, 1 to 4,000,000,000, and the ids that stand at it and at those after it,
-/// 1 to 64, each a process and a count. They may hand over the token of the view: then they name the process that holds
-/// it from the first place on, and there may be no ids. Contracts see a `Placement`.
+/// Places of a view's order: the first of them, 1 to 4,000,000,000, and the ids that stand at it
+/// and at those after it, 1 to 64, each a process and a count. They may hand over the token of the
+/// view: then they name the process that holds it from the first place on, and there may be no ids.
+/// Contracts see a `Placement`.
 #[derive(Drop)]
 pub struct Placement {
     first: u32,
@@ -22,13 +23,15 @@ impl Model for Placement {
 
     ghost view = { λ p. record { first = p.first; ids = p.ids.items; holder = p.holder } };
 
-    ghost invariant = { λ p. IsTrue (is_placement (record { first = p.first; ids = p.ids.items; holder = p.holder })) };
+    ghost invariant = { λ p.
+        IsTrue (is_placement (record { first = p.first; ids = p.ids.items; holder = p.holder })) };
 }
 
 impl Placement {
     /// These ids, from this place on, and the process to which the token is handed over, if it is.
     pub fn from_parts(first: u32, ids: Vec<(Proc, u32)>, holder: Option<Proc>) -> Self
-        requires { IsTrue (is_placement (record { first = first; ids = ids.items; holder = holder })) }
+        requires { IsTrue
+            (is_placement (record { first = first; ids = ids.items; holder = holder })) }
         ensures { result ≡ record { first = first; ids = ids.items; holder = holder } }
     {
         Placement { first, ids, holder }
@@ -50,7 +53,8 @@ impl Placement {
         &self.ids
     }
 
-    /// The process to which the token is handed over, if it is: it holds the token from the first place on.
+    /// The process to which the token is handed over, if it is: it holds the token from the first
+    /// place on.
     pub fn holder(&self) -> Option<Proc>
         ensures value { result ≡ self.now.holder }
         ensures valid { IsTrue (is_placement self.now) }

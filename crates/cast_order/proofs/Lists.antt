@@ -1,5 +1,6 @@
 -- Lists of entries: what a test finds and keeps, and what is among them.
-use Rattle.std.proofs.Common.{◌≡◌, ℕ, zero, suc, ◌+◌, ◌-◌, ◌≤◌, Bool, true, false, cond, not, List, [], ◌∷◌, ◌++◌, length, take, drop, Option, Some, None, refl, ap, subst, ◌∙◌, inl, inr, arith}
+use Rattle.std.proofs.Common.{◌≡◌, ℕ, zero, suc, ◌+◌, ◌-◌, ◌≤◌, Bool, true, false, cond, not, List, [], ◌∷◌, ◌++◌}
+use Rattle.std.proofs.Common.{length, take, drop, Option, Some, None, refl, ap, subst, ◌∙◌, inl, inr, arith}
 use Rattle.std.specs.List.{find, filter, list_all}
 use Rattle.std.specs.Option.{option_or}
 use Rattle.std.proofs.lemmas.Bool.{cases_Bool, and_parts, and_from}
@@ -13,7 +14,8 @@ or_again None b c = refl
 or_again (Some x) b c = refl
 
 -- a search is not changed where only what it passes over is taken out
-pub find_kept : {A : Type 0} (t keep : A → Bool) → ((x : A) → keep x ≡ false → t x ≡ false) → (xs : List A) → find t (filter keep xs) ≡ find t xs
+pub find_kept : {A : Type 0} (t keep : A → Bool) → ((x : A) → keep x ≡ false → t x ≡ false) → (xs : List A) →
+    find t (filter keep xs) ≡ find t xs
 find_kept t keep passed [] = refl
 find_kept t keep passed (x ∷ xs) = elim (cases_Bool (keep x)) [
   | inl stays ↦ rw stays (ap (λ o. cond (t x) (Some x) o) (find_kept t keep passed xs))
@@ -27,7 +29,8 @@ none_fails t (x ∷ xs) all =
     let parts = and_parts (t x) (list_all t xs) all in
     ap (λ b. cond (not b) (Some x) (find (λ y. not (t y)) xs)) parts.0 ∙ none_fails t xs parts.1
 
-pub none_fails_more : {A : Type 0} (t s : A → Bool) → ((x : A) → t x ≡ true → s x ≡ true) → (xs : List A) → find (λ x. not (t x)) xs ≡ None → find (λ x. not (s x)) xs ≡ None
+pub none_fails_more : {A : Type 0} (t s : A → Bool) → ((x : A) → t x ≡ true → s x ≡ true) → (xs : List A) →
+    find (λ x. not (t x)) xs ≡ None → find (λ x. not (s x)) xs ≡ None
 none_fails_more t s follows [] none = refl
 none_fails_more t s follows (x ∷ xs) none = elim (cases_Bool (t x)) [
   | inl passes ↦

@@ -1,5 +1,6 @@
 -- The logs of all groups: what one group has while its own or another's changes or goes.
-use Rattle.std.proofs.Common.{◌≡◌, ℕ, ◌+◌, ◌-◌, min, Bool, true, false, cond, not, ◌||◌, List, [], ◌∷◌, ◌++◌, drop, length, Some, None, unwrap_or, refl, sym, ap, ◌∙◌, inl, inr, arith}
+use Rattle.std.proofs.Common.{◌≡◌, ℕ, ◌+◌, ◌-◌, min, Bool, true, false, cond, not, ◌||◌, List, [], ◌∷◌, ◌++◌}
+use Rattle.std.proofs.Common.{drop, length, Some, None, unwrap_or, refl, sym, ap, ◌∙◌, inl, inr, arith}
 use Rattle.std.specs.Prelude.{if◌then◌else◌}
 use Rattle.std.specs.List.{find, list_any}
 use Rattle.std.specs.Option.{option_or}
@@ -33,7 +34,8 @@ none_found g (l ∷ logs) none =
 -- to change a group's log is to open it, and to change it
 pub change_opened : (g : GroupNo) (f : Log → Log) (logs : List Log) → change_in g f (open_log g logs) ≡ change_log g f logs
 change_opened g f logs =
-    elim (list_any (of_group g) logs) as (λ b. list_any (of_group g) logs ≡ b → change_in g f (cond b logs (logs ++ new_log g ∷ [])) ≡ cond b (change_in g f logs) (logs ++ f (new_log g) ∷ [])) [
+    elim (list_any (of_group g) logs) as (λ b. list_any (of_group g) logs ≡ b →
+    change_in g f (cond b logs (logs ++ new_log g ∷ [])) ≡ cond b (change_in g f logs) (logs ++ f (new_log g) ∷ [])) [
       | true ↦ λ _. refl
       | false ↦ λ none.
           map-append (λ l. if group_eq l.group g then f l else l) logs (new_log g ∷ [])
@@ -45,7 +47,8 @@ abbrev pub KeepsGroup : (Log → Log) → Type 0
 KeepsGroup f = (l : Log) → (f l).group ≡ l.group
 
 -- the group's own log is changed
-own_in : (g : GroupNo) (f : Log → Log) → KeepsGroup f → (logs : List Log) → list_any (of_group g) logs ≡ true → unwrap_or (find (of_group g) (change_in g f logs)) (new_log g) ≡ f (unwrap_or (find (of_group g) logs) (new_log g))
+own_in : (g : GroupNo) (f : Log → Log) → KeepsGroup f → (logs : List Log) → list_any (of_group g) logs ≡ true →
+    unwrap_or (find (of_group g) (change_in g f logs)) (new_log g) ≡ f (unwrap_or (find (of_group g) logs) (new_log g))
 own_in g f keeps [] some = absurd (false≢true some)
 own_in g f keeps (l ∷ logs) some = elim (cases_Bool (group_eq l.group g)) [
   | inl here ↦
@@ -67,7 +70,8 @@ own_in g f keeps (l ∷ logs) some = elim (cases_Bool (group_eq l.group g)) [
 
 pub change_own : (g : GroupNo) (f : Log → Log) → KeepsGroup f → (logs : List Log) → log_of (change_log g f logs) g ≡ f (log_of logs g)
 change_own g f keeps logs =
-    elim (list_any (of_group g) logs) as (λ b. list_any (of_group g) logs ≡ b → log_of (cond b (change_in g f logs) (logs ++ f (new_log g) ∷ [])) g ≡ f (log_of logs g)) [
+    elim (list_any (of_group g) logs)
+    as (λ b. list_any (of_group g) logs ≡ b → log_of (cond b (change_in g f logs) (logs ++ f (new_log g) ∷ [])) g ≡ f (log_of logs g)) [
       | true ↦ λ some. own_in g f keeps logs some
       | false ↦ λ none.
           let still : group_eq (f (new_log g)).group g ≡ true = ap (λ h. group_eq h g) (keeps (new_log g)) ∙ group_itself g in
@@ -81,7 +85,8 @@ change_own g f keeps logs =
 apart_of : (g h k : GroupNo) → group_eq g h ≡ false → group_eq k g ≡ true → group_eq k h ≡ false
 apart_of g h k other same = ap (λ j. group_eq j h) (same_group k g same) ∙ other
 
-other_in : (g h : GroupNo) (f : Log → Log) → KeepsGroup f → group_eq g h ≡ false → (logs : List Log) → find (of_group h) (change_in g f logs) ≡ find (of_group h) logs
+other_in : (g h : GroupNo) (f : Log → Log) → KeepsGroup f → group_eq g h ≡ false → (logs : List Log) →
+    find (of_group h) (change_in g f logs) ≡ find (of_group h) logs
 other_in g h f keeps other [] = refl
 other_in g h f keeps other (l ∷ logs) = elim (cases_Bool (group_eq l.group g)) [
   | inl same ↦
@@ -97,7 +102,8 @@ other_in g h f keeps other (l ∷ logs) = elim (cases_Bool (group_eq l.group g))
       ∙ ap (λ o. cond (group_eq l.group h) (Some l) o) (other_in g h f keeps other logs)
 ]
 
-pub change_other : (g h : GroupNo) (f : Log → Log) → KeepsGroup f → group_eq g h ≡ false → (logs : List Log) → log_of (change_log g f logs) h ≡ log_of logs h
+pub change_other : (g h : GroupNo) (f : Log → Log) → KeepsGroup f → group_eq g h ≡ false → (logs : List Log) →
+    log_of (change_log g f logs) h ≡ log_of logs h
 change_other g h f keeps other logs =
     elim (list_any (of_group g) logs) as (λ b. log_of (cond b (change_in g f logs) (logs ++ f (new_log g) ∷ [])) h ≡ log_of logs h) [
       | true ↦ ap (λ o. unwrap_or o (new_log h)) (other_in g h f keeps other logs)
@@ -128,15 +134,17 @@ new_forgets g count =
     let none : more ≡ 0 = omega arith in
     λ i. record (new_log g) { base = 0 + none i; window = drop (none i) [] }
 
-none_forgets : (g h : GroupNo) (count : ℕ) (logs : List Log) → list_any (of_group g) logs ≡ false → log_of (change_in g (forgot count) logs) h ≡ (if group_eq g h then forgot count (log_of logs g) else log_of logs h)
-none_forgets g h count logs none = ap (λ ls. log_of ls h) (sym (none_changes g (forgot count) logs none)) ∙ elim (cases_Bool (group_eq g h)) [
-  | inl same ↦
-      let lost : log_of logs g ≡ new_log g = ap (λ o. unwrap_or o (new_log g)) (none_found g logs none) in
-      ap (log_of logs) (sym (same_group g h same))
-      ∙ lost ∙ sym (new_forgets g count) ∙ ap (forgot count) (sym lost)
-      ∙ ap (λ b. cond b (forgot count (log_of logs g)) (log_of logs h)) (sym same)
-  | inr other ↦ ap (λ b. cond b (forgot count (log_of logs g)) (log_of logs h)) (sym other)
-]
+none_forgets : (g h : GroupNo) (count : ℕ) (logs : List Log) → list_any (of_group g) logs ≡ false →
+    log_of (change_in g (forgot count) logs) h ≡ (if group_eq g h then forgot count (log_of logs g) else log_of logs h)
+none_forgets g h count logs none =
+    ap (λ ls. log_of ls h) (sym (none_changes g (forgot count) logs none)) ∙ elim (cases_Bool (group_eq g h)) [
+      | inl same ↦
+          let lost : log_of logs g ≡ new_log g = ap (λ o. unwrap_or o (new_log g)) (none_found g logs none) in
+          ap (log_of logs) (sym (same_group g h same))
+          ∙ lost ∙ sym (new_forgets g count) ∙ ap (forgot count) (sym lost)
+          ∙ ap (λ b. cond b (forgot count (log_of logs g)) (log_of logs h)) (sym same)
+      | inr other ↦ ap (λ b. cond b (forgot count (log_of logs g)) (log_of logs h)) (sym other)
+    ]
 
 -- what each group has after one's first ids are forgotten
 pub log_of_forget_first : ForgetFirstIsOfOneGroup
@@ -182,7 +190,8 @@ log_of_forget logs g h = elim (cases_Bool (group_eq g h)) [
 ]
 
 -- what no log passes the group's own passes neither, also where it has none
-pub none_of : (test : Log → Bool) (g : GroupNo) → test (new_log g) ≡ false → (logs : List Log) → list_any test logs ≡ false → test (log_of logs g) ≡ false
+pub none_of : (test : Log → Bool) (g : GroupNo) → test (new_log g) ≡ false → (logs : List Log) → list_any test logs ≡ false →
+    test (log_of logs g) ≡ false
 none_of test g new [] none = new
 none_of test g new (l ∷ logs) none =
     let parts = or_parts (test l) (list_any test logs) none in

@@ -4,7 +4,8 @@
 -- `pass_fits` and `forget_fits` keep this: what is learnt joins the end, a place moves over ids
 -- that were delivered, and what goes from the front was passed by all. The lemmas ending in
 -- `_rules` read the log so.
-use Rattle.std.proofs.Common.{◌≡◌, ℕ, ◌+◌, ◌-◌, ◌*◌, ◌<◌, ◌≤◌, min, max, Bool, true, false, cond, not, ◌&&◌, List, [], ◌++◌, length, take, drop, length-append, Option, Some, None, unwrap_or, refl, sym, ap, subst, ◌∙◌, inl, inr, arith}
+use Rattle.std.proofs.Common.{◌≡◌, ℕ, ◌+◌, ◌-◌, ◌*◌, ◌<◌, ◌≤◌, min, max, Bool, true, false, cond, not, ◌&&◌, List, [], ◌++◌, length}
+use Rattle.std.proofs.Common.{take, drop, length-append, Option, Some, None, unwrap_or, refl, sym, ap, subst, ◌∙◌, inl, inr, arith}
 use Rattle.std.specs.Prelude.{nat_lt, nat_le, if◌then◌else◌}
 use Rattle.std.specs.List.{find, list_all}
 use Rattle.std.specs.Option.{option_or}
@@ -19,9 +20,12 @@ use Rattle.cast_types.specs.Names.{Entry, proc_cmp}
 use Rattle.cast_types.proofs.Orders.{proc_total, proc_exact, tie_same}
 use Rattle.cast_message.specs.Placement.{Placement}
 use Rattle.cast_order.specs.Order.{Facts, facts_of, id_at, order_from, known_order, ids_to_list, tail_start, next_of}
-use Rattle.cast_order.specs.Log.{Log, length_of, with_facts, place_of, next_in, pass_ids, settle_log, learnt, waiting_of, tail_start_in, forgot}
+use Rattle.cast_order.specs.Log.{Log, length_of, with_facts, place_of, next_in, pass_ids}
+use Rattle.cast_order.specs.Log.{settle_log, learnt, waiting_of, tail_start_in, forgot}
 use Rattle.cast_order.specs.Fits.{Fits}
-use Rattle.cast_order.specs.Laws.{NewFits, LearnKeepsMeaning, HandKeepsMeaning, PassKeepsMeaning, MoreKeepsMeaning, ForgetKeepsMeaning, AreOldest, OldestMayBeForgotten, NextIsTheRule, LengthIsTheRule, PastIsTheRule, AssignIsTheRule, WholeIsTheRule, TailIsTheRule}
+use Rattle.cast_order.specs.Laws.{NewFits, LearnKeepsMeaning, HandKeepsMeaning, PassKeepsMeaning, MoreKeepsMeaning}
+use Rattle.cast_order.specs.Laws.{ForgetKeepsMeaning, AreOldest, OldestMayBeForgotten, NextIsTheRule}
+use Rattle.cast_order.specs.Laws.{LengthIsTheRule, PastIsTheRule, AssignIsTheRule, WholeIsTheRule, TailIsTheRule}
 use Rattle.cast_order.proofs.Lists.{none_fails, none_fails_more, all_first, none_first, take_on}
 use Rattle.cast_order.proofs.Told.{id_at-append, facts_told, past_told, known_grows, none_known}
 
@@ -70,14 +74,17 @@ kept_from order l kept n le =
 pub next_kept : (order : List Entry) (l : Log) → IsKept order l → (p : Proc) → next_in l p ≡ drop (place_of l p) order
 next_kept order l kept p = kept_from order l kept (place_of l p) (omega arith)
 
-pub fits_kept : (facts : Facts) (goes_on : Proc → Bool) (has_passed : Proc → Entry → Bool) (l : Log) → Fits facts goes_on has_passed l → IsKept (known_order facts) l
+pub fits_kept : (facts : Facts) (goes_on : Proc → Bool) (has_passed : Proc → Entry → Bool) (l : Log) → Fits facts goes_on has_passed l →
+    IsKept (known_order facts) l
 fits_kept facts goes_on has_passed l fits = (fits.window, let le = fits.forgotten in omega (arith, le))
 
 pub length_rules : LengthIsTheRule
 length_rules facts goes_on has_passed l fits = kept_length (known_order facts) l (fits_kept facts goes_on has_passed l fits)
 
 -- what it takes in was told of the places past those known
-told_past : (facts : Facts) (goes_on : Proc → Bool) (has_passed : Proc → Entry → Bool) (l : Log) → Fits facts goes_on has_passed l → (s : Placement) → (place : ℕ) → length_of l < place → place ≤ MAX_POSITION → id_at (with_facts (length_of l) l.later (facts_of s)) place ≡ id_at (facts ++ facts_of s) place
+told_past : (facts : Facts) (goes_on : Proc → Bool) (has_passed : Proc → Entry → Bool) (l : Log) → Fits facts goes_on has_passed l →
+    (s : Placement) → (place : ℕ) → length_of l < place → place ≤ MAX_POSITION →
+    id_at (with_facts (length_of l) l.later (facts_of s)) place ≡ id_at (facts ++ facts_of s) place
 told_past facts goes_on has_passed l fits s place low high =
     facts_told (length_of l) l.later (facts_of s) place low high
     ∙ ap (λ o. option_or o (id_at (facts_of s) place)) (fits.later place low high)
@@ -87,23 +94,27 @@ told_past facts goes_on has_passed l fits s place low high =
 abbrev pub added : Placement → Log → List Entry
 added s l = order_from (MAX_POSITION - length_of l) (length_of l + 1) (with_facts (length_of l) l.later (facts_of s))
 
-pub order_on : (facts : Facts) (goes_on : Proc → Bool) (has_passed : Proc → Entry → Bool) (l : Log) → Fits facts goes_on has_passed l → (s : Placement) → known_order facts ++ added s l ≡ known_order (facts ++ facts_of s)
+pub order_on : (facts : Facts) (goes_on : Proc → Bool) (has_passed : Proc → Entry → Bool) (l : Log) → Fits facts goes_on has_passed l →
+    (s : Placement) → known_order facts ++ added s l ≡ known_order (facts ++ facts_of s)
 order_on facts goes_on has_passed l fits s =
     let later = with_facts (length_of l) l.later (facts_of s) in
     let known = known_order facts in
     let same : length_of l ≡ length known = length_rules facts goes_on has_passed l fits in
     ap (λ n. known ++ order_from (MAX_POSITION - n) (n + 1) later) same
-    ∙ known_grows facts (facts_of s) later known refl (λ place low high. told_past facts goes_on has_passed l fits s place (omega (arith, same, low)) high)
+    ∙ known_grows facts (facts_of s)
+    later known refl (λ place low high. told_past facts goes_on has_passed l fits s place (omega (arith, same, low)) high)
 
 -- what is forgotten stays what it was as more is learnt
-pub learn_begins : (facts : Facts) (goes_on : Proc → Bool) (has_passed : Proc → Entry → Bool) (l : Log) → Fits facts goes_on has_passed l → (s : Placement) → take l.base (known_order (facts ++ facts_of s)) ≡ take l.base (known_order facts)
+pub learn_begins : (facts : Facts) (goes_on : Proc → Bool) (has_passed : Proc → Entry → Bool) (l : Log) → Fits facts goes_on has_passed l →
+    (s : Placement) → take l.base (known_order (facts ++ facts_of s)) ≡ take l.base (known_order facts)
 learn_begins facts goes_on has_passed l fits s =
     let le = fits.forgotten in
     ap (take l.base) (sym (order_on facts goes_on has_passed l fits s))
     ∙ take-append-le l.base (known_order facts) (added s l) (omega (arith, le))
 
 -- what it takes in was told of the order
-take_in_fits : (facts : Facts) (goes_on : Proc → Bool) (has_passed : Proc → Entry → Bool) (l : Log) → Fits facts goes_on has_passed l → (s : Placement) → Fits (facts ++ facts_of s) goes_on has_passed (taken_in s l)
+take_in_fits : (facts : Facts) (goes_on : Proc → Bool) (has_passed : Proc → Entry → Bool) (l : Log) → Fits facts goes_on has_passed l →
+    (s : Placement) → Fits (facts ++ facts_of s) goes_on has_passed (taken_in s l)
 take_in_fits facts goes_on has_passed l fits s =
     let later = with_facts (length_of l) l.later (facts_of s) in
     let now = taken_in s l in
@@ -121,7 +132,8 @@ take_in_fits facts goes_on has_passed l fits s =
           ∙ sym (drop-append-le l.base known more (omega (arith, forgotten)))
           ∙ ap (drop l.base) whole;
       forgotten = omega (arith, forgotten, grown);
-      later = λ place low high. past_told (length_of now) later place low ∙ tells place (let sum = length-append l.window more in omega (arith, low, sum)) high;
+      later = λ place low high. past_told (length_of now) later place low
+          ∙ tells place (let sum = length-append l.window more in omega (arith, low, sum)) high;
       passed = λ p on.
           ap (λ order. find (λ e. not (has_passed p e)) (take (place_of l p) order)) (sym whole)
           ∙ ap (find (λ e. not (has_passed p e))) (take-append-le (place_of l p) known more (fits.within p))
@@ -132,7 +144,8 @@ take_in_fits facts goes_on has_passed l fits s =
 
 pub learn_fits : LearnKeepsMeaning
 learn_fits facts goes_on has_passed l fits s =
-    subst (Fits (facts ++ facts_of s) goes_on has_passed) (sym (learnt_open s l fits.still_open)) (take_in_fits facts goes_on has_passed l fits s)
+    subst (Fits (facts ++ facts_of s) goes_on has_passed) (sym (learnt_open s l fits.still_open))
+    (take_in_fits facts goes_on has_passed l fits s)
 
 pub hand_fits : HandKeepsMeaning
 hand_fits facts goes_on has_passed l fits p f = record {
@@ -145,14 +158,17 @@ hand_fits facts goes_on has_passed l fits p f = record {
 }
 
 -- where a process stands after some process passed ids
-passed_place : (p : Proc) (n : ℕ) (l : Log) (q : Proc) → place_of (pass_ids p n l) q ≡ cond (eq_by_cmp proc_cmp q p) (place_of l p + min n (length (next_in l p))) (place_of l q)
+passed_place : (p : Proc) (n : ℕ) (l : Log) (q : Proc) →
+    place_of (pass_ids p n l) q ≡ cond (eq_by_cmp proc_cmp q p) (place_of l p + min n (length (next_in l p))) (place_of l q)
 passed_place p n l q =
     let place = place_of l p + min n (length (next_in l p)) in
     ap (λ (o : Option ℕ). max l.base (unwrap_or o 0)) (find-put proc_cmp proc_total q p place l.places)
-    ∙ elim (eq_by_cmp proc_cmp q p) as (λ b. max l.base (unwrap_or (cond b (Some place) (find_key proc_cmp q l.places)) 0) ≡ cond b place (place_of l q)) [ true ↦ omega arith | false ↦ refl ]
+    ∙ elim (eq_by_cmp proc_cmp q p) as (λ b. max l.base (unwrap_or (cond b (Some place) (find_key proc_cmp q l.places)) 0)
+    ≡ cond b place (place_of l q)) [ true ↦ omega arith | false ↦ refl ]
 
 -- and that by whether it is the one that passed them
-pub at_place : (p : Proc) (n : ℕ) (l : Log) (q : Proc) (b : Bool) → eq_by_cmp proc_cmp q p ≡ b → place_of (pass_ids p n l) q ≡ cond b (place_of l p + min n (length (next_in l p))) (place_of l q)
+pub at_place : (p : Proc) (n : ℕ) (l : Log) (q : Proc) (b : Bool) → eq_by_cmp proc_cmp q p ≡ b →
+    place_of (pass_ids p n l) q ≡ cond b (place_of l p + min n (length (next_in l p))) (place_of l q)
 at_place p n l q b is = passed_place p n l q ∙ ap (λ c. cond c (place_of l p + min n (length (next_in l p))) (place_of l q)) is
 
 -- each process that goes on has delivered the ids before its place, which is within the order known
@@ -163,11 +179,14 @@ abbrev pub IsWithin : List Entry → Log → Type 0
 IsWithin order l = (p : Proc) → place_of l p ≤ length order
 
 -- both hold after a process passed ids that it has delivered
-pub pass_passes : (goes_on : Proc → Bool) (has_passed : Proc → Entry → Bool) (order : List Entry) (l : Log) → IsKept order l → HasPassed goes_on has_passed order l → (p : Proc) (n : ℕ) → list_all (has_passed p) (take n (next_in l p)) ≡ true → HasPassed goes_on has_passed order (pass_ids p n l)
+pub pass_passes : (goes_on : Proc → Bool) (has_passed : Proc → Entry → Bool) (order : List Entry) (l : Log) → IsKept order l →
+    HasPassed goes_on has_passed order l → (p : Proc) (n : ℕ) → list_all (has_passed p) (take n (next_in l p)) ≡ true →
+    HasPassed goes_on has_passed order (pass_ids p n l)
 pass_passes goes_on has_passed order l kept before p n all q on = elim (cases_Bool (eq_by_cmp proc_cmp q p)) [
   | inl tie ↦
       ap (λ k. find (λ e. not (has_passed q e)) (take k order)) (at_place p n l q true tie)
-      ∙ subst (λ r. goes_on r ≡ true → find (λ e. not (has_passed r e)) (take (place_of l p + min n (length (next_in l p))) order) ≡ None) (sym (tie_same proc_exact q p tie)) here on
+      ∙ subst (λ r. goes_on r ≡ true → find (λ e. not (has_passed r e)) (take (place_of l p + min n (length (next_in l p))) order) ≡ None)
+      (sym (tie_same proc_exact q p tie)) here on
   | inr other ↦ ap (λ k. find (λ e. not (has_passed q e)) (take k order)) (at_place p n l q false other) ∙ before q on
 ]
   where
@@ -196,7 +215,9 @@ pass_within order l kept before p n q = elim (cases_Bool (eq_by_cmp proc_cmp q p
         omega (arith, same, rest, was)
 
 -- from where a process stands on, the first id that it has not delivered is that of all ids known
-pub next_known : (goes_on : Proc → Bool) (has_passed : Proc → Entry → Bool) (order : List Entry) (l : Log) → IsKept order l → HasPassed goes_on has_passed order l → (p : Proc) → goes_on p ≡ true → next_of (has_passed p) order ≡ next_of (has_passed p) (next_in l p)
+pub next_known : (goes_on : Proc → Bool) (has_passed : Proc → Entry → Bool) (order : List Entry) (l : Log) → IsKept order l →
+    HasPassed goes_on has_passed order l → (p : Proc) → goes_on p ≡ true →
+    next_of (has_passed p) order ≡ next_of (has_passed p) (next_in l p)
 next_known goes_on has_passed order l kept before p on =
     let t : Entry → Bool = λ e. not (has_passed p e) in
     let front = take (place_of l p) order in
@@ -220,7 +241,8 @@ more_fits facts goes_on has_passed l fits goes_now has_now fewer more = record {
   window = fits.window;
   forgotten = fits.forgotten;
   later = fits.later;
-  passed = λ p on. none_fails_more (has_passed p) (has_now p) (more p) (take (place_of l p) (known_order facts)) (fits.passed p (fewer p on));
+  passed =
+      λ p on. none_fails_more (has_passed p) (has_now p) (more p) (take (place_of l p) (known_order facts)) (fits.passed p (fewer p on));
   within = fits.within;
   still_open = fits.still_open;
 }
@@ -278,7 +300,8 @@ forget_fits facts goes_on has_passed l fits count all few =
     let t : Entry → Bool = λ e. not (has_passed p e) in
     ap (find t) (take_on l.base more order)
     ∙ find-append t (take l.base order) (take more (drop l.base order))
-    ∙ ap (λ o. option_or o (find t (take more (drop l.base order)))) (none_first t l.base (place_of l p) order (omega arith) (fits.passed p on))
+    ∙ ap (λ o. option_or o (find t (take more (drop l.base order))))
+    (none_first t l.base (place_of l p) order (omega arith) (fits.passed p on))
     ∙ ap (λ rest. find t (take more rest)) (sym fits.window)
     ∙ none_fails (has_passed p) (take more l.window) (all_first (has_passed p) more count l.window most (all p on)) in
     record {
@@ -298,11 +321,13 @@ forget_fits facts goes_on has_passed l fits count all few =
     }
 
 -- what may be forgotten of a log, by whether it is closed and long enough
-oldest_if : (l : Log) (closed long : Bool) → l.closed ≡ closed → nat_le (2 * MAX_TAIL) (length l.window) ≡ long → AreOldest l (if not closed && long then take (length l.window - MAX_TAIL) l.window else [])
+oldest_if : (l : Log) (closed long : Bool) → l.closed ≡ closed → nat_le (2 * MAX_TAIL) (length l.window) ≡ long →
+    AreOldest l (if not closed && long then take (length l.window - MAX_TAIL) l.window else [])
 oldest_if l true long ended is = record { first = refl; few = omega arith; ended = λ _. refl }
 oldest_if l false false opened is = record { first = refl; few = omega arith; ended = λ _. refl }
 oldest_if l false true opened is =
-    let size : length (take (length l.window - MAX_TAIL) l.window) ≡ length l.window - MAX_TAIL = let few = length-take (length l.window - MAX_TAIL) l.window in omega (arith, few) in
+    let size : length (take (length l.window - MAX_TAIL) l.window) ≡ length l.window - MAX_TAIL =
+    let few = length-take (length l.window - MAX_TAIL) l.window in omega (arith, few) in
     record {
       first = ap (λ n. take n l.window) (sym size);
       few = omega (arith, size);
@@ -313,7 +338,8 @@ pub oldest_rules : OldestMayBeForgotten
 oldest_rules l = oldest_if l l.closed (nat_le (2 * MAX_TAIL) (length l.window)) refl refl
 
 -- of a log of which nothing is forgotten, and in which each process is to go through all ids
-pub at_start : (facts : Facts) (goes_on : Proc → Bool) (has_passed : Proc → Entry → Bool) (l : Log) → Fits facts goes_on has_passed l → ((p : Proc) → place_of l p ≡ 0) → (goes_now : Proc → Bool) → Fits facts goes_now has_passed l
+pub at_start : (facts : Facts) (goes_on : Proc → Bool) (has_passed : Proc → Entry → Bool) (l : Log) → Fits facts goes_on has_passed l →
+    ((p : Proc) → place_of l p ≡ 0) → (goes_now : Proc → Bool) → Fits facts goes_now has_passed l
 at_start facts goes_on has_passed l fits none goes_now = record {
   window = fits.window;
   forgotten = fits.forgotten;

@@ -1,5 +1,6 @@
 -- The order told: what is told of a place, and how the order grows with what is told.
-use Rattle.std.proofs.Common.{◌≡◌, ℕ, zero, suc, ◌+◌, ◌-◌, ◌<◌, ◌≤◌, Bool, true, false, cond, ◌&&◌, List, [], ◌∷◌, ◌++◌, length, Option, Some, None, slice_get, refl, sym, ap, subst, ◌∙◌, inl, inr, arith}
+use Rattle.std.proofs.Common.{◌≡◌, ℕ, zero, suc, ◌+◌, ◌-◌, ◌<◌, ◌≤◌, Bool, true, false, cond, ◌&&◌, List, [], ◌∷◌}
+use Rattle.std.proofs.Common.{◌++◌, length, Option, Some, None, slice_get, refl, sym, ap, subst, ◌∙◌, inl, inr, arith}
 use Rattle.std.specs.Prelude.{◌==◌, nat_lt, nat_le}
 use Rattle.std.specs.List.{find, All}
 use Rattle.std.specs.Map.{keys_of, lookup}
@@ -11,7 +12,8 @@ use Rattle.std.specs.FinMap.Entries.{find as find_key, put, find-put}
 use Rattle.std.proofs.lemmas.Cmp.{nat_cmp_total}
 use Rattle.std.proofs.lemmas.Bool.Decides.{nat_tests}
 use Rattle.std.specs.Option.{option_or, option_map, is_none}
-use Rattle.std.proofs.lemmas.Bool.{cases_Bool, cases_eq, false≢true, false_from_ne_true, and_parts, and_from, lt-ltb, ltb-false, le-leb, eqb-true}
+use Rattle.std.proofs.lemmas.Bool.{cases_Bool, cases_eq, false≢true, false_from_ne_true}
+use Rattle.std.proofs.lemmas.Bool.{and_parts, and_from, lt-ltb, ltb-false, le-leb, eqb-true}
 use Rattle.std.proofs.lemmas.List.Elements.{All-head, All-tail}
 use Rattle.std.proofs.lemmas.List.Folds.{find-append}
 use Rattle.std.proofs.lemmas.Map.Keys.{le_from_not_gt}
@@ -25,7 +27,8 @@ use Rattle.cast_order.proofs.Lists.{or_none, or_again, find_kept}
 abbrev going_on : ℕ → ℕ → Facts → Option Entry → List Entry
 going_on n place facts o = elim o [ Some e ↦ e ∷ order_from n (place + 1) facts | None ↦ [] ]
 
-pub order_next : (facts : Facts) (n place : ℕ) (e : Entry) → id_at facts place ≡ Some e → order_from (suc n) place facts ≡ e ∷ order_from n (place + 1) facts
+pub order_next : (facts : Facts) (n place : ℕ) (e : Entry) → id_at facts place ≡ Some e →
+    order_from (suc n) place facts ≡ e ∷ order_from n (place + 1) facts
 order_next facts n place e is = ap (going_on n place facts) is
 
 pub order_ends : (facts : Facts) (n place : ℕ) → id_at facts place ≡ None → order_from n place facts ≡ []
@@ -36,10 +39,12 @@ order_ends facts (suc n) place none = ap (going_on n place facts) none
 abbrev pub Keeps : Facts → Facts → Type 0
 Keeps facts more = (place : ℕ) (e : Entry) → id_at facts place ≡ Some e → id_at more place ≡ Some e
 
-pub order_grows : (facts more : Facts) → Keeps facts more → (n place : ℕ) → order_from n place more ≡ order_from n place facts ++ order_from (n - length (order_from n place facts)) (place + length (order_from n place facts)) more
+pub order_grows : (facts more : Facts) → Keeps facts more → (n place : ℕ) → order_from n place more
+    ≡ order_from n place facts ++ order_from (n - length (order_from n place facts)) (place + length (order_from n place facts)) more
 order_grows facts more keeps zero place = refl
 order_grows facts more keeps (suc n) place =
-    elim (id_at facts place) as (λ o. id_at facts place ≡ o → order_from (suc n) place more ≡ going_on n place facts o ++ order_from (suc n - length (going_on n place facts o)) (place + length (going_on n place facts o)) more) [
+    elim (id_at facts place) as (λ o. id_at facts place ≡ o → order_from (suc n) place more
+    ≡ going_on n place facts o ++ order_from (suc n - length (going_on n place facts o)) (place + length (going_on n place facts o)) more) [
       | Some e ↦ λ is.
           let front = order_from n (place + 1) facts in
           let fewer : n - length front ≡ suc n - suc (length front) = omega arith in
@@ -54,7 +59,8 @@ order_grows facts more keeps (suc n) place =
     ] refl
 
 -- facts that tell the same of some places make the same order there
-pub order_agrees : (facts more : Facts) (n place : ℕ) → ((p : ℕ) → place ≤ p → p < place + n → id_at facts p ≡ id_at more p) → order_from n place facts ≡ order_from n place more
+pub order_agrees : (facts more : Facts) (n place : ℕ) → ((p : ℕ) → place ≤ p → p < place + n → id_at facts p ≡ id_at more p) →
+    order_from n place facts ≡ order_from n place more
 order_agrees facts more zero place same = refl
 order_agrees facts more (suc n) place same =
     let here : id_at facts place ≡ id_at more place = same place (omega arith) (omega arith) in
@@ -75,27 +81,33 @@ order_most facts (suc n) place =
       | None ↦ omega arith
     ]
 
-order_ids : (facts : Facts) (n place i : ℕ) → i < length (order_from n place facts) → slice_get (order_from n place facts) i ≡ id_at facts (i + place)
+order_ids : (facts : Facts) (n place i : ℕ) → i < length (order_from n place facts) →
+    slice_get (order_from n place facts) i ≡ id_at facts (i + place)
 order_ids facts zero place i lt = absurd (omega arith)
 order_ids facts (suc n) place zero lt =
-    elim (id_at facts place) as (λ o. id_at facts place ≡ o → zero < length (going_on n place facts o) → slice_get (going_on n place facts o) zero ≡ id_at facts (zero + place)) [
+    elim (id_at facts place) as (λ o. id_at facts place ≡ o → zero < length (going_on n place facts o) →
+    slice_get (going_on n place facts o) zero ≡ id_at facts (zero + place)) [
       | Some e ↦ λ is _. let same : place ≡ zero + place = omega arith in sym is ∙ ap (id_at facts) same
       | None ↦ λ _ below. absurd (omega arith)
     ] refl lt
 order_ids facts (suc n) place (suc i) lt =
-    elim (id_at facts place) as (λ o. id_at facts place ≡ o → suc i < length (going_on n place facts o) → slice_get (going_on n place facts o) (suc i) ≡ id_at facts (suc i + place)) [
+    elim (id_at facts place) as (λ o. id_at facts place ≡ o → suc i < length (going_on n place facts o) →
+    slice_get (going_on n place facts o) (suc i) ≡ id_at facts (suc i + place)) [
       | Some e ↦ λ _ below.
           let same : i + (place + 1) ≡ suc i + place = omega arith in
           order_ids facts n (place + 1) i (omega arith) ∙ ap (id_at facts) same
       | None ↦ λ _ below. absurd (omega arith)
     ] refl lt
 
-order_stops : (facts : Facts) (n place : ℕ) → length (order_from n place facts) < n → id_at facts (length (order_from n place facts) + place) ≡ None
+order_stops : (facts : Facts) (n place : ℕ) → length (order_from n place facts) < n →
+    id_at facts (length (order_from n place facts) + place) ≡ None
 order_stops facts zero place lt = absurd (omega arith)
 order_stops facts (suc n) place lt =
-    elim (id_at facts place) as (λ o. id_at facts place ≡ o → length (going_on n place facts o) < suc n → id_at facts (length (going_on n place facts o) + place) ≡ None) [
+    elim (id_at facts place) as (λ o. id_at facts place ≡ o → length (going_on n place facts o) < suc n →
+    id_at facts (length (going_on n place facts o) + place) ≡ None) [
       | Some e ↦ λ _ below.
-          let same : suc (length (order_from n (place + 1) facts)) + place ≡ length (order_from n (place + 1) facts) + (place + 1) = omega arith in
+          let same : suc (length (order_from n (place + 1) facts)) + place ≡ length (order_from n (place + 1) facts) + (place + 1) =
+          omega arith in
           ap (id_at facts) same ∙ order_stops facts n (place + 1) (omega arith)
       | None ↦ λ none _. let same : 0 + place ≡ place = omega arith in ap (id_at facts) same ∙ none
     ] refl lt
@@ -125,7 +137,8 @@ id_at-append facts more place =
     ap (option_map (λ (f : ℕ × Entry). f.1)) (find-append (λ f. f.0 == place) facts more)
     ∙ of_either (find (λ f. f.0 == place) facts) (find (λ f. f.0 == place) more)
   where
-    of_either : (a b : Option (ℕ × Entry)) → option_map (λ (f : ℕ × Entry). f.1) (option_or a b) ≡ option_or (option_map (λ (f : ℕ × Entry). f.1) a) (option_map (λ (f : ℕ × Entry). f.1) b)
+    of_either : (a b : Option (ℕ × Entry)) → option_map (λ (f : ℕ × Entry). f.1) (option_or a b)
+        ≡ option_or (option_map (λ (f : ℕ × Entry). f.1) a) (option_map (λ (f : ℕ × Entry). f.1) b)
     of_either None b = refl
     of_either (Some x) b = refl
 
@@ -149,30 +162,36 @@ by_place : (place : ℕ) (facts : Facts) → find_key nat_cmp place facts ≡ id
 by_place place [] = refl
 by_place place (f ∷ facts) =
     (λ i. cond (tied_place place f.0 i) (Some f.1) (by_place place facts i))
-    ∙ elim (f.0 == place) as (λ b. cond b (Some f.1) (id_at facts place) ≡ option_map (λ (g : ℕ × Entry). g.1) (cond b (Some f) (find (λ g. g.0 == place) facts))) [ true ↦ refl | false ↦ refl ]
+    ∙ elim (f.0 == place) as (λ b. cond b (Some f.1) (id_at facts place)
+    ≡ option_map (λ (g : ℕ × Entry). g.1) (cond b (Some f) (find (λ g. g.0 == place) facts))) [ true ↦ refl | false ↦ refl ]
 
 -- and so does one in a map
 pub looked_up : (place : ℕ) (facts : Facts) → lookup (is_at (nat_cmp place)) facts ≡ id_at facts place
 looked_up place facts = lookup_finds nat_cmp place facts ∙ by_place place facts
 
 -- a fact of a place of which nothing is told is told there, and changes no other place
-put_told : (q : ℕ) (e : Entry) (facts : Facts) → is_none (id_at facts q) ≡ true → (place : ℕ) → id_at (put nat_cmp q e facts) place ≡ option_or (id_at facts place) (id_at ((q, e) ∷ []) place)
+put_told : (q : ℕ) (e : Entry) (facts : Facts) → is_none (id_at facts q) ≡ true → (place : ℕ) →
+    id_at (put nat_cmp q e facts) place ≡ option_or (id_at facts place) (id_at ((q, e) ∷ []) place)
 put_told q e facts new place =
     sym (by_place place (put nat_cmp q e facts))
     ∙ find-put nat_cmp nat_cmp_total place q e facts
     ∙ (λ i. cond (tied_place place q i) (Some e) (by_place place facts i))
-    ∙ either (q == place) (id_at facts place) (λ same. none (id_at facts place) (subst (λ k. is_none (id_at facts k) ≡ true) (eqb-true q place same) new))
+    ∙ either (q == place) (id_at facts place)
+    (λ same. none (id_at facts place) (subst (λ k. is_none (id_at facts k) ≡ true) (eqb-true q place same) new))
   where
     none : (o : Option Entry) → is_none o ≡ true → o ≡ None
     none None is = refl
     none (Some x) is = absurd (false≢true is)
 
-    either : (b : Bool) (o : Option Entry) → (b ≡ true → o ≡ None) → cond b (Some e) o ≡ option_or o (option_map (λ (f : ℕ × Entry). f.1) (cond b (Some (q, e)) None))
+    either : (b : Bool) (o : Option Entry) → (b ≡ true → o ≡ None) →
+        cond b (Some e) o ≡ option_or o (option_map (λ (f : ℕ × Entry). f.1) (cond b (Some (q, e)) None))
     either true o lacks = sym (ap (λ p. option_or p (Some e)) (lacks refl))
     either false o lacks = sym (or_none o)
 
 -- one more fact is kept unless its place has one, as the first of a place counts
-one_told : (most known : ℕ) (facts : Facts) (q : ℕ) (e : Entry) (place : ℕ) → known < place → place ≤ most → id_at (cond (nat_lt known q && (nat_le q most && is_none (id_at facts q))) (put nat_cmp q e facts) facts) place ≡ option_or (id_at facts place) (id_at ((q, e) ∷ []) place)
+one_told : (most known : ℕ) (facts : Facts) (q : ℕ) (e : Entry) (place : ℕ) →
+    known < place → place ≤ most → id_at (cond (nat_lt known q && (nat_le q most && is_none (id_at facts q))) (put nat_cmp q e facts) facts)
+    place ≡ option_or (id_at facts place) (id_at ((q, e) ∷ []) place)
 one_told most known facts q e place low high = elim (cases_Bool (nat_lt known q && (nat_le q most && is_none (id_at facts q)))) [
   | inl all ↦
       let parts = and_parts (nat_lt known q) (nat_le q most && is_none (id_at facts q)) all in
@@ -180,7 +199,8 @@ one_told most known facts q e place low high = elim (cases_Bool (nat_lt known q 
   | inr left ↦ rw left (elim (cases_eq q place) [
     | inl same ↦
         let there : is_none (id_at facts q) ≡ false = false_from_ne_true (is_none (id_at facts q)) (λ none. false≢true (sym left
-        ∙ and_from (nat_lt known q) (nat_le q most && is_none (id_at facts q)) (lt-ltb known q (omega arith)) (and_from (nat_le q most) (is_none (id_at facts q)) (le-leb q most (omega arith)) none))) in
+        ∙ and_from (nat_lt known q) (nat_le q most && is_none (id_at facts q)) (lt-ltb known q (omega arith))
+        (and_from (nat_le q most) (is_none (id_at facts q)) (le-leb q most (omega arith)) none))) in
         some_told (id_at facts place) (subst (λ k. is_none (id_at facts k) ≡ false) same there) (id_at ((q, e) ∷ []) place)
     | inr other ↦
         let apart : (q == place) ≡ false = false_from_ne_true (q == place) (λ h. other (eqb-true q place h)) in
@@ -188,7 +208,8 @@ one_told most known facts q e place low high = elim (cases_Bool (nat_lt known q 
   ])
 ]
 
-pub facts_told : (known : ℕ) (facts more : Facts) (place : ℕ) → known < place → place ≤ MAX_POSITION → id_at (with_facts known facts more) place ≡ option_or (id_at facts place) (id_at more place)
+pub facts_told : (known : ℕ) (facts more : Facts) (place : ℕ) → known < place → place ≤ MAX_POSITION →
+    id_at (with_facts known facts more) place ≡ option_or (id_at facts place) (id_at more place)
 facts_told known facts [] place low high = sym (or_none (id_at facts place))
 facts_told known facts (f ∷ more) place low high =
     facts_told known (with_fact known facts f.0 f.1) more place low high
@@ -199,7 +220,8 @@ facts_told known facts (f ∷ more) place low high =
 -- facts up to a place are of no account past it
 pub past_told : (known : ℕ) (facts : Facts) (place : ℕ) → known < place → id_at (past known facts) place ≡ id_at facts place
 past_told known facts place lt =
-    ap (option_map (λ (f : ℕ × Entry). f.1)) (find_kept (λ f. f.0 == place) (λ f. nat_lt known f.0) (λ f low. false_from_ne_true (f.0 == place) (λ same.
+    ap (option_map (λ (f : ℕ × Entry). f.1))
+    (find_kept (λ f. f.0 == place) (λ f. nat_lt known f.0) (λ f low. false_from_ne_true (f.0 == place) (λ same.
     let below = ltb-false known f.0 low in
     let here = eqb-true f.0 place same in
     omega arith)) facts)
@@ -214,15 +236,22 @@ all_past known first (f ∷ facts) lt least =
     λ i. cond (sym stays i) (f ∷ rest i) (rest i)
 
 -- the order known grows by what later facts tell
-longer_by : (most : ℕ) (facts new later : Facts) (known : List Entry) → known ≡ order_from most 1 facts → ((place : ℕ) → length known < place → place ≤ most → id_at later place ≡ id_at (facts ++ new) place) → known ++ order_from (most - length known) (length known + 1) later ≡ order_from most 1 (facts ++ new)
+longer_by : (most : ℕ) (facts new later : Facts) (known : List Entry) → known ≡ order_from most 1 facts →
+    ((place : ℕ) → length known < place → place ≤ most → id_at later place ≡ id_at (facts ++ new) place) →
+    known ++ order_from (most - length known) (length known + 1) later ≡ order_from most 1 (facts ++ new)
 longer_by most facts new later known is same =
-    let grown = subst (λ k. order_from most 1 (facts ++ new) ≡ k ++ order_from (most - length k) (1 + length k) (facts ++ new)) (sym is) (order_grows facts (facts ++ new) (keeps_more facts new) most 1) in
-    let agreed = order_agrees later (facts ++ new) (most - length known) (length known + 1) (λ p low high. same p (omega arith) (omega arith)) in
+    let grown =
+    subst (λ k. order_from most 1 (facts ++ new) ≡ k ++ order_from (most - length k) (1 + length k) (facts ++ new)) (sym is)
+    (order_grows facts (facts ++ new) (keeps_more facts new) most 1) in
+    let agreed =
+    order_agrees later (facts ++ new) (most - length known) (length known + 1) (λ p low high. same p (omega arith) (omega arith)) in
     let turned : length known + 1 ≡ 1 + length known = omega arith in
     ap (λ rest. known ++ rest) agreed
     ∙ ap (λ k. known ++ order_from (most - length known) k (facts ++ new)) turned
     ∙ sym grown
 
-pub known_grows : (facts new later : Facts) (known : List Entry) → known ≡ known_order facts → ((place : ℕ) → length known < place → place ≤ MAX_POSITION → id_at later place ≡ id_at (facts ++ new) place) → known ++ order_from (MAX_POSITION - length known) (length known + 1) later ≡ known_order (facts ++ new)
+pub known_grows : (facts new later : Facts) (known : List Entry) → known ≡ known_order facts →
+    ((place : ℕ) → length known < place → place ≤ MAX_POSITION → id_at later place ≡ id_at (facts ++ new) place) →
+    known ++ order_from (MAX_POSITION - length known) (length known + 1) later ≡ known_order (facts ++ new)
 known_grows facts new later known is same =
     longer_by MAX_POSITION facts new later known (is ∙ known_is facts) same ∙ sym (known_is (facts ++ new))

@@ -1,5 +1,7 @@
 -- What a site keeps of a group's order, as contracts see it, and what each call does to it.
-use Rattle.std.specs.Prelude.{ℕ, ◌+◌, ◌-◌, ◌*◌, Bool, true, false, not, ◌&&◌, nat_lt, nat_le, min, max, if◌then◌else◌, List, [], ◌∷◌, ◌++◌, length, take, drop, map, filter, Option, Some, None, unwrap_or}
+use Rattle.std.specs.Prelude.{ℕ, ◌+◌, ◌-◌, ◌*◌, Bool, true, false, not, ◌&&◌, nat_lt}
+use Rattle.std.specs.Prelude.{nat_le, min, max, if◌then◌else◌, List, [], ◌∷◌, ◌++◌, length}
+use Rattle.std.specs.Prelude.{take, drop, map, filter, Option, Some, None, unwrap_or}
 use Rattle.std.specs.List.{find, list_any}
 use Rattle.std.specs.Option.{is_none}
 use Rattle.std.specs.Ordering.{nat_cmp}
@@ -12,10 +14,11 @@ use Rattle.cast_message.specs.Placement.{Placement}
 use Rattle.cast_order.specs.Order.{Facts, facts_of, id_at, order_from, ids_to_list}
 use Rattle.cast_order.specs.Hand.{Hand, hand_of, change_hand, note_placed}
 
--- base: how many of the first ids known are forgotten; window: the ids known behind them; later: facts of places past a
--- gap, one of each, in rising order of the places; places: how many of the first ids known local processes have passed,
--- each at least those that are forgotten; hands: what is kept of local processes that order the view's ABCASTs, or did;
--- closed: whether the order is closed, so that nothing more is learnt
+-- base: how many of the first ids known are forgotten; window: the ids known behind them; later:
+-- facts of places past a gap, one of each, in rising order of the places; places: how many of the
+-- first ids known local processes have passed, each at least those that are forgotten; hands: what
+-- is kept of local processes that order the view's ABCASTs, or did; closed: whether the order is
+-- closed, so that nothing more is learnt
 pub record Log : Type 0 where
   pub group : GroupNo
   pub base : ℕ
@@ -26,7 +29,15 @@ pub record Log : Type 0 where
   pub closed : Bool
 
 abbrev pub new_log : GroupNo → Log
-new_log g = record { group = g; base = 0; window = []; later = []; places = []; hands = []; closed = false }
+new_log g = record {
+  group = g;
+  base = 0;
+  window = [];
+  later = [];
+  places = [];
+  hands = [];
+  closed = false;
+}
 
 -- how many ids are known, with those that are forgotten
 abbrev pub length_of : Log → ℕ
@@ -48,7 +59,8 @@ open_log g logs = if list_any (λ l. group_eq l.group g) logs then logs else log
 -- the group's log changed, where there is none a new one
 abbrev pub change_log : GroupNo → (Log → Log) → List Log → List Log
 change_log g f logs =
-    if list_any (λ l. group_eq l.group g) logs then change_in g f logs else logs ++ f (new_log g) ∷ []
+    if list_any (λ l. group_eq l.group g) logs then change_in g f logs
+    else logs ++ f (new_log g) ∷ []
 
 -- the group has no log
 abbrev pub but_log : GroupNo → List Log → List Log
@@ -56,11 +68,13 @@ but_log g logs = filter (λ l. not (group_eq l.group g)) logs
 
 -- What is told of the order
 
--- facts in rising order of their places with one more in its place, if it is of a place past so many, up to the last one,
--- of which they tell nothing
+-- facts in rising order of their places with one more in its place, if it is of a place past so
+-- many, up to the last one, of which they tell nothing
 abbrev pub with_fact : ℕ → Facts → ℕ → Entry → Facts
 with_fact known facts place id =
-    if nat_lt known place && (nat_le place MAX_POSITION && is_none (id_at facts place)) then put nat_cmp place id facts else facts
+    if nat_lt known place && (nat_le place MAX_POSITION && is_none (id_at facts place))
+    then put nat_cmp place id facts
+    else facts
 
 -- with each of these, in order
 abbrev pub with_facts : ℕ → Facts → Facts → Facts
@@ -69,7 +83,8 @@ with_facts known facts (f ∷ more) = with_facts known (with_fact known facts f.
 
 -- ids that stand behind so many, with what facts tell of the places behind them
 abbrev pub with_next : ℕ → List Entry → Facts → List Entry
-with_next base ids facts = ids ++ order_from (MAX_POSITION - (base + length ids)) (base + length ids + 1) facts
+with_next base ids facts =
+    ids ++ order_from (MAX_POSITION - (base + length ids)) (base + length ids + 1) facts
 
 -- the ids kept of the order known with what later facts add to them, and the facts past a place
 abbrev pub longer : Log → List Entry
@@ -90,10 +105,12 @@ settle_log l =
 -- a set-order message is taken in, unless the order is closed
 abbrev pub learnt : Placement → Log → Log
 learnt s l =
-    if l.closed then l else settle_log (record l { later = with_facts (length_of l) l.later (facts_of s) })
+    if l.closed then l
+    else settle_log (record l { later = with_facts (length_of l) l.later (facts_of s) })
 
--- the end of the order is told, from a place on: the order known becomes the first ids up to there, and behind them those
--- that are told, all that are kept without ids beyond the cut; what is forgotten stays so up to there, and so does what is kept of processes
+-- the end of the order is told, from a place on: the order known becomes the first ids up to there,
+-- and behind them those that are told, all that are kept without ids beyond the cut; what is
+-- forgotten stays so up to there, and so does what is kept of processes
 abbrev pub closed_by : (Entry → Bool) → ℕ → List Entry → Log → Log
 closed_by is_within start ids l = record {
   group = l.group;
@@ -113,7 +130,8 @@ is_long l = not l.closed && nat_le (2 * MAX_TAIL) (length l.window)
 abbrev pub oldest_in : Log → List Entry
 oldest_in l = if is_long l then take (length l.window - MAX_TAIL) l.window else []
 
--- so many of the kept ids, the first ones, are forgotten, at most all of them, and none past the last place
+-- so many of the kept ids, the first ones, are forgotten, at most all of them, and none past the
+-- last place
 abbrev pub forgot : ℕ → Log → Log
 forgot count l =
     let more : ℕ = min (MAX_POSITION - l.base) (min count (length l.window)) in
@@ -130,7 +148,9 @@ next_in l p = drop (place_of l p - l.base) l.window
 
 -- a process passed the next n ids, at most all that are known
 abbrev pub pass_ids : Proc → ℕ → Log → Log
-pass_ids p n l = record l { places = put proc_cmp p (place_of l p + min n (length (next_in l p))) l.places }
+pass_ids p n l = record l {
+  places = put proc_cmp p (place_of l p + min n (length (next_in l p))) l.places;
+}
 
 -- What processes do that order the view's ABCASTs
 
@@ -143,11 +163,14 @@ with_hand p f l = record l { hands = change_hand p f l.hands }
 abbrev pub waits_in : Log → Bool
 waits_in l = list_any (λ h. nat_lt 0 (length h.waiting)) l.hands
 
--- the places that the next set-order message of a process sets, none where nothing waits or no place is left
+-- the places that the next set-order message of a process sets, none where nothing waits or no
+-- place is left
 abbrev pub next_places : Log → Proc → Option Placement
 next_places l p =
     if nat_lt 0 (length (hand_here l p).waiting) && nat_lt (length_of l) MAX_POSITION
-    then Some (record { first = length_of l + 1; ids = ids_to_list (hand_here l p).waiting; holder = None }) else None
+    then Some
+    (record { first = length_of l + 1; ids = ids_to_list (hand_here l p).waiting; holder = None })
+    else None
 
 -- how many places there are up to the last id that a process has to list
 abbrev pub places_by : Log → Proc → ℕ
@@ -166,7 +189,8 @@ waiting_of l (Some p) = (hand_here l p).waiting
 abbrev pub whole_kept : Log → Option Proc → List Entry
 whole_kept l o = l.window ++ waiting_of l o
 
--- how many ids stand before the tail of the order known and what waits, and its ids, as far as they are kept
+-- how many ids stand before the tail of the order known and what waits, and its ids, as far as they
+-- are kept
 abbrev pub tail_start_in : Log → Option Proc → ℕ
 tail_start_in l o = max l.base (length_of l + length (waiting_of l o) - MAX_TAIL)
 

@@ -1,6 +1,8 @@
 -- The total order of a view's ABCASTs, and how it is listed.
 -- It is known by all that set-order messages told of it.
-use Rattle.std.specs.Prelude.{◌≡◌, ℕ, zero, suc, ◌+◌, ◌-◌, ◌<◌, ◌≤◌, max, Bool, not, ◌==◌, nat_le, List, [], ◌∷◌, ◌++◌, length, take, drop, filter, slice_get, Option, Some, None, unwrap_or}
+use Rattle.std.specs.Prelude.{◌≡◌, ℕ, zero, suc, ◌+◌, ◌-◌, ◌<◌, ◌≤◌, max, Bool, not}
+use Rattle.std.specs.Prelude.{◌==◌, nat_le, List, [], ◌∷◌, ◌++◌, length, take, drop}
+use Rattle.std.specs.Prelude.{filter, slice_get, Option, Some, None, unwrap_or}
 use Rattle.std.specs.List.{find, enumerate_from}
 use Rattle.std.specs.Option.{option_map}
 use Rattle.cast_types.specs.declared.limits.TheConstants.{MAX_PLACED, MAX_TAIL, MAX_POSITION}
@@ -20,7 +22,8 @@ facts_of s = enumerate_from s.first s.ids
 abbrev pub id_at : Facts → ℕ → Option Entry
 id_at facts place = option_map (λ f. f.1) (find (λ f. f.0 == place) facts)
 
--- the ids at a place and at those after it, at most so many, up to the first place of which nothing was told
+-- the ids at a place and at those after it, at most so many, up to the first place of which nothing
+-- was told
 abbrev pub order_from : ℕ → ℕ → Facts → List Entry
 order_from zero place facts = []
 order_from (suc n) place facts =
@@ -30,8 +33,8 @@ order_from (suc n) place facts =
 unfoldable pub known_order : Facts → List Entry
 known_order facts = order_from MAX_POSITION 1 facts
 
--- the order in words: each place has the first id told for it, and the order ends only before a place of which nothing
--- was told, or at the last place
+-- the order in words: each place has the first id told for it, and the order ends only before a
+-- place of which nothing was told, or at the last place
 pub record IsKnownOrder (facts : Facts) (order : List Entry) : Type 0 where
   pub ids : (i : ℕ) → i < length order → slice_get order i ≡ id_at facts (i + 1)
   pub ends : length order < MAX_POSITION → id_at facts (length order + 1) ≡ None
@@ -63,8 +66,8 @@ last_listed (x ∷ listed) = max x.1 (last_listed listed)
 abbrev pub last_upto : ℕ → Listing → ℕ
 last_upto n listed = last_listed (filter (λ x. nat_le x.0 n) listed)
 
--- how many places are settled: those before the first place that is to be ordered, where there is one, and those up to the last one that
--- these messages set
+-- how many places are settled: those before the first place that is to be ordered, where there is
+-- one, and those up to the last one that these messages set
 abbrev pub settled_places : Option ℕ → ℕ → ℕ
 settled_places first last = max (unwrap_or first 1 - 1) last
 
@@ -82,8 +85,8 @@ tail_start order = length order - MAX_TAIL
 abbrev pub tail_ids : List Entry → List Entry
 tail_ids order = drop (tail_start order) order
 
--- the order of a view that has ended, as a site knows it once it was told the end of that order, behind so many ids: its
--- own first ids, as many as it knows of those, and behind them the ids that it was told, all without what the view's cut
--- leaves out
+-- the order of a view that has ended, as a site knows it once it was told the end of that order,
+-- behind so many ids: its own first ids, as many as it knows of those, and behind them the ids that
+-- it was told, all without what the view's cut leaves out
 abbrev pub closed_order : (Entry → Bool) → ℕ → List Entry → List Entry → List Entry
 closed_order is_within start ids own = filter is_within (take start own ++ ids)

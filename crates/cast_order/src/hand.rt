@@ -5,13 +5,15 @@ ghost use Rattle.std.specs.Option.{option_copied};
 ghost use Rattle.cast_types.specs.Names.{entry_eq, proc_cmp, proc_eq};
 ghost use Rattle.cast_types.specs.Sets.{is_among};
 ghost use Rattle.cast_order.specs.Order.{last_upto};
-ghost use Rattle.cast_order.specs.Hand.{new_hand, hold_from, hand_over, note_unlisted, note_placed, note_order_sent, settled_by, hand_in, hand_opened};
+ghost use Rattle.cast_order.specs.Hand.{new_hand, hold_from, hand_over, note_unlisted, note_placed};
+ghost use Rattle.cast_order.specs.Hand.{note_order_sent, settled_by, hand_in, hand_opened};
 
 use cast_types::{NoMemory, Proc};
 use std::alloc::Global;
 use std::marker::Model;
 
-/// What a site keeps of a local process that orders a view's ABCASTs, or did. Contracts see a `Hand`.
+/// What a site keeps of a local process that orders a view's ABCASTs, or did. Contracts see a
+/// `Hand`.
 #[derive(Drop)]
 pub struct OrderHand {
     pub process: Proc,
@@ -26,7 +28,13 @@ impl Model for OrderHand {
 
     ghost Value = { Hand };
 
-    ghost view = { λ h. record { process = h.process; first = h.first; reached = h.reached; lists = h.lists.items; waiting = h.waiting.items } };
+    ghost view = { λ h. record {
+      process = h.process;
+      first = h.first;
+      reached = h.reached;
+      lists = h.lists.items;
+      waiting = h.waiting.items;
+    } };
 }
 
 impl OrderHand {
@@ -266,7 +274,8 @@ pub(crate) fn note_hand(
     last: usize,
     stable: u32,
 ) -> Result<(), NoMemory>
-    ensures { OnOk result (hands.new.items ≡ hand_in process (note_order_sent count last stable) hands.old.items) }
+    ensures { OnOk result
+        (hands.new.items ≡ hand_in process (note_order_sent count last stable) hands.old.items) }
 {
     for hand in hands.iter_mut() {
         if hand.process == process {

@@ -4,8 +4,13 @@ ghost use Rattle.cast_types.specs.Counts.{is_within};
 ghost use Rattle.cast_types.specs.Names.{entry_eq};
 ghost use Rattle.cast_types.specs.Sets.{is_among};
 ghost use Rattle.cast_order.specs.Order.{id_at};
-ghost use Rattle.cast_order.specs.Hand.{hold_from, hand_over, note_unlisted, note_order_sent, settled_by};
-ghost use Rattle.cast_order.specs.Log.{is_long, length_of, new_log, oldest_in, with_fact, with_facts, with_next, past, settle_log, learnt, place_of, next_in, pass_ids, hand_here, with_hand, waits_in, next_places, places_by, known_past, waiting_of, whole_kept, tail_start_in, tail_ids_in, closed_by, forgot};
+ghost use Rattle.cast_order.specs.Hand.{hold_from, hand_over, note_unlisted};
+ghost use Rattle.cast_order.specs.Hand.{note_order_sent, settled_by};
+ghost use Rattle.cast_order.specs.Log.{is_long, length_of, new_log, oldest_in, with_fact};
+ghost use Rattle.cast_order.specs.Log.{with_facts, with_next, past, settle_log, learnt, place_of};
+ghost use Rattle.cast_order.specs.Log.{next_in, pass_ids, hand_here, with_hand, waits_in};
+ghost use Rattle.cast_order.specs.Log.{next_places, places_by, known_past, waiting_of};
+ghost use Rattle.cast_order.specs.Log.{whole_kept, tail_start_in, tail_ids_in, closed_by, forgot};
 
 use crate::hand::{
     OrderHand, copy_hands, hand_among, hand_over_in, hold_in, holds, note_hand, open_hand,
@@ -35,7 +40,15 @@ impl Model for OrderLog {
 
     ghost Value = { Log };
 
-    ghost view = { λ l. record { group = l.group; base = l.base; window = l.window.items; later = l.later.entries; places = l.places; hands = l.hands.items; closed = l.closed } };
+    ghost view = { λ l. record {
+      group = l.group;
+      base = l.base;
+      window = l.window.items;
+      later = l.later.entries;
+      places = l.places;
+      hands = l.hands.items;
+      closed = l.closed;
+    } };
 }
 
 impl OrderLog {
@@ -83,7 +96,8 @@ impl OrderLog {
         Ok(())
     }
 
-    // Adds to the order known what follows it without a gap, and keeps only the facts past that. What it adds waits no more.
+    // Adds to the order known what follows it without a gap, and keeps only the facts past that.
+    // What it adds waits no more.
     fn settle(&mut self) -> Result<(), NoMemory>
         ensures { OnOk result (self.new ≡ settle_log self.old) }
     {
@@ -102,7 +116,8 @@ impl OrderLog {
         self.base as usize + self.window.len()
     }
 
-    /// How many places there are up to the last id that a process here has to list, as far as a number counts.
+    /// How many places there are up to the last id that a process here has to list, as far as a
+    /// number counts.
     pub fn places_by(&self, process: Proc) -> usize
         ensures { result ≡ min 18446744073709551615 (places_by self.now process) }
     {
@@ -110,9 +125,11 @@ impl OrderLog {
             .saturating_add(self.ids_to_list(process).len())
     }
 
-    /// Closes the order: it becomes its first ids and those of the tail, all that are kept without ids beyond the cut.
+    /// Closes the order: it becomes its first ids and those of the tail, all that are kept without
+    /// ids beyond the cut.
     pub fn close(&mut self, tail: &Tail, cut: &Counts) -> Result<(), NoMemory>
-        ensures { OnOk result (self.new ≡ closed_by (is_within cut.now) tail.now.start tail.now.ids self.old) }
+        ensures { OnOk result
+            (self.new ≡ closed_by (is_within cut.now) tail.now.start tail.now.ids self.old) }
     {
         let start = tail.start();
         let kept = start.saturating_sub(self.base) as usize;
@@ -208,7 +225,8 @@ impl OrderLog {
         Ok(())
     }
 
-    /// Takes in that a process here sent a set-order message of this count, which sets places up to the last.
+    /// Takes in that a process here sent a set-order message of this count, which sets places up to
+    /// the last.
     pub fn note(
         &mut self,
         process: Proc,
@@ -216,7 +234,8 @@ impl OrderLog {
         last: usize,
         stable: u32,
     ) -> Result<(), NoMemory>
-        ensures { OnOk result (self.new ≡ with_hand process (note_order_sent count last stable) self.old) }
+        ensures { OnOk result
+            (self.new ≡ with_hand process (note_order_sent count last stable) self.old) }
     {
         open_hand(&mut self.hands, process)?;
         note_hand(&mut self.hands, process, count, last, stable)?;
@@ -240,7 +259,8 @@ impl OrderLog {
         }
     }
 
-    /// What is kept of processes that order the view's ABCASTs, or did, in rising order of the processes.
+    /// What is kept of processes that order the view's ABCASTs, or did, in rising order of the
+    /// processes.
     pub fn hands(&self) -> &[OrderHand]
         ensures { result.now ≡ self.now.hands }
     {
@@ -313,7 +333,8 @@ impl OrderLog {
 
     /// How many ids stand before the tail of the whole order, and its ids, as far as they are kept.
     pub fn tail(&self, holder: Option<Proc>) -> Result<(usize, List<(Proc, u32)>), NoMemory>
-        ensures { IfOk result (λ t. t ≡ (tail_start_in self.now holder, tail_ids_in self.now holder)) }
+        ensures { IfOk result
+            (λ t. t ≡ (tail_start_in self.now holder, tail_ids_in self.now holder)) }
     {
         let waiting = self.waiting_of(holder);
         let known = self.length();
@@ -381,7 +402,8 @@ fn add_facts(
     first: u32,
     ids: &[(Proc, u32)],
 ) -> Result<(), NoMemory>
-    ensures { OnOk result (facts.new.entries ≡ with_facts known facts.old.entries (enumerate_from first ids.now)) }
+    ensures { OnOk result
+        (facts.new.entries ≡ with_facts known facts.old.entries (enumerate_from first ids.now)) }
 {
     let mut place = first as usize;
     for id in ids {
@@ -391,7 +413,8 @@ fn add_facts(
     Ok(())
 }
 
-// Adds to the ids known behind the first ones what the facts tell of the places behind them, up to a gap.
+// Adds to the ids known behind the first ones what the facts tell of the places behind them, up to
+// a gap.
 fn extend(
     window: &mut Vec<(Proc, u32)>,
     base: u32,

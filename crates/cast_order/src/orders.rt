@@ -4,8 +4,12 @@ ghost use Rattle.std.specs.Option.{option_copied};
 ghost use Rattle.cast_types.specs.Counts.{is_within};
 ghost use Rattle.cast_types.specs.Names.{entry_eq, group_eq};
 ghost use Rattle.cast_types.specs.Sets.{is_among};
-ghost use Rattle.cast_order.specs.Hand.{hold_from, hand_over, note_unlisted, note_order_sent, settled_by};
-ghost use Rattle.cast_order.specs.Log.{is_long, length_of, log_of, change_in, open_log, change_log, but_log, learnt, next_in, pass_ids, hand_here, with_hand, waits_in, next_places, known_past, whole_kept, tail_start_in, tail_ids_in, closed_by, oldest_in, forgot};
+ghost use Rattle.cast_order.specs.Hand.{hold_from, hand_over, note_unlisted};
+ghost use Rattle.cast_order.specs.Hand.{note_order_sent, settled_by};
+ghost use Rattle.cast_order.specs.Log.{is_long, length_of, log_of, change_in, open_log};
+ghost use Rattle.cast_order.specs.Log.{change_log, but_log, learnt, next_in, pass_ids, hand_here};
+ghost use Rattle.cast_order.specs.Log.{with_hand, waits_in, next_places, known_past, whole_kept};
+ghost use Rattle.cast_order.specs.Log.{tail_start_in, tail_ids_in, closed_by, oldest_in, forgot};
 
 use crate::hand::OrderHand;
 use crate::log::OrderLog;
@@ -14,7 +18,8 @@ use cast_types::{Counts, GroupNo, List, NoMemory, Proc};
 use std::alloc::Global;
 use std::marker::Model;
 
-/// The orders of the current views of a domain's groups, as one site knows them. Contracts see the list of their logs.
+/// The orders of the current views of a domain's groups, as one site knows them. Contracts see the
+/// list of their logs.
 #[derive(Drop)]
 pub struct Orders {
     logs: Vec<OrderLog>,
@@ -48,8 +53,9 @@ impl Orders {
         })
     }
 
-    /// Takes in a set-order message of a group's view, unless the view's order is closed. For each place the first id told
-    /// for it counts. `NoMemory` leaves the orders of no further use, as in all calls.
+    /// Takes in a set-order message of a group's view, unless the view's order is closed. For each
+    /// place the first id told for it counts. `NoMemory` leaves the orders of no further use, as in
+    /// all calls.
     #[tactic(auto, using(crate::proofs::Logs::change_opened))]
     pub fn learn(&mut self, group: GroupNo, placement: &Placement) -> Result<(), NoMemory>
         ensures { OnOk result (self.new ≡ change_log group (learnt placement.now) self.old) }
@@ -66,8 +72,8 @@ impl Orders {
         log_in(&self.logs, group)
     }
 
-    /// How many ids of a group's order are known without a gap, from place 1 on, with those that are forgotten. Takes no
-    /// memory.
+    /// How many ids of a group's order are known without a gap, from place 1 on, with those that
+    /// are forgotten. Takes no memory.
     pub fn length(&self, group: GroupNo) -> usize
         ensures { result ≡ length_of (log_of self.now group) }
     {
@@ -77,8 +83,8 @@ impl Orders {
         }
     }
 
-    /// The ids known from the process's place on, each a process and a count: its next position is that of the first of
-    /// them that it has not delivered. Takes no memory.
+    /// The ids known from the process's place on, each a process and a count: its next position is
+    /// that of the first of them that it has not delivered. Takes no memory.
     pub fn next(&self, group: GroupNo, process: Proc) -> &[(Proc, u32)]
         ensures { result.now ≡ next_in (log_of self.now group) process }
     {
@@ -88,8 +94,8 @@ impl Orders {
         }
     }
 
-    /// Takes in that the process delivered the first `count` ids of those that `next` gives, so that it passes them;
-    /// where that gives fewer, all of them.
+    /// Takes in that the process delivered the first `count` ids of those that `next` gives, so
+    /// that it passes them; where that gives fewer, all of them.
     #[tactic(auto, using(crate::proofs::Logs::change_opened))]
     pub fn pass(&mut self, group: GroupNo, process: Proc, count: usize) -> Result<(), NoMemory>
         ensures { OnOk result (self.new ≡ change_log group (pass_ids process count) self.old) }
@@ -99,10 +105,12 @@ impl Orders {
         Ok(())
     }
 
-    /// Takes in that a process here holds the token of the group's view, and orders from this place on.
+    /// Takes in that a process here holds the token of the group's view, and orders from this place
+    /// on.
     #[tactic(auto, using(crate::proofs::Logs::change_opened))]
     pub fn hold(&mut self, group: GroupNo, process: Proc, first: u32) -> Result<(), NoMemory>
-        ensures { OnOk result (self.new ≡ change_log group (with_hand process (hold_from first)) self.old) }
+        ensures { OnOk result
+            (self.new ≡ change_log group (with_hand process (hold_from first)) self.old) }
     {
         open_in(&mut self.logs, group)?;
         hold_token_in(&mut self.logs, group, process, first)?;
@@ -119,7 +127,8 @@ impl Orders {
         Ok(())
     }
 
-    /// The first place that a process here orders, where it holds the token of the group's view. Takes no memory.
+    /// The first place that a process here orders, where it holds the token of the group's view.
+    /// Takes no memory.
     pub fn first(&self, group: GroupNo, process: Proc) -> Option<u32>
         ensures { result ≡ (hand_here (log_of self.now group) process).first }
     {
@@ -129,8 +138,8 @@ impl Orders {
         }
     }
 
-    /// What is kept of processes here that order the ABCASTs of the group's view, or did, in rising order of the processes.
-    /// Takes no memory.
+    /// What is kept of processes here that order the ABCASTs of the group's view, or did, in rising
+    /// order of the processes. Takes no memory.
     pub fn hands(&self, group: GroupNo) -> &[OrderHand]
         ensures { result.now ≡ (log_of self.now group).hands }
     {
@@ -143,15 +152,17 @@ impl Orders {
     /// Takes in that a process here delivered this ABCAST, which is not in the order known.
     #[tactic(auto, using(crate::proofs::Logs::change_opened))]
     pub fn tell(&mut self, group: GroupNo, process: Proc, id: (Proc, u32)) -> Result<(), NoMemory>
-        ensures { OnOk result (self.new ≡ change_log group (with_hand process (note_unlisted id)) self.old) }
+        ensures { OnOk result
+            (self.new ≡ change_log group (with_hand process (note_unlisted id)) self.old) }
     {
         open_in(&mut self.logs, group)?;
         tell_in(&mut self.logs, group, process, id)?;
         Ok(())
     }
 
-    /// The places that the next set-order message of a process here sets: those behind the order known, for the first ids
-    /// that it delivered and that are not in that, at most 64. `None` where there is none, or no place is left.
+    /// The places that the next set-order message of a process here sets: those behind the order
+    /// known, for the first ids that it delivered and that are not in that, at most 64. `None`
+    /// where there is none, or no place is left.
     pub fn assign(&self, group: GroupNo, process: Proc) -> Result<Option<Placement>, NoMemory>
         ensures { IfOk result (λ q. q ≡ next_places (log_of self.now group) process) }
     {
@@ -161,9 +172,10 @@ impl Orders {
         }
     }
 
-    /// Takes in that a process here sent a set-order message of this count, from 1 on, which sets places up to the last, and
-    /// that its messages up to `stable` are stable, 0 where none is. Its ids wait until they join the order known, once they
-    /// are learnt here, as at any other site: until then `assign` would set the same places again.
+    /// Takes in that a process here sent a set-order message of this count, from 1 on, which sets
+    /// places up to the last, and that its messages up to `stable` are stable, 0 where none is. Its
+    /// ids wait until they join the order known, once they are learnt here, as at any other site:
+    /// until then `assign` would set the same places again.
     #[tactic(auto, using(crate::proofs::Logs::change_opened))]
     pub fn note(
         &mut self,
@@ -173,15 +185,17 @@ impl Orders {
         last: usize,
         stable: u32,
     ) -> Result<(), NoMemory>
-        ensures { OnOk result (self.new ≡ change_log group (with_hand process (note_order_sent count last stable)) self.old) }
+        ensures { OnOk result (self.new
+            ≡ change_log group (with_hand process (note_order_sent count last stable)) self.old) }
     {
         open_in(&mut self.logs, group)?;
         note_in(&mut self.logs, group, process, count, last, stable)?;
         Ok(())
     }
 
-    /// How many places a process here has settled, where its set-order messages up to count `stable` are stable: those
-    /// before its first one, and those up to the last one that these messages set. Takes no memory.
+    /// How many places a process here has settled, where its set-order messages up to count
+    /// `stable` are stable: those before its first one, and those up to the last one that these
+    /// messages set. Takes no memory.
     pub fn settled_places(&self, group: GroupNo, process: Proc, stable: u32) -> usize
         ensures { result ≡ settled_by stable (hand_here (log_of self.now group) process) }
     {
@@ -191,7 +205,8 @@ impl Orders {
         }
     }
 
-    /// The ABCASTs that a process here delivered and that are not in the order known, in its order. Takes no memory.
+    /// The ABCASTs that a process here delivered and that are not in the order known, in its order.
+    /// Takes no memory.
     pub fn ids_to_list(&self, group: GroupNo, process: Proc) -> &[(Proc, u32)]
         ensures { result.now ≡ (hand_here (log_of self.now group) process).waiting }
     {
@@ -201,7 +216,8 @@ impl Orders {
         }
     }
 
-    /// The ids of the order known past so many places, but for those that are forgotten. Takes no memory.
+    /// The ids of the order known past so many places, but for those that are forgotten. Takes no
+    /// memory.
     pub fn ids_past(&self, group: GroupNo, place: usize) -> &[(Proc, u32)]
         ensures { result.now ≡ known_past place (log_of self.now group) }
     {
@@ -231,15 +247,16 @@ impl Orders {
         }
     }
 
-    /// Whether a process here delivered an ABCAST of any group that is not in the order known. Takes no memory.
+    /// Whether a process here delivered an ABCAST of any group that is not in the order known.
+    /// Takes no memory.
     pub fn some_wait(&self) -> bool
         ensures { result ≡ list_any waits_in self.now }
     {
         self.logs.iter().any(|log| log.waits())
     }
 
-    /// Whether an id has a place in the order known, or waits for one, having been delivered by the holder, if one is here:
-    /// of what is not forgotten. Takes no memory.
+    /// Whether an id has a place in the order known, or waits for one, having been delivered by the
+    /// holder, if one is here: of what is not forgotten. Takes no memory.
     pub fn knows(&self, group: GroupNo, holder: Option<Proc>, id: (Proc, u32)) -> bool
         ensures { result ≡ is_among entry_eq id (whole_kept (log_of self.now group) holder) }
     {
@@ -249,14 +266,17 @@ impl Orders {
         }
     }
 
-    /// The last ids of the order known and, behind it, of what waits to be listed by the holder, if one is here, at most
-    /// 512 and none that is forgotten, and how many stand before them.
+    /// The last ids of the order known and, behind it, of what waits to be listed by the holder, if
+    /// one is here, at most 512 and none that is forgotten, and how many stand before them.
     pub fn tail(
         &self,
         group: GroupNo,
         holder: Option<Proc>,
     ) -> Result<(usize, List<(Proc, u32)>), NoMemory>
-        ensures { IfOk result (λ t. t ≡ (tail_start_in (log_of self.now group) holder, tail_ids_in (log_of self.now group) holder)) }
+        ensures { IfOk result (λ t. t ≡ (
+          tail_start_in (log_of self.now group) holder,
+          tail_ids_in (log_of self.now group) holder,
+        )) }
     {
         match log_in(&self.logs, group) {
             Some(log) => log.tail(holder),
@@ -264,21 +284,24 @@ impl Orders {
         }
     }
 
-    /// Closes the order of a group's view, which has ended: it becomes the first ids known, as many as the tail says stand
-    /// before it, all where fewer are known, and behind them the tail's ids, all that are kept without ids beyond the cut.
-    /// Nothing more is learnt of it then, and each process is to go through it from the first id on that is not forgotten.
-    /// What is kept of processes here that order it stays as it is.
+    /// Closes the order of a group's view, which has ended: it becomes the first ids known, as many
+    /// as the tail says stand before it, all where fewer are known, and behind them the tail's ids,
+    /// all that are kept without ids beyond the cut. Nothing more is learnt of it then, and each
+    /// process is to go through it from the first id on that is not forgotten. What is kept of
+    /// processes here that order it stays as it is.
     #[tactic(auto, using(crate::proofs::Logs::change_opened))]
     pub fn close(&mut self, group: GroupNo, tail: &Tail, cut: &Counts) -> Result<(), NoMemory>
-        ensures { OnOk result (self.new ≡ change_log group (closed_by (is_within cut.now) tail.now.start tail.now.ids) self.old) }
+        ensures { OnOk result (self.new ≡ change_log group
+            (closed_by (is_within cut.now) tail.now.start tail.now.ids) self.old) }
     {
         open_in(&mut self.logs, group)?;
         close_in(&mut self.logs, group, tail, cut)?;
         Ok(())
     }
 
-    /// The ids of a group's order that may be forgotten, the first of those that are kept: none until 1,024 are kept, and
-    /// then all but the last 512 of these; none of an order that is closed. Takes no memory.
+    /// The ids of a group's order that may be forgotten, the first of those that are kept: none
+    /// until 1,024 are kept, and then all but the last 512 of these; none of an order that is
+    /// closed. Takes no memory.
     pub fn oldest(&self, group: GroupNo) -> &[(Proc, u32)]
         ensures { result.now ≡ oldest_in (log_of self.now group) }
     {
@@ -295,8 +318,9 @@ impl Orders {
         self.logs.iter().any(|log| log.is_long())
     }
 
-    /// Forgets so many of the ids that are kept of a group's order, the first ones, at most all: each process is to have
-    /// delivered them, and none of them is to be of the tail, as with those that `oldest` gives. Takes no memory.
+    /// Forgets so many of the ids that are kept of a group's order, the first ones, at most all:
+    /// each process is to have delivered them, and none of them is to be of the tail, as with those
+    /// that `oldest` gives. Takes no memory.
     pub fn forget_first(&mut self, group: GroupNo, count: usize)
         ensures { self.new ≡ change_in group (forgot count) self.old }
     {
@@ -356,7 +380,8 @@ fn pass_in(
     process: Proc,
     count: usize,
 ) -> Result<(), NoMemory>
-    ensures { OnOk result (logs.new.items ≡ change_in group (pass_ids process count) logs.old.items) }
+    ensures { OnOk result
+        (logs.new.items ≡ change_in group (pass_ids process count) logs.old.items) }
 {
     for log in logs.iter_mut() {
         if log.group == group {
@@ -373,7 +398,8 @@ fn hold_token_in(
     process: Proc,
     first: u32,
 ) -> Result<(), NoMemory>
-    ensures { OnOk result (logs.new.items ≡ change_in group (with_hand process (hold_from first)) logs.old.items) }
+    ensures { OnOk result
+        (logs.new.items ≡ change_in group (with_hand process (hold_from first)) logs.old.items) }
 {
     for log in logs.iter_mut() {
         if log.group == group {
@@ -385,7 +411,8 @@ fn hold_token_in(
 
 // And that it holds it no more.
 fn hand_token_in(logs: &mut Vec<OrderLog>, group: GroupNo, process: Proc) -> Result<(), NoMemory>
-    ensures { OnOk result (logs.new.items ≡ change_in group (with_hand process hand_over) logs.old.items) }
+    ensures { OnOk result
+        (logs.new.items ≡ change_in group (with_hand process hand_over) logs.old.items) }
 {
     for log in logs.iter_mut() {
         if log.group == group {
@@ -402,7 +429,8 @@ fn tell_in(
     process: Proc,
     id: (Proc, u32),
 ) -> Result<(), NoMemory>
-    ensures { OnOk result (logs.new.items ≡ change_in group (with_hand process (note_unlisted id)) logs.old.items) }
+    ensures { OnOk result
+        (logs.new.items ≡ change_in group (with_hand process (note_unlisted id)) logs.old.items) }
 {
     for log in logs.iter_mut() {
         if log.group == group {
@@ -421,7 +449,8 @@ fn note_in(
     last: usize,
     stable: u32,
 ) -> Result<(), NoMemory>
-    ensures { OnOk result (logs.new.items ≡ change_in group (with_hand process (note_order_sent count last stable)) logs.old.items) }
+    ensures { OnOk result (logs.new.items
+        ≡ change_in group (with_hand process (note_order_sent count last stable)) logs.old.items) }
 {
     for log in logs.iter_mut() {
         if log.group == group {
@@ -438,7 +467,8 @@ fn close_in(
     tail: &Tail,
     cut: &Counts,
 ) -> Result<(), NoMemory>
-    ensures { OnOk result (logs.new.items ≡ change_in group (closed_by (is_within cut.now) tail.now.start tail.now.ids) logs.old.items) }
+    ensures { OnOk result (logs.new.items ≡ change_in group
+        (closed_by (is_within cut.now) tail.now.start tail.now.ids) logs.old.items) }
 {
     for log in logs.iter_mut() {
         if log.group == group {

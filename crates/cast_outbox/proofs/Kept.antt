@@ -1,5 +1,6 @@
 -- What the slab and the map of names are, and what is seen of them, after an outbox is changed, added or removed.
-use Rattle.std.proofs.Common.{◌≡◌, ◌≢◌, ℕ, zero, suc, ◌+◌, Bool, true, false, not, cond, List, [], ◌∷◌, map, filter, get_or, Option, Some, None, refl, sym, ap, subst, ◌∙◌, inl, inr, true≢false}
+use Rattle.std.proofs.Common.{◌≡◌, ◌≢◌, ℕ, zero, suc, ◌+◌, Bool, true, false, not, cond, List, [], ◌∷◌, map}
+use Rattle.std.proofs.Common.{filter, get_or, Option, Some, None, refl, sym, ap, subst, ◌∙◌, inl, inr, true≢false}
 use Rattle.std.specs.Prelude.{◌==◌}
 use Rattle.std.specs.Borrow.{MutBor}
 use Rattle.std.proofs.lemmas.Bool.{cases_Bool, eqb-true, eq-eqb, false_from_ne_true}
@@ -11,13 +12,15 @@ use Rattle.cast_message.specs.declared.client.Push.{Push}
 use Rattle.slab.specs.Slab.{Slab, Updates, CalledAt, RetainsFrom, get as slot_at}
 use Rattle.indexmap.specs.IndexMap.{IndexMap, UpdatesBy}
 use Rattle.cast_outbox.specs.Pending.{Pending}
-use Rattle.cast_outbox.specs.Outboxes.{outboxes_in, changed_at, entries_in, key_in, slot_named, name_eq, name_of, pending, with_entries, only, Named, IsNamed, Added}
+use Rattle.cast_outbox.specs.Outboxes.{outboxes_in, changed_at, entries_in, key_in, slot_named, name_eq}
+use Rattle.cast_outbox.specs.Outboxes.{name_of, pending, with_entries, only, Named, IsNamed, Added}
 use Rattle.cast_outbox.proofs.Entries.{with_at}
 use Rattle.cast_outbox.proofs.Names.{one_name, Step, seen, step_add, step_set, step_remove, own_after, others_after}
 
 module _ {S : Type 0} (names : IndexMap (ℕ × ℕ) ℕ S) (old : Slab Pending) (sound : IsNamed names old) (d : DomainNo) (k : ℕ) where
   -- what is seen is what is in the slot
-  by_key : (o : Option ℕ) → option_map_or (λ key. entries_in (slot_at old key)) o [] ≡ entries_in (option_map_or (λ key. slot_at old key) o None)
+  by_key : (o : Option ℕ) →
+      option_map_or (λ key. entries_in (slot_at old key)) o [] ≡ entries_in (option_map_or (λ key. slot_at old key) o None)
   by_key None = refl
   by_key (Some key) = refl
 
@@ -30,25 +33,30 @@ module _ {S : Type 0} (names : IndexMap (ℕ × ℕ) ℕ S) (old : Slab Pending)
   pub absent : key_in names (d.0, k) ≡ None → outboxes_in old.slots d k ≡ []
   absent none = seen_in ∙ ap (λ o. entries_in (option_map_or (λ key. slot_at old key) o None)) none
 
-  pub held : (key : ℕ) → key_in names (d.0, k) ≡ Some key → (x : Pending) × (slot_at old key ≡ Some x) × (outboxes_in old.slots d k ≡ x.entries)
+  pub held : (key : ℕ) → key_in names (d.0, k) ≡ Some key →
+      (x : Pending) × (slot_at old key ≡ Some x) × (outboxes_in old.slots d k ≡ x.entries)
   held key at =
       let x = sound.taken (d.0, k) key at in
       (x.0, x.1, seen_in ∙ ap (λ o. entries_in (option_map_or (λ key. slot_at old key) o None)) at ∙ ap entries_in x.1)
 
 -- where neither changes
-pub still : {S : Type 0} (names names' : IndexMap (ℕ × ℕ) ℕ S) (old new : Slab Pending) → IsNamed names old → names'.entries ≡ names.entries → new.slots ≡ old.slots → IsNamed names' new
+pub still : {S : Type 0} (names names' : IndexMap (ℕ × ℕ) ℕ S) (old new : Slab Pending) → IsNamed names old →
+    names'.entries ≡ names.entries → new.slots ≡ old.slots → IsNamed names' new
 still names names' old new sound entries slots =
     let a = subst (λ es. Named (λ p. lookup (name_eq p) es) (slot_at old)) (sym entries) sound in
     subst (λ (xs : List (Option Pending)). Named (key_in names') (λ key. slot_at (record old { slots = xs }) key)) (sym slots) a
 
 -- both after a change at one name
-pub record After {S : Type 0} (d : DomainNo) (k : ℕ) (f : List Push → List Push) (names names' : IndexMap (ℕ × ℕ) ℕ S) (old new : Slab Pending) : Type 0 where
+pub record After {S : Type 0} (d : DomainNo) (k : ℕ) (f : List Push → List Push) (names names' : IndexMap (ℕ × ℕ) ℕ S)
+    (old new : Slab Pending) : Type 0 where
   pub sound : IsNamed names' new
   pub own : outboxes_in new.slots d ≡ changed_at k f (outboxes_in old.slots d)
   pub others : (e : DomainNo) → e ≢ d → outboxes_in new.slots e ≡ outboxes_in old.slots e
 
-module _ {S : Type 0} (names names' : IndexMap (ℕ × ℕ) ℕ S) (old new : Slab Pending) (sound : IsNamed names old) (d : DomainNo) (k : ℕ) (f : List Push → List Push) where
-  after : (v was : List Push) → outboxes_in old.slots d k ≡ was → v ≡ f was → Step (d.0, k) v (key_in names) (key_in names') (slot_at old) (slot_at new) → After d k f names names' old new
+module _ {S : Type 0} (names names' : IndexMap (ℕ × ℕ) ℕ S) (old new : Slab Pending) (sound : IsNamed names old) (d : DomainNo) (k : ℕ)
+    (f : List Push → List Push) where
+  after : (v was : List Push) → outboxes_in old.slots d k ≡ was → v ≡ f was →
+      Step (d.0, k) v (key_in names) (key_in names') (slot_at old) (slot_at new) → After d k f names names' old new
   after v was is gives step = record {
     sound = step.sound;
     own =
@@ -60,23 +68,30 @@ module _ {S : Type 0} (names names' : IndexMap (ℕ × ℕ) ℕ S) (old new : Sl
   pub after_add : key_in names (d.0, k) ≡ None → Added (pending d k (f [])) names names' old new → After d k f names names' old new
   after_add none added =
       after (f []) [] (absent names old sound d k none) refl
-      (step_add (key_in names) (key_in names') (slot_at old) (slot_at new) sound (d.0, k) added.key (pending d k (f [])) refl added.slot.changed added.slot.others none added.vacant added.name added.names_stay)
+      (step_add (key_in names) (key_in names') (slot_at old) (slot_at new) sound (d.0, k) added.key (pending d k (f []))
+      refl added.slot.changed added.slot.others none added.vacant added.name added.names_stay)
 
-module _ {S : Type 0} (names : IndexMap (ℕ × ℕ) ℕ S) (old new : Slab Pending) (sound : IsNamed names old) (d : DomainNo) (k : ℕ) (f : List Push → List Push) where
-  pub after_set : (key : ℕ) → key_in names (d.0, k) ≡ Some key → ((x : Pending) → slot_at old key ≡ Some x → Updates old new key (Some (with_entries f x))) → After d k f names names old new
+module _ {S : Type 0} (names : IndexMap (ℕ × ℕ) ℕ S) (old new : Slab Pending) (sound : IsNamed names old) (d : DomainNo) (k : ℕ)
+    (f : List Push → List Push) where
+  pub after_set : (key : ℕ) → key_in names (d.0, k) ≡ Some key →
+      ((x : Pending) → slot_at old key ≡ Some x → Updates old new key (Some (with_entries f x))) → After d k f names names old new
   unfolding held
   after_set key at changes =
       let x = sound.taken (d.0, k) key at in
       let h = held names old sound d k key at in
       let u = changes x.0 x.1 in
       after names names old new sound d k f (f x.0.entries) x.0.entries h.2 refl
-      (step_set (key_in names) (key_in names) (slot_at old) (slot_at new) sound (d.0, k) key (with_entries f x.0) x.2 u.changed u.others at refl)
+      (step_set (key_in names) (key_in names) (slot_at old) (slot_at new) sound (d.0, k) key (with_entries f x.0)
+      x.2 u.changed u.others at refl)
 
-module _ {S : Type 0} (names names' : IndexMap (ℕ × ℕ) ℕ S) (old new : Slab Pending) (sound : IsNamed names old) (d : DomainNo) (k : ℕ) where
-  pub after_remove : (key : ℕ) → key_in names (d.0, k) ≡ Some key → UpdatesBy name_eq (name_eq (d.0, k)) names names' None → Updates old new key None → After d k (λ _. []) names names' old new
+module _ {S : Type 0} (names names' : IndexMap (ℕ × ℕ) ℕ S) (old new : Slab Pending) (sound : IsNamed names old) (d : DomainNo)
+    (k : ℕ) where
+  pub after_remove : (key : ℕ) → key_in names (d.0, k) ≡ Some key → UpdatesBy name_eq (name_eq (d.0, k)) names names' None →
+      Updates old new key None → After d k (λ _. []) names names' old new
   after_remove key at gone cleared =
       after names names' old new sound d k (λ _. []) [] (outboxes_in old.slots d k) refl refl
-      (step_remove (key_in names) (key_in names') (slot_at old) (slot_at new) sound (d.0, k) key at cleared.changed cleared.others gone.1 gone.2)
+      (step_remove (key_in names) (key_in names') (slot_at old) (slot_at new) sound (d.0, k)
+      key at cleared.changed cleared.others gone.1 gone.2)
 
 -- two things that hold with an error
 pub on_err_both : {X E P Q R : Type 0} (r : Result X E) → (P → Q → R) → OnErr r P → OnErr r Q → OnErr r R
@@ -87,7 +102,8 @@ on_err_both (Err y) f p q = f p q
 
 -- what a slab's `retain` leaves, where the closure keeps no state and leaves each value as it was
 module _ {T F : Type 0} (step : F → ℕ → MutBor T → Bool → MutBor T → F → Type 0) (test : T → Bool) (f : F)
-    (says : (key : ℕ) (old : T) (keep : Bool) (new : T) (next : F) → CalledAt step f key old keep new next → (keep ≡ test old) × (new ≡ old) × (next ≡ f)) where
+    (says : (key : ℕ) (old : T) (keep : Bool) (new : T) (next : F) → CalledAt step f key old keep new next →
+    (keep ≡ test old) × (new ≡ old) × (next ≡ f)) where
   pub retained : (key : ℕ) (old kept : List (Option T)) → RetainsFrom step f key old kept → kept ≡ map (only test) old
   retained key [] kept is = is
   retained key (None ∷ rest) kept is = is.1 ∙ ap (λ xs. None ∷ xs) (retained (key + 1) rest is.0 is.2)
@@ -97,7 +113,8 @@ module _ {T F : Type 0} (step : F → ℕ → MutBor T → Bool → MutBor T →
       is.5 ∙ (λ j. cond (s.0 j) (Some (s.1 j)) None ∷ later j)
 
 -- the slot of a key, where some are emptied
-pub only_at : {T : Type 0} (test : T → Bool) (xs : List (Option T)) (i : ℕ) → get_or (map (only test) xs) i None ≡ only test (get_or xs i None)
+pub only_at : {T : Type 0} (test : T → Bool) (xs : List (Option T)) (i : ℕ) →
+    get_or (map (only test) xs) i None ≡ only test (get_or xs i None)
 only_at test [] i = refl
 only_at test (x ∷ xs) zero = refl
 only_at test (x ∷ xs) (suc i) = only_at test xs i
@@ -108,10 +125,12 @@ module _ (d : ℕ) (q : ℕ × ℕ) where
   left p = not (p.0 == d)
 
   mine : (p : ℕ × ℕ) → (q.0 == d) ≡ false → (p.0 == d) ≡ true → name_eq q p ≡ false
-  mine p away there = false_from_ne_true (name_eq q p) (λ same. true≢false (sym there ∙ ap (λ (r : ℕ × ℕ). r.0 == d) (sym (one_name q p same)) ∙ away))
+  mine p away there =
+      false_from_ne_true (name_eq q p) (λ same. true≢false (sym there ∙ ap (λ (r : ℕ × ℕ). r.0 == d) (sym (one_name q p same)) ∙ away))
 
   theirs : (p : ℕ × ℕ) → (q.0 == d) ≡ true → (p.0 == d) ≡ false → name_eq q p ≡ false
-  theirs p here there = false_from_ne_true (name_eq q p) (λ same. true≢false (sym here ∙ ap (λ (r : ℕ × ℕ). r.0 == d) (one_name q p same) ∙ there))
+  theirs p here there =
+      false_from_ne_true (name_eq q p) (λ same. true≢false (sym here ∙ ap (λ (r : ℕ × ℕ). r.0 == d) (one_name q p same) ∙ there))
 
   pub lookup_away : (q.0 == d) ≡ false → (es : List ((ℕ × ℕ) × ℕ)) → lookup (name_eq q) (filter (λ e. left e.0) es) ≡ lookup (name_eq q) es
   lookup_away away [] = refl
@@ -138,7 +157,8 @@ module _ (d : ℕ) (q : ℕ × ℕ) where
 
 -- the outboxes of a domain dropped
 module _ {S : Type 0} (names names' : IndexMap (ℕ × ℕ) ℕ S) (old new : Slab Pending) (sound : IsNamed names old) (d : DomainNo)
-    (entries : names'.entries ≡ filter (λ e. not (e.0.0 == d.0)) names.entries) (slots : new.slots ≡ map (only (λ x. not (x.domain == d.0))) old.slots) where
+    (entries : names'.entries ≡ filter (λ e. not (e.0.0 == d.0)) names.entries)
+    (slots : new.slots ≡ map (only (λ x. not (x.domain == d.0))) old.slots) where
   key_away : (q : ℕ × ℕ) → (q.0 == d.0) ≡ false → key_in names' q ≡ key_in names q
   key_away q away = ap (lookup (name_eq q)) entries ∙ lookup_away d.0 q away names.entries
 
@@ -152,7 +172,8 @@ module _ {S : Type 0} (names names' : IndexMap (ℕ × ℕ) ℕ S) (old new : Sl
   slot_away key x is away = slot_now key ∙ ap (only (λ x. not (x.domain == d.0))) is ∙ ap (λ b. cond (not b) (Some x) None) away
 
   -- a slot that is left was there, of another domain
-  was_by : (slot : Option Pending) (x : Pending) → only (λ x. not (x.domain == d.0)) slot ≡ Some x → (slot ≡ Some x) × ((x.domain == d.0) ≡ false)
+  was_by : (slot : Option Pending) (x : Pending) → only (λ x. not (x.domain == d.0)) slot ≡ Some x →
+      (slot ≡ Some x) × ((x.domain == d.0) ≡ false)
   was_by None x is = absurd (cc is)
   was_by (Some y) x is = elim (cases_Bool (y.domain == d.0)) [
     | inl there ↦ absurd (cc (sym (ap (λ b. cond (not b) (Some y) None) there) ∙ is))
@@ -161,7 +182,8 @@ module _ {S : Type 0} (names names' : IndexMap (ℕ × ℕ) ℕ S) (old new : Sl
         (ap Some same, ap (λ (z : Pending). z.domain == d.0) (sym same) ∙ other)
   ]
 
-  taken_by : (q : ℕ × ℕ) (key : ℕ) → key_in names q ≡ Some key → (q.0 == d.0) ≡ false → (x : Pending) × (slot_at old key ≡ Some x) × (slot_at new key ≡ Some x) × (name_of x ≡ q)
+  taken_by : (q : ℕ × ℕ) (key : ℕ) → key_in names q ≡ Some key → (q.0 == d.0) ≡ false →
+      (x : Pending) × (slot_at old key ≡ Some x) × (slot_at new key ≡ Some x) × (name_of x ≡ q)
   taken_by q key at away =
       let x = sound.taken q key at in
       (x.0, x.1, slot_away key x.0 x.1 (ap (λ (r : ℕ × ℕ). r.0 == d.0) x.2 ∙ away), x.2)
@@ -183,7 +205,8 @@ module _ {S : Type 0} (names names' : IndexMap (ℕ × ℕ) ℕ S) (old new : Sl
   pub dropped_own : outboxes_in new.slots d ≡ (λ k. [])
   dropped_own = λ i k. absent names' new dropped_sound d k (key_here (d.0, k) (eq-eqb d.0 d.0 refl)) i
 
-  slot_by : (q : ℕ × ℕ) → (q.0 == d.0) ≡ false → (o : Option ℕ) → key_in names q ≡ o → option_map_or (λ key. slot_at new key) o None ≡ option_map_or (λ key. slot_at old key) o None
+  slot_by : (q : ℕ × ℕ) → (q.0 == d.0) ≡ false → (o : Option ℕ) → key_in names q ≡ o →
+      option_map_or (λ key. slot_at new key) o None ≡ option_map_or (λ key. slot_at old key) o None
   slot_by q away None none = refl
   slot_by q away (Some key) at = let x = taken_by q key at away in x.2 ∙ sym x.1
 

@@ -1,6 +1,7 @@
 -- What is kept of the outboxes, a slab and a map from names to its keys, as a function from names to entries, and what a change at
 -- one name leaves of it.
-use Rattle.std.proofs.Common.{◌≡◌, ◌≢◌, ℕ, zero, suc, ◌<◌, Bool, true, false, cond, List, [], ◌∷◌, get_or, Option, Some, None, refl, sym, ap, subst, ◌∙◌, inl, inr, true≢false, arith}
+use Rattle.std.proofs.Common.{◌≡◌, ◌≢◌, ℕ, zero, suc, ◌<◌, Bool, true, false, cond, List, [], ◌∷◌, get_or}
+use Rattle.std.proofs.Common.{Option, Some, None, refl, sym, ap, subst, ◌∙◌, inl, inr, true≢false, arith}
 use Rattle.std.specs.Prelude.{◌==◌, ◌&&◌}
 use Rattle.std.specs.Option.{option_map_or}
 use Rattle.std.specs.List.{find}
@@ -14,7 +15,8 @@ use Rattle.cast_outbox.proofs.Entries.{with_at, at_each}
 -- Searches
 
 module _ {X : Type 0} (p : Option X → Bool) (vacant : p None ≡ false) where
-  find_first : (xs : List (Option X)) (i : ℕ) → p (get_or xs i None) ≡ true → ((j : ℕ) → j < i → p (get_or xs j None) ≡ false) → find p xs ≡ Some (get_or xs i None)
+  find_first : (xs : List (Option X)) (i : ℕ) → p (get_or xs i None) ≡ true → ((j : ℕ) → j < i → p (get_or xs j None) ≡ false) →
+      find p xs ≡ Some (get_or xs i None)
   find_first [] i passes fails = absurd (true≢false (sym passes ∙ vacant))
   find_first (x ∷ xs) zero passes fails = ap (λ b. cond b (Some x) (find p xs)) passes
   find_first (x ∷ xs) (suc i) passes fails =
@@ -27,7 +29,8 @@ module _ {X : Type 0} (p : Option X → Bool) (vacant : p None ≡ false) where
 -- Names
 
 and_true : (a b : Bool) → (a && b) ≡ true → (a ≡ true) × (b ≡ true)
-and_true a b = elim a as (λ a. (a && b) ≡ true → (a ≡ true) × (b ≡ true)) [ true ↦ λ h. (refl, h) | false ↦ λ h. absurd (true≢false (sym h)) ]
+and_true a b =
+    elim a as (λ a. (a && b) ≡ true → (a ≡ true) × (b ≡ true)) [ true ↦ λ h. (refl, h) | false ↦ λ h. absurd (true≢false (sym h)) ]
 
 pub one_name : (p q : ℕ × ℕ) → name_eq p q ≡ true → p ≡ q
 one_name p q same =
@@ -50,7 +53,8 @@ abbrev pub through : (ℕ × ℕ → Option ℕ) → (ℕ → Option Pending) �
 through names slots p = option_map_or (λ key. entries_in (slots key)) (names p) []
 
 -- what is seen is what is kept
-module _ (names : ℕ × ℕ → Option ℕ) (slots : List (Option Pending)) (sound : Named names (λ key. get_or slots key None)) (d : DomainNo) (k : ℕ) where
+module _ (names : ℕ × ℕ → Option ℕ) (slots : List (Option Pending)) (sound : Named names (λ key. get_or slots key None)) (d : DomainNo)
+    (k : ℕ) where
   -- a slot of the name has its key
   keyed : (key : ℕ) → is_of d k (get_or slots key None) ≡ true → names (d.0, k) ≡ Some key
   keyed key passes =
@@ -61,12 +65,14 @@ module _ (names : ℕ × ℕ → Option ℕ) (slots : List (Option Pending)) (so
   unfolding outboxes_in
   seen_at None none =
       ap (λ f. option_map_or entries_in f [])
-      (find_none (is_of d k) refl slots (λ j. false_from_ne_true (is_of d k (get_or slots j None)) (λ passes. absurd (cc (keyed j passes, none)))))
+      (find_none (is_of d k)
+      refl slots (λ j. false_from_ne_true (is_of d k (get_or slots j None)) (λ passes. absurd (cc (keyed j passes, none)))))
   seen_at (Some key) at =
       let x = sound.taken (d.0, k) key at in
       ap (λ f. option_map_or entries_in f [])
       (find_first (is_of d k) refl slots key (ap (is_of d k) x.1 ∙ is_its_own d k x.0 x.2)
-      (λ j l. false_from_ne_true (is_of d k (get_or slots j None)) (λ passes. let same : j ≡ key = cc (keyed j passes, at) in absurd (omega (arith, same, l)))))
+      (λ j l. false_from_ne_true (is_of d k (get_or slots j None))
+      (λ passes. let same : j ≡ key = cc (keyed j passes, at) in absurd (omega (arith, same, l)))))
 
   pub seen : outboxes_in slots d k ≡ through names (λ key. get_or slots key None) (d.0, k)
   seen = seen_at (names (d.0, k)) refl
@@ -115,17 +121,20 @@ module _ (names names' : ℕ × ℕ → Option ℕ) (slots slots' : ℕ → Opti
     | inr differ ↦
         let away : key' ≢ key = λ at. true≢false (sym (eq-eqb key' key at) ∙ differ) in
         let before = sound.named key' x (sym (slots_stay key' away) ∙ is) in
-        let other = false_from_ne_true (name_eq p (name_of x)) (λ same. away (only key' (ap names (one_name p (name_of x) same) ∙ before))) in
+        let other =
+        false_from_ne_true (name_eq p (name_of x)) (λ same. away (only key' (ap names (one_name p (name_of x) same) ∙ before))) in
         names_stay (name_of x) other ∙ before
   ]
 
   here_by : (o : Option Pending) → w ≡ o → through names' slots' p ≡ entries_in o
-  here_by None none = ap (λ o. option_map_or (λ key. entries_in (slots' key)) o []) (name ∙ ap (λ o. option_map_or (λ _. Some key) o None) none)
+  here_by None none =
+      ap (λ o. option_map_or (λ key. entries_in (slots' key)) o []) (name ∙ ap (λ o. option_map_or (λ _. Some key) o None) none)
   here_by (Some x) is =
       ap (λ o. option_map_or (λ key. entries_in (slots' key)) o []) (name ∙ ap (λ o. option_map_or (λ _. Some key) o None) is)
       ∙ ap entries_in (slot ∙ is)
 
-  others_by : (q : ℕ × ℕ) → name_eq p q ≡ false → (o : Option ℕ) → names q ≡ o → option_map_or (λ key. entries_in (slots' key)) o [] ≡ option_map_or (λ key. entries_in (slots key)) o []
+  others_by : (q : ℕ × ℕ) → name_eq p q ≡ false → (o : Option ℕ) → names q ≡ o →
+      option_map_or (λ key. entries_in (slots' key)) o [] ≡ option_map_or (λ key. entries_in (slots key)) o []
   others_by q differ None none = refl
   others_by q differ (Some key') at = ap entries_in (slots_stay key' (apart q key' differ at))
 
@@ -133,7 +142,8 @@ module _ (names names' : ℕ × ℕ → Option ℕ) (slots slots' : ℕ → Opti
   step = record {
     sound = record { taken = now_taken; named = now_named };
     here = here_by w refl;
-    others = λ q differ. ap (λ o. option_map_or (λ key. entries_in (slots' key)) o []) (names_stay q differ) ∙ others_by q differ (names q) refl;
+    others =
+        λ q differ. ap (λ o. option_map_or (λ key. entries_in (slots' key)) o []) (names_stay q differ) ∙ others_by q differ (names q) refl;
   }
 
 -- the three changes
@@ -146,27 +156,34 @@ module _ (names names' : ℕ × ℕ → Option ℕ) (slots slots' : ℕ → Opti
       let same : x.0 ≡ y.0 = cc (sym x.1 ∙ y.1) in
       sym x.2 ∙ ap name_of same ∙ y.2
 
-  module _ (x : Pending) (its : name_of x ≡ p) (slot : slots' key ≡ Some x) (slots_stay : (other : ℕ) → other ≢ key → slots' other ≡ slots other) where
+  module _ (x : Pending) (its : name_of x ≡ p) (slot : slots' key ≡ Some x)
+      (slots_stay : (other : ℕ) → other ≢ key → slots' other ≡ slots other) where
     its_own : (y : Pending) → Some x ≡ Some y → name_of y ≡ p
     its_own y same = let is : x ≡ y = cc same in ap name_of (sym is) ∙ its
 
     -- an outbox is added for a name that had none
-    pub step_add : names p ≡ None → slots key ≡ None → names' p ≡ Some key → ((q : ℕ × ℕ) → name_eq p q ≡ false → names' q ≡ names q) → Step p x.entries names names' slots slots'
+    pub step_add : names p ≡ None → slots key ≡ None → names' p ≡ Some key → ((q : ℕ × ℕ) → name_eq p q ≡ false → names' q ≡ names q) →
+        Step p x.entries names names' slots slots'
     step_add none vacant name names_stay =
-        step names names' slots slots' sound p key (Some x) (λ key' at. absurd (cc (sym at ∙ none))) (λ q at. absurd (cc (sym (sound.taken q key at).1 ∙ vacant))) slot slots_stay name names_stay its_own
+        step names names' slots slots' sound p key (Some x) (λ key' at. absurd (cc (sym at ∙ none)))
+        (λ q at. absurd (cc (sym (sound.taken q key at).1 ∙ vacant))) slot slots_stay name names_stay its_own
 
     -- the outbox of a name is changed
     pub step_set : names p ≡ Some key → names' ≡ names → Step p x.entries names names' slots slots'
     step_set at same =
-        step names names' slots slots' sound p key (Some x) (λ key' there. cc (sym there ∙ at)) (λ q there. named_once p q at there) slot slots_stay (ap (λ f. f p) same ∙ at) (λ q differ. ap (λ f. f q) same) its_own
+        step names names' slots slots' sound p key (Some x) (λ key' there. cc (sym there ∙ at)) (λ q there. named_once p q at there)
+        slot slots_stay (ap (λ f. f p) same ∙ at) (λ q differ. ap (λ f. f q) same) its_own
 
   -- the outbox of a name is removed
-  pub step_remove : names p ≡ Some key → slots' key ≡ None → ((other : ℕ) → other ≢ key → slots' other ≡ slots other) → names' p ≡ None → ((q : ℕ × ℕ) → name_eq p q ≡ false → names' q ≡ names q) → Step p [] names names' slots slots'
+  pub step_remove : names p ≡ Some key → slots' key ≡ None → ((other : ℕ) → other ≢ key → slots' other ≡ slots other) → names' p ≡ None →
+      ((q : ℕ × ℕ) → name_eq p q ≡ false → names' q ≡ names q) → Step p [] names names' slots slots'
   step_remove at slot slots_stay name names_stay =
-      step names names' slots slots' sound p key None (λ key' there. cc (sym there ∙ at)) (λ q there. named_once p q at there) slot slots_stay name names_stay (λ x is. absurd (cc is))
+      step names names' slots slots' sound p key None (λ key' there. cc (sym there ∙ at)) (λ q there. named_once p q at there)
+      slot slots_stay name names_stay (λ x is. absurd (cc is))
 
 -- what is seen after a change
-module _ (names names' : ℕ × ℕ → Option ℕ) (slots slots' : List (Option Pending)) (sound : Named names (λ key. get_or slots key None)) (d : DomainNo) (k : ℕ) (v : List Push)
+module _ (names names' : ℕ × ℕ → Option ℕ) (slots slots' : List (Option Pending)) (sound : Named names (λ key. get_or slots key None))
+    (d : DomainNo) (k : ℕ) (v : List Push)
     (after : Step (d.0, k) v names names' (λ key. get_or slots key None) (λ key. get_or slots' key None)) where
   apart_by : (e : DomainNo) (j : ℕ) → name_eq (d.0, k) (e.0, j) ≡ false → outboxes_in slots' e j ≡ outboxes_in slots e j
   apart_by e j differ = seen names' slots' after.sound e j ∙ after.others (e.0, j) differ ∙ sym (seen names slots sound e j)

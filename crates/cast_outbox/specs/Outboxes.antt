@@ -39,10 +39,11 @@ key_in names p = value_at name_eq names p
 abbrev pub slot_named : {S : Type 0} → IndexMap (ℕ × ℕ) ℕ S → Slab Pending → ℕ × ℕ → Option Pending
 slot_named names slots p = option_map_or (λ key. slot_at slots key) (key_in names p) None
 
--- Each key that is named is taken, for that domain and that serial. Each slot that is taken is named, by the key that it has: so
--- no key is named twice.
+-- Each key that is named is taken, for that domain and that serial. Each slot that is taken is
+-- named, by the key that it has: so no key is named twice.
 pub record Named (names : ℕ × ℕ → Option ℕ) (slots : ℕ → Option Pending) : Type 0 where
-  pub taken : (p : ℕ × ℕ) (key : ℕ) → names p ≡ Some key → (x : Pending) × (slots key ≡ Some x) × (name_of x ≡ p)
+  pub taken : (p : ℕ × ℕ) (key : ℕ) → names p ≡ Some key
+      → (x : Pending) × (slots key ≡ Some x) × (name_of x ≡ p)
   pub named : (key : ℕ) (x : Pending) → slots key ≡ Some x → names (name_of x) ≡ Some key
 
 abbrev pub IsNamed : {S : Type 0} → IndexMap (ℕ × ℕ) ℕ S → Slab Pending → Type 0
@@ -63,7 +64,8 @@ abbrev pub with_entries : (List Push → List Push) → Pending → Pending
 with_entries f x = record x { entries = f x.entries }
 
 -- an outbox is added, in a slot that was vacant, and its name is given the key
-pub record Added {S : Type 0} (x : Pending) (names names' : IndexMap (ℕ × ℕ) ℕ S) (slots slots' : Slab Pending) : Type 0 where
+pub record Added {S : Type 0} (x : Pending) (names names' : IndexMap (ℕ × ℕ) ℕ S)
+    (slots slots' : Slab Pending) : Type 0 where
   pub key : ℕ
   pub vacant : slot_at slots key ≡ None
   pub slot : Updates slots slots' key (Some x)

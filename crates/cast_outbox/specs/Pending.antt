@@ -18,7 +18,8 @@ is_full_at limit entries = nat_le limit (length entries)
 
 -- the entries and one more: the end of the session, where they are full
 abbrev pub with_entry : ℕ → Push → List Push → List Push
-with_entry limit entry entries = entries ++ (if is_full_at limit entries then Closed Slow else entry) ∷ []
+with_entry limit entry entries =
+    entries ++ (if is_full_at limit entries then Closed Slow else entry) ∷ []
 
 -- what is told of an entry that is pushed to these
 abbrev pub told_at : ℕ → List Push → Pushed

@@ -1,4 +1,5 @@
-ghost use Rattle.std.specs.Prelude.{◌≡◌, ◌≤◌, ◌==◌, ◌++◌, [], IfOk, OnOk, OnErr, length, slice_get, take, drop};
+ghost use Rattle.std.specs.Prelude.{◌≡◌, ◌≤◌, ◌==◌, ◌++◌, [], IfOk, OnOk};
+ghost use Rattle.std.specs.Prelude.{OnErr, length, slice_get, take, drop};
 ghost use Rattle.std.specs.Option.{option_copied};
 ghost use Rattle.std.specs.VecDeque.{deque_len, deque_capacity};
 ghost use Rattle.cast_outbox.specs.Pending.{with_entry, told_at};
@@ -14,7 +15,8 @@ use std::marker::Model;
 pub enum Pushed {
     /// It was added.
     Kept,
-    /// The outbox was full: in its place stands `Push::Closed` for the reason that the program was too slow.
+    /// The outbox was full: in its place stands `Push::Closed` for the reason that the program was
+    /// too slow.
     Slow,
 }
 
@@ -31,7 +33,11 @@ impl Model for Outbox {
 
     ghost Value = { Pending };
 
-    ghost view = { λ o. record { domain = o.domain; serial = o.serial; entries = o.entries.items } };
+    ghost view = { λ o. record {
+      domain = o.domain;
+      serial = o.serial;
+      entries = o.entries.items;
+    } };
 }
 
 impl Clone for Outbox {
@@ -81,11 +87,12 @@ impl Outbox {
         self.entries.clear();
     }
 
-    /// Adds an entry at the end, or where as many as the limit stand there, the end of the session in its place.
-    /// `NoMemory` changes nothing.
+    /// Adds an entry at the end, or where as many as the limit stand there, the end of the session
+    /// in its place. `NoMemory` changes nothing.
     pub(crate) fn push(&mut self, limit: u32, entry: Push) -> Result<Pushed, NoMemory>
         ensures value { IfOk result (λ p. p ≡ told_at limit self.old.entries) }
-        ensures ok { OnOk result (self.new ≡ record self.old { entries = with_entry limit entry self.old.entries }) }
+        ensures ok { OnOk result
+            (self.new ≡ record self.old { entries = with_entry limit entry self.old.entries }) }
         ensures err { OnErr result (self.new ≡ self.old) }
     {
         if limit as usize <= self.entries.len() {
@@ -100,7 +107,8 @@ impl Outbox {
     /// Takes out the first entries, at most so many. `NoMemory` changes nothing.
     pub(crate) fn take(&mut self, most: u32) -> Result<List<Push>, NoMemory>
         ensures value { IfOk result (λ taken. taken ≡ take most self.old.entries) }
-        ensures ok { OnOk result (self.new ≡ record self.old { entries = drop most self.old.entries }) }
+        ensures ok { OnOk result
+            (self.new ≡ record self.old { entries = drop most self.old.entries }) }
         ensures err { OnErr result (self.new ≡ self.old) }
     {
         let taken = take_first(&mut self.entries, most as usize)?;
@@ -122,7 +130,8 @@ impl Outbox {
     }
 }
 
-// Takes out the first entries, at most so many: room is made for them first. `NoMemory` changes nothing.
+// Takes out the first entries, at most so many: room is made for them first. `NoMemory` changes
+// nothing.
 fn take_first(entries: &mut VecDeque<Push>, most: usize) -> Result<VecDeque<Push>, NoMemory>
     ensures value { IfOk result (λ taken. taken.items ≡ take most entries.old.items) }
     ensures ok { OnOk result (entries.new.items ≡ drop most entries.old.items) }

@@ -1,8 +1,10 @@
-ghost use Rattle.std.specs.Prelude.{◌≡◌, ◌≢◌, [], None, Some, IfOk, OnOk, OnErr, ◌==◌, drop, filter, length, map, not, slice_get, take};
+ghost use Rattle.std.specs.Prelude.{◌≡◌, ◌≢◌, [], None, Some, IfOk, OnOk, OnErr, ◌==◌};
+ghost use Rattle.std.specs.Prelude.{drop, filter, length, map, not, slice_get, take};
 ghost use Rattle.std.specs.Option.{option_copied};
 ghost use Rattle.cast_types.specs.declared.names.DomainNo.{DomainNo};
 ghost use Rattle.cast_outbox.specs.Pending.{Pending, with_entry, told_at};
-ghost use Rattle.cast_outbox.specs.Outboxes.{outboxes_in, changed_at, key_in, only, pending, slot_named, with_entries, Added};
+ghost use Rattle.cast_outbox.specs.Outboxes.{outboxes_in, changed_at, key_in, only};
+ghost use Rattle.cast_outbox.specs.Outboxes.{pending, slot_named, with_entries, Added};
 ghost use Rattle.slab.specs.Slab.{get as slot_at, Updates};
 
 use crate::outbox::{Outbox, Pushed};
@@ -13,9 +15,9 @@ use slab::Slab;
 use std::alloc::Global;
 use std::marker::Model;
 
-/// What the sessions of all domains were pushed and have not taken. Contracts say `outboxes_in` of it, a domain and the
-/// serial of a session: the list of the entries that the session has not taken, in the order in which it was pushed
-/// them.
+/// What the sessions of all domains were pushed and have not taken. Contracts say `outboxes_in` of
+/// it, a domain and the serial of a session: the list of the entries that the session has not
+/// taken, in the order in which it was pushed them.
 #[derive(Drop)]
 pub struct Outboxes {
     // The key of each outbox, by its domain and its serial.
@@ -59,12 +61,14 @@ impl Outboxes {
         })
     }
 
-    /// The session of a serial begins in a domain: its outbox is empty, and what was there is dropped. `NoMemory` changes
-    /// nothing.
+    /// The session of a serial begins in a domain: its outbox is empty, and what was there is
+    /// dropped. `NoMemory` changes nothing.
     pub fn open(&mut self, domain: DomainNo, serial: u32) -> Result<(), NoMemory>
-        ensures ok { OnOk result (outboxes_in self.new domain ≡ changed_at serial (λ _. []) (outboxes_in self.old domain)) }
+        ensures ok { OnOk result (outboxes_in self.new domain
+            ≡ changed_at serial (λ _. []) (outboxes_in self.old domain)) }
         ensures err { OnErr result (self.new ≡ self.old) }
-        ensures others { (e : DomainNo) → e ≢ domain → outboxes_in self.new e ≡ outboxes_in self.old e }
+        ensures others { (e : DomainNo) → e ≢ domain
+            → outboxes_in self.new e ≡ outboxes_in self.old e }
     {
         match key_of(&self.names, domain, serial) {
             Some(key) => {
@@ -75,9 +79,10 @@ impl Outboxes {
         }
     }
 
-    /// Adds an entry at the end of an outbox, and tells `Kept`. Where the outbox has `limit` entries or more, adds in
-    /// place of the entry the one that the session is closed since its program is too slow, and tells `Slow`. An outbox
-    /// that was never opened is an empty one. `NoMemory` changes nothing.
+    /// Adds an entry at the end of an outbox, and tells `Kept`. Where the outbox has `limit`
+    /// entries or more, adds in place of the entry the one that the session is closed since its
+    /// program is too slow, and tells `Slow`. An outbox that was never opened is an empty one.
+    /// `NoMemory` changes nothing.
     pub fn push(
         &mut self,
         domain: DomainNo,
@@ -86,9 +91,11 @@ impl Outboxes {
         entry: Push,
     ) -> Result<Pushed, NoMemory>
         ensures value { IfOk result (λ p. p ≡ told_at limit (outboxes_in self.old domain serial)) }
-        ensures ok { OnOk result (outboxes_in self.new domain ≡ changed_at serial (with_entry limit entry) (outboxes_in self.old domain)) }
+        ensures ok { OnOk result (outboxes_in self.new domain
+            ≡ changed_at serial (with_entry limit entry) (outboxes_in self.old domain)) }
         ensures err { OnErr result (self.new ≡ self.old) }
-        ensures others { (e : DomainNo) → e ≢ domain → outboxes_in self.new e ≡ outboxes_in self.old e }
+        ensures others { (e : DomainNo) → e ≢ domain
+            → outboxes_in self.new e ≡ outboxes_in self.old e }
     {
         match key_of(&self.names, domain, serial) {
             Some(key) => push_at(&mut self.slots, key, limit, entry),
@@ -103,13 +110,16 @@ impl Outboxes {
         }
     }
 
-    /// Gives the first entries of an outbox, at most `most`, in their order, and removes them. `NoMemory`: the answer was
-    /// refused memory; nothing is removed.
+    /// Gives the first entries of an outbox, at most `most`, in their order, and removes them.
+    /// `NoMemory`: the answer was refused memory; nothing is removed.
     pub fn take(&mut self, domain: DomainNo, serial: u32, most: u32) -> Result<List<Push>, NoMemory>
-        ensures value { IfOk result (λ taken. taken ≡ take most (outboxes_in self.old domain serial)) }
-        ensures ok { OnOk result (outboxes_in self.new domain ≡ changed_at serial (drop most) (outboxes_in self.old domain)) }
+        ensures value { IfOk result
+            (λ taken. taken ≡ take most (outboxes_in self.old domain serial)) }
+        ensures ok { OnOk result (outboxes_in self.new domain
+            ≡ changed_at serial (drop most) (outboxes_in self.old domain)) }
         ensures err { OnErr result (self.new ≡ self.old) }
-        ensures others { (e : DomainNo) → e ≢ domain → outboxes_in self.new e ≡ outboxes_in self.old e }
+        ensures others { (e : DomainNo) → e ≢ domain
+            → outboxes_in self.new e ≡ outboxes_in self.old e }
     {
         match key_of(&self.names, domain, serial) {
             Some(key) => take_at(&mut self.slots, key, most),
@@ -127,8 +137,8 @@ impl Outboxes {
         }
     }
 
-    /// The entry of a place in an outbox, counted from 0; `None` where it has no more than `place` entries. Takes no
-    /// memory.
+    /// The entry of a place in an outbox, counted from 0; `None` where it has no more than `place`
+    /// entries. Takes no memory.
     pub fn at(&self, domain: DomainNo, serial: u32, place: usize) -> Option<&Push>
         ensures { option_copied result ≡ slice_get (outboxes_in self.now domain serial) place }
     {
@@ -138,10 +148,13 @@ impl Outboxes {
         }
     }
 
-    /// The session of a serial is over: its outbox is dropped, and its memory with it. Takes no memory.
+    /// The session of a serial is over: its outbox is dropped, and its memory with it. Takes no
+    /// memory.
     pub fn close(&mut self, domain: DomainNo, serial: u32)
-        ensures own { outboxes_in self.new domain ≡ changed_at serial (λ _. []) (outboxes_in self.old domain) }
-        ensures others { (e : DomainNo) → e ≢ domain → outboxes_in self.new e ≡ outboxes_in self.old e }
+        ensures own { outboxes_in self.new domain
+            ≡ changed_at serial (λ _. []) (outboxes_in self.old domain) }
+        ensures others { (e : DomainNo) → e ≢ domain
+            → outboxes_in self.new e ≡ outboxes_in self.old e }
     {
         if let Some(key) = self.names.swap_remove(&(domain.0, serial)) {
             drop_at(&mut self.slots, key);
@@ -151,7 +164,8 @@ impl Outboxes {
     /// All sessions of a domain are over: their outboxes are dropped. Takes no memory.
     pub fn drop_domain(&mut self, domain: DomainNo)
         ensures own { outboxes_in self.new domain ≡ (λ k. []) }
-        ensures others { (e : DomainNo) → e ≢ domain → outboxes_in self.new e ≡ outboxes_in self.old e }
+        ensures others { (e : DomainNo) → e ≢ domain
+            → outboxes_in self.new e ≡ outboxes_in self.old e }
     {
         drop_names(&mut self.names, domain);
         drop_slots(&mut self.slots, domain);
@@ -187,7 +201,8 @@ fn open_first(
     domain: DomainNo,
     serial: u32,
 ) -> Result<(), NoMemory>
-    ensures ok { OnOk result (Added (pending domain serial []) names.old names.new slots.old slots.new) }
+    ensures ok { OnOk result
+        (Added (pending domain serial []) names.old names.new slots.old slots.new) }
     ensures names_stay { OnErr result (names.new.entries ≡ names.old.entries) }
     ensures slots_stay { OnErr result (slots.new.slots ≡ slots.old.slots) }
 {
@@ -205,7 +220,8 @@ fn push_first(
     entry: Push,
 ) -> Result<Pushed, NoMemory>
     ensures value { IfOk result (λ p. p ≡ told_at limit []) }
-    ensures ok { OnOk result (Added (pending domain serial (with_entry limit entry [])) names.old names.new slots.old slots.new) }
+    ensures ok { OnOk result (Added (pending domain serial (with_entry limit entry []))
+        names.old names.new slots.old slots.new) }
     ensures names_stay { OnErr result (names.new.entries ≡ names.old.entries) }
     ensures slots_stay { OnErr result (slots.new.slots ≡ slots.old.slots) }
 {
@@ -237,7 +253,8 @@ fn add(
 
 // Empties the outbox of a key.
 fn clear_at(slots: &mut Slab<Outbox>, key: usize)
-    ensures { (x : Pending) → slot_at slots.old key ≡ Some x → Updates slots.old slots.new key (Some (with_entries (λ _. []) x)) }
+    ensures { (x : Pending) → slot_at slots.old key ≡ Some x
+        → Updates slots.old slots.new key (Some (with_entries (λ _. []) x)) }
 {
     if let Some(outbox) = slots.get_mut(key) {
         outbox.clear();
@@ -251,8 +268,10 @@ fn push_at(
     limit: u32,
     entry: Push,
 ) -> Result<Pushed, NoMemory>
-    ensures value { IfOk result (λ p. (x : Pending) → slot_at slots.old key ≡ Some x → p ≡ told_at limit x.entries) }
-    ensures ok { OnOk result ((x : Pending) → slot_at slots.old key ≡ Some x → Updates slots.old slots.new key (Some (with_entries (with_entry limit entry) x))) }
+    ensures value { IfOk result
+        (λ p. (x : Pending) → slot_at slots.old key ≡ Some x → p ≡ told_at limit x.entries) }
+    ensures ok { OnOk result ((x : Pending) → slot_at slots.old key ≡ Some x
+        → Updates slots.old slots.new key (Some (with_entries (with_entry limit entry) x))) }
     ensures err { OnErr result (slots.new.slots ≡ slots.old.slots) }
 {
     match slots.get_mut(key) {
@@ -263,8 +282,10 @@ fn push_at(
 
 // Takes the first entries out of the outbox of a key. `NoMemory` changes nothing.
 fn take_at(slots: &mut Slab<Outbox>, key: usize, most: u32) -> Result<List<Push>, NoMemory>
-    ensures value { IfOk result (λ taken. (x : Pending) → slot_at slots.old key ≡ Some x → taken ≡ take most x.entries) }
-    ensures ok { OnOk result ((x : Pending) → slot_at slots.old key ≡ Some x → Updates slots.old slots.new key (Some (with_entries (drop most) x))) }
+    ensures value { IfOk result
+        (λ taken. (x : Pending) → slot_at slots.old key ≡ Some x → taken ≡ take most x.entries) }
+    ensures ok { OnOk result ((x : Pending) → slot_at slots.old key ≡ Some x
+        → Updates slots.old slots.new key (Some (with_entries (drop most) x))) }
     ensures err { OnErr result (slots.new.slots ≡ slots.old.slots) }
 {
     match slots.get_mut(key) {

@@ -30,7 +30,8 @@ abbrev pub numbers_in : List Domain → List DomainNo
 numbers_in domains = map number_of domains
 
 -- two lists of domains with the same numbers
-pub same_numbers : (R : Domain → Domain → Type 0) → ((x y : Domain) → R x y → number_of y ≡ number_of x) → (xs ys : List Domain) → AllZip R xs ys → numbers_in ys ≡ numbers_in xs
+pub same_numbers : (R : Domain → Domain → Type 0) → ((x y : Domain) → R x y → number_of y ≡ number_of x) → (xs ys : List Domain) →
+    AllZip R xs ys → numbers_in ys ≡ numbers_in xs
 same_numbers R number [] [] all = refl
 same_numbers R number [] (y ∷ ys) all = absurd all
 same_numbers R number (x ∷ xs) [] all = absurd all
@@ -49,7 +50,8 @@ stands_among (x ∷ ds) (suc k) d stands =
     or_right (domain_eq (number_of d) (number_of x)) (is_among (number_of d) (numbers_in ds)) (stands_among ds k d stands)
 
 -- one that is among them is none that is not
-pub other_number : (n q : DomainNo) (numbers : List DomainNo) → is_among n numbers ≡ false → is_among q numbers ≡ true → domain_eq n q ≡ false
+pub other_number : (n q : DomainNo) (numbers : List DomainNo) → is_among n numbers ≡ false → is_among q numbers ≡ true →
+    domain_eq n q ≡ false
 other_number n q numbers none there =
     false_from_ne_true (domain_eq n q)
     (λ same. false≢true (sym none ∙ ap (λ d. is_among d numbers) (same_domain n q same) ∙ there))
@@ -63,7 +65,8 @@ rest_apart d numbers apart = (and_parts (not (is_among d numbers)) (are_apart nu
 
 -- Configured domains
 
-configured_among : (n : DomainNo) (cs : List DomainConfig) (ds : List Domain) → AllZip IsNumbered cs ds → is_among n (numbers_in ds) ≡ is_configured n cs
+configured_among : (n : DomainNo) (cs : List DomainConfig) (ds : List Domain) → AllZip IsNumbered cs ds →
+    is_among n (numbers_in ds) ≡ is_configured n cs
 configured_among n [] [] all = refl
 configured_among n [] (d ∷ ds) all = absurd all
 configured_among n (c ∷ cs) [] all = absurd all

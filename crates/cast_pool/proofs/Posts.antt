@@ -16,7 +16,8 @@ adds_more (Some x) None c xs ys p q = absurd p
 adds_more (Some x) (Some y) None xs ys p q = absurd q
 adds_more {X} (Some x) (Some y) (Some z) xs ys p q = q ∙ (ap (λ (l : List X). l ++ ys) p ∙ append_assoc x xs ys)
 
-zip_push : {X Y : Type 0} (R : X → Y → Type 0) (xs : List X) (ys : List Y) (x : X) (y : Y) → AllZip R xs ys → R x y → AllZip R (xs ++ x ∷ []) (ys ++ y ∷ [])
+zip_push : {X Y : Type 0} (R : X → Y → Type 0) (xs : List X) (ys : List Y) (x : X) (y : Y) → AllZip R xs ys → R x y
+    → AllZip R (xs ++ x ∷ []) (ys ++ y ∷ [])
 zip_push R [] [] x y all one = (one, tt)
 zip_push R [] (w ∷ ys) x y all one = absurd all
 zip_push R (v ∷ xs) [] x y all one = absurd all
@@ -27,7 +28,8 @@ answered_none may_trim taken sent = record { raws = []; dones = []; takes = adds
 
 -- one more is taken, and then what came of it is sent
 pub answered_one : (may_trim : Bool) (a b c c' : Option (List Raw)) (d e f f' : Option (List Done)) (raw : Raw) (done : Done)
-    → HasAnswered may_trim a b d e → Adds b c (raw ∷ []) → Adds e f [] → Answers may_trim raw done → Adds f f' (done ∷ []) → Adds c c' [] → HasAnswered may_trim a c' d f'
+    → HasAnswered may_trim a b d e → Adds b c (raw ∷ []) → Adds e f [] → Answers may_trim raw done → Adds f f' (done ∷ []) → Adds c c' []
+    → HasAnswered may_trim a c' d f'
 answered_one may_trim a b c c' d e f f' raw done h takes quiet answers sends still =
     record {
       raws = h.raws ++ raw ∷ [];

@@ -35,13 +35,15 @@ use Rattle.cast_pool.proofs.Numbers.{same_numbers, apart_configured}
 use Rattle.cast_pool.proofs.Turns.{Follows}
 use Rattle.cast_pool.proofs.Events.{taken_in}
 
-leads_push : (d : DomainNo) (trace : List Entry) (e : Entry) (s t u : Option State) → LeadsAll d trace s t → Leads d e t u → LeadsAll d (trace ++ e ∷ []) s u
+leads_push : (d : DomainNo) (trace : List Entry) (e : Entry) (s t u : Option State) → LeadsAll d trace s t → Leads d e t u
+    → LeadsAll d (trace ++ e ∷ []) s u
 leads_push d [] e s t u leads next = (u, subst (λ x. Leads d e x u) leads next, refl)
 leads_push d (x ∷ trace) e s t u leads next = (leads.0, leads.1, leads_push d trace e leads.0 t u leads.2 next)
 
 -- One entry more
 
-replayed_push : (base start end : Shared) (trace : List Entry) (e : Entry) (old mid new : Domain) → IsReplayed base trace start old mid → Follows e start end mid new → IsReplayed base (trace ++ e ∷ []) end old new
+replayed_push : (base start end : Shared) (trace : List Entry) (e : Entry) (old mid new : Domain) → IsReplayed base trace start old mid
+    → Follows e start end mid new → IsReplayed base (trace ++ e ∷ []) end old new
 replayed_push base start end trace e old mid new replayed follows =
     let next = follows.next replayed.end replayed.ends in
     record {
@@ -49,11 +51,14 @@ replayed_push base start end trace e old mid new replayed follows =
       start = replayed.start;
       end = next.state;
       begins = replayed.begins;
-      leads = leads_push (number_of old) trace e replayed.start replayed.end next.state replayed.leads (subst (λ n. Leads n e replayed.end next.state) replayed.number next.leads);
+      leads = leads_push (number_of old) trace e replayed.start replayed.end next.state replayed.leads
+          (subst (λ n. Leads n e replayed.end next.state) replayed.number next.leads);
       ends = subst (λ n. StandsFor new (part_of n end) next.state) (sym follows.number) next.stands;
     }
 
-all_push : (base start end : Shared) (trace : List Entry) (e : Entry) (olds mids news : List Domain) → AllZip (IsReplayed base trace start) olds mids → AllZip (Follows e start end) mids news → AllZip (IsReplayed base (trace ++ e ∷ []) end) olds news
+all_push : (base start end : Shared) (trace : List Entry) (e : Entry) (olds mids news : List Domain)
+    → AllZip (IsReplayed base trace start) olds mids → AllZip (Follows e start end) mids news
+    → AllZip (IsReplayed base (trace ++ e ∷ []) end) olds news
 all_push base start end trace e [] [] [] replayed follow = tt
 all_push base start end trace e [] [] (n ∷ news) replayed follow = absurd follow
 all_push base start end trace e [] (m ∷ mids) news replayed follow = absurd replayed
@@ -65,17 +70,22 @@ all_push base start end trace e (o ∷ olds) (m ∷ mids) (n ∷ news) replayed 
 -- the domains of the table have the numbers of those of the base
 kept_numbers : (base : Table) (trace : List Entry) (table : Table) → Replays base trace table → numbers_of table ≡ numbers_of base
 kept_numbers base trace table replays =
-    same_numbers (IsReplayed (shared_of base) trace (shared_of table)) (λ x y replayed. replayed.number) (domains_of base) (domains_of table) replays.domains
+    same_numbers (IsReplayed (shared_of base) trace (shared_of table)) (λ x y replayed. replayed.number) (domains_of base)
+    (domains_of table) replays.domains
 
-pub replays_push : (base : Table) (trace : List Entry) (old new : Table) (e : Entry) (a : Result Taken Fault) (before after : Outs) → Replays base trace old → noted_of a ≡ Some e.answer
-    → IsApplied a e.event (domains_of old) (domains_of new) (lent_of old before) (lent_of new after) → NotesHalts a e.event (domains_of old) (domains_of new) [] e.halted → Replays base (trace ++ e ∷ []) new
+pub replays_push : (base : Table) (trace : List Entry) (old new : Table) (e : Entry) (a : Result Taken Fault) (before after : Outs)
+    → Replays base trace old → noted_of a ≡ Some e.answer
+    → IsApplied a e.event (domains_of old) (domains_of new) (lent_of old before) (lent_of new after)
+    → NotesHalts a e.event (domains_of old) (domains_of new) [] e.halted → Replays base (trace ++ e ∷ []) new
 replays_push base trace old new e a before after replays says applied notes =
     let same = kept_numbers base trace old replays in
     let made =
-    taken_in e (domains_of old) (domains_of new) (lent_of old before) (lent_of new after) (ap are_apart same ∙ replays.apart) a says applied notes in
+    taken_in e (domains_of old) (domains_of new) (lent_of old before) (lent_of new after) (ap are_apart same ∙ replays.apart)
+    a says applied notes in
     record {
       apart = replays.apart;
-      domains = all_push (shared_of base) (shared_of old) (shared_of new) trace e (domains_of base) (domains_of old) (domains_of new) replays.domains made.follow;
+      domains = all_push (shared_of base) (shared_of old) (shared_of new) trace e (domains_of base) (domains_of old) (domains_of new)
+          replays.domains made.follow;
       entries = All-push (IsEntryAmong (numbers_of base)) trace e replays.entries (subst (λ ns. IsEntryAmong ns e) same made.entry);
     }
 
@@ -99,7 +109,8 @@ stands_copy d copy part None is stands = is.halted ∙ stands
 copy_number : (d copy : Domain) → IsDomainCopy d copy → number_of copy ≡ number_of d
 copy_number d copy is = ap (λ (r : Records). r.config.domain) (is.records no_part no_outs)
 
-trimmed_one : (base now next : Shared) (trace : List Entry) (old d copy : Domain) → next ≡ now → IsReplayed base trace now old d → IsDomainCopy d copy → IsReplayed next [] now copy d
+trimmed_one : (base now next : Shared) (trace : List Entry) (old d copy : Domain) → next ≡ now → IsReplayed base trace now old d
+    → IsDomainCopy d copy → IsReplayed next [] now copy d
 trimmed_one base now next trace old d copy same replayed is =
     let number = copy_number d copy is in
     record {
@@ -114,28 +125,36 @@ trimmed_one base now next trace old d copy same replayed is =
       ends = replayed.ends;
     }
 
-all_trimmed : (base now next : Shared) (trace : List Entry) (olds ds copies : List Domain) → next ≡ now → AllZip (IsReplayed base trace now) olds ds → AllZip IsDomainCopy ds copies → AllZip (IsReplayed next [] now) copies ds
+all_trimmed : (base now next : Shared) (trace : List Entry) (olds ds copies : List Domain) → next ≡ now
+    → AllZip (IsReplayed base trace now) olds ds → AllZip IsDomainCopy ds copies → AllZip (IsReplayed next [] now) copies ds
 all_trimmed base now next trace [] [] [] same replayed copied = tt
 all_trimmed base now next trace [] [] (c ∷ copies) same replayed copied = absurd copied
 all_trimmed base now next trace [] (d ∷ ds) copies same replayed copied = absurd replayed
 all_trimmed base now next trace (o ∷ olds) [] copies same replayed copied = absurd replayed
 all_trimmed base now next trace (o ∷ olds) (d ∷ ds) [] same replayed copied = absurd copied
-all_trimmed base now next trace (o ∷ olds) (d ∷ ds) (c ∷ copies) same replayed copied =
-    (trimmed_one base now next trace o d c same replayed.0 copied.0, all_trimmed base now next trace olds ds copies same replayed.1 copied.1)
+all_trimmed base now next trace (o ∷ olds) (d ∷ ds) (c ∷ copies) same replayed copied = (
+  trimmed_one base now next trace o d c same replayed.0 copied.0,
+  all_trimmed base now next trace olds ds copies same
+      replayed.1 copied.1,
+)
 
-pub replays_trim : (base : Table) (trace : List Entry) (table copy : Table) → Replays base trace table → IsCopyOf table copy → Replays copy [] table
+pub replays_trim : (base : Table) (trace : List Entry) (table copy : Table) → Replays base trace table → IsCopyOf table copy
+    → Replays copy [] table
 replays_trim base trace table copy replays is =
     let numbers : numbers_of copy ≡ numbers_of base =
     same_numbers IsDomainCopy copy_number (domains_of table) (domains_of copy) is.domains ∙ kept_numbers base trace table replays in
     record {
       apart = ap are_apart numbers ∙ replays.apart;
-      domains = all_trimmed (shared_of base) (shared_of table) (shared_of copy) trace (domains_of base) (domains_of table) (domains_of copy) is.shared replays.domains is.domains;
+      domains = all_trimmed (shared_of base) (shared_of table) (shared_of copy) trace (domains_of base) (domains_of table) (domains_of copy)
+          is.shared replays.domains is.domains;
       entries = All-nil (IsEntryAmong (numbers_of copy));
     }
 
 -- The beginning
 
-new_one : (here : SiteNo) (config : DomainConfig) (base now : Shared) (old new : Domain) → ((d : DomainNo) → part_of d base ≡ no_part) → ((d : DomainNo) → part_of d now ≡ no_part) → is_rising group_cmp config.groups ≡ true → IsNew here config old → IsNew here config new → IsReplayed base [] now old new
+new_one : (here : SiteNo) (config : DomainConfig) (base now : Shared) (old new : Domain) → ((d : DomainNo) → part_of d base ≡ no_part)
+    → ((d : DomainNo) → part_of d now ≡ no_part) → is_rising group_cmp config.groups ≡ true → IsNew here config old → IsNew here config new
+    → IsReplayed base [] now old new
 new_one here config base now old new first none rising was is =
     record {
       number = is.number ∙ sym was.number;
@@ -146,7 +165,9 @@ new_one here config base now old new first none rising was is =
       ends = (is.running, subst (λ p. Represents new p (opening here config)) (sym (none (number_of new))) (is.begins rising));
     }
 
-all_new : (here : SiteNo) (base now : Shared) → ((d : DomainNo) → part_of d base ≡ no_part) → ((d : DomainNo) → part_of d now ≡ no_part) → (configs : List DomainConfig) (olds news : List Domain) → have_rising_groups configs ≡ true → AllZip (IsNew here) configs olds → AllZip (IsNew here) configs news → AllZip (IsReplayed base [] now) olds news
+all_new : (here : SiteNo) (base now : Shared) → ((d : DomainNo) → part_of d base ≡ no_part) → ((d : DomainNo) → part_of d now ≡ no_part)
+    → (configs : List DomainConfig) (olds news : List Domain) → have_rising_groups configs ≡ true → AllZip (IsNew here) configs olds
+    → AllZip (IsNew here) configs news → AllZip (IsReplayed base [] now) olds news
 all_new here base now first none [] [] [] rising was is = tt
 all_new here base now first none [] [] (n ∷ news) rising was is = absurd is
 all_new here base now first none [] (o ∷ olds) news rising was is = absurd was
@@ -162,10 +183,14 @@ numbered here [] (d ∷ ds) all = absurd all
 numbered here (c ∷ configs) [] all = absurd all
 numbered here (c ∷ configs) (d ∷ ds) all = (all.0.number, numbered here configs ds all.1)
 
-pub replays_new : (here : SiteNo) (configs : List DomainConfig) (base table : Table) → are_distinct configs ≡ true → have_rising_groups configs ≡ true → AllZip (IsNew here) (by_number configs) (domains_of base) → AllZip (IsNew here) (by_number configs) (domains_of table) → SharesNothing base → SharesNothing table → Replays base [] table
+pub replays_new : (here : SiteNo) (configs : List DomainConfig) (base table : Table) → are_distinct configs ≡ true
+    → have_rising_groups configs ≡ true → AllZip (IsNew here) (by_number configs) (domains_of base)
+    → AllZip (IsNew here) (by_number configs) (domains_of table) → SharesNothing base → SharesNothing table → Replays base [] table
 replays_new here configs base table distinct rising was is first none =
     record {
-      apart = apart_configured (by_number configs) (domains_of base) (numbered here (by_number configs) (domains_of base) was) ∙ distinct_by_number configs distinct;
-      domains = all_new here (shared_of base) (shared_of table) first none (by_number configs) (domains_of base) (domains_of table) (rising_by_number configs ∙ rising) was is;
+      apart = apart_configured (by_number configs) (domains_of base) (numbered here (by_number configs) (domains_of base) was)
+          ∙ distinct_by_number configs distinct;
+      domains = all_new here (shared_of base) (shared_of table) first none (by_number configs) (domains_of base) (domains_of table)
+          (rising_by_number configs ∙ rising) was is;
       entries = All-nil (IsEntryAmong (numbers_of base));
     }

@@ -28,14 +28,17 @@ pub record Next (e : Entry) (end : Part) (n : DomainNo) (s : Option State) (new 
 -- whatever the old domain stood for, with its part of what is shared before and after
 pub record Follows (e : Entry) (start : Shared) (end : Shared) (old : Domain) (new : Domain) : Type 0 where
   pub number : number_of new ≡ number_of old
-  pub next : (s : Option State) → StandsFor old (part_of (number_of old) start) s → Next e (part_of (number_of old) end) (number_of old) s new
+  pub next : (s : Option State) → StandsFor old (part_of (number_of old) start) s →
+      Next e (part_of (number_of old) end) (number_of old) s new
 
 same_note : (a b : Noted) → Some a ≡ Some b → a ≡ b
 same_note a b e = cc
 
 module _ (e : Entry) (old new : Domain) (before after : Lent) (own : is_own (number_of old) e.event ≡ true) where
   -- it made its step, or refused
-  took : (t : Taken) → (names (number_of old) e.event ≡ true → Some e.answer ≡ noted_of (Ok t)) → is_among (number_of old) e.halted ≡ false → IsTurn (Ok t) e.event old new before after → (s : Option State) → StandsFor old (part_of (number_of old) before.shared) s → Next e (part_of (number_of old) after.shared) (number_of old) s new
+  took : (t : Taken) → (names (number_of old) e.event ≡ true → Some e.answer ≡ noted_of (Ok t)) →
+      is_among (number_of old) e.halted ≡ false → IsTurn (Ok t) e.event old new before after → (s : Option State) →
+      StandsFor old (part_of (number_of old) before.shared) s → Next e (part_of (number_of old) after.shared) (number_of old) s new
   took t says runs turn (Some s) stands =
       let step = turn.steps stands.0 s stands.1 in
       record {
@@ -56,7 +59,9 @@ module _ (e : Entry) (old new : Domain) (before after : Lent) (own : is_own (num
       }
 
   -- it found no memory
-  stopped_in : (d : DomainNo) → (names (number_of old) e.event ≡ true → Some e.answer ≡ noted_of (Err (Halted d))) → is_among (number_of old) e.halted ≡ true → IsTurn (Err (Halted d)) e.event old new before after → (s : Option State) → StandsFor old (part_of (number_of old) before.shared) s → Next e (part_of (number_of old) after.shared) (number_of old) s new
+  stopped_in : (d : DomainNo) → (names (number_of old) e.event ≡ true → Some e.answer ≡ noted_of (Err (Halted d))) →
+      is_among (number_of old) e.halted ≡ true → IsTurn (Err (Halted d)) e.event old new before after → (s : Option State) →
+      StandsFor old (part_of (number_of old) before.shared) s → Next e (part_of (number_of old) after.shared) (number_of old) s new
   stopped_in d says stops turn (Some s) stands =
       record {
         state = None;
@@ -68,7 +73,10 @@ module _ (e : Entry) (old new : Domain) (before after : Lent) (own : is_own (num
   halted_itself : (d : DomainNo) → d ≡ number_of old → is_among (number_of old) (halted_by (Err (Halted d))) ≡ true
   halted_itself d same = or_left (domain_eq (number_of old) d) false (ap (domain_eq (number_of old)) same ∙ domain_itself (number_of old))
 
-  turned_from : (a : Result Taken Fault) → a ≢ Err NoMemory → (names (number_of old) e.event ≡ true → Some e.answer ≡ noted_of a) → is_among (number_of old) e.halted ≡ is_among (number_of old) (halted_by a) → IsTurn a e.event old new before after → (number_of new ≡ number_of old) × ((s : Option State) → StandsFor old (part_of (number_of old) before.shared) s → Next e (part_of (number_of old) after.shared) (number_of old) s new)
+  turned_from : (a : Result Taken Fault) → a ≢ Err NoMemory → (names (number_of old) e.event ≡ true → Some e.answer ≡ noted_of a) →
+      is_among (number_of old) e.halted ≡ is_among (number_of old) (halted_by a) → IsTurn a e.event old new before after →
+      (number_of new ≡ number_of old) × ((s : Option State) → StandsFor old (part_of (number_of old) before.shared) s →
+      Next e (part_of (number_of old) after.shared) (number_of old) s new)
   turned_from (Ok t) begun says halts turn = (turn.number, took t says halts turn)
   turned_from (Err NoMemory) begun says halts turn = absurd (begun refl)
   turned_from (Err (Halted d)) begun says halts turn =
@@ -76,7 +84,10 @@ module _ (e : Entry) (old new : Domain) (before after : Lent) (own : is_own (num
   turned_from (Err NoDomain) begun says halts turn = absurd turn
 
   -- a domain whose turn it was
-  pub turned : (a : Result Taken Fault) → a ≢ Err NoMemory → (names (number_of old) e.event ≡ true → Some e.answer ≡ noted_of a) → is_among (number_of old) e.halted ≡ is_among (number_of old) (halted_by a) → IsTurn a e.event old new before after → (start end : Shared) → part_of (number_of old) before.shared ≡ part_of (number_of old) start → part_of (number_of old) end ≡ part_of (number_of old) after.shared → Follows e start end old new
+  pub turned : (a : Result Taken Fault) → a ≢ Err NoMemory → (names (number_of old) e.event ≡ true → Some e.answer ≡ noted_of a) →
+      is_among (number_of old) e.halted ≡ is_among (number_of old) (halted_by a) → IsTurn a e.event old new before after →
+      (start end : Shared) → part_of (number_of old) before.shared ≡ part_of (number_of old) start →
+      part_of (number_of old) end ≡ part_of (number_of old) after.shared → Follows e start end old new
   turned a begun says halts turn start end came goes =
       let made = turned_from a begun says halts turn in
       record {

@@ -1,5 +1,6 @@
 -- What contracts see of a table beside its trace, and what holds whenever nobody is changing it.
-use Rattle.std.specs.Prelude.{◌≡◌, ℕ, ◌+◌, ◌==◌, nat_le, Bool, true, not, ◌&&◌, List, [], ◌∷◌, length, map, Option, All}
+use Rattle.std.specs.Prelude.{◌≡◌, ℕ, ◌+◌, ◌==◌, nat_le, Bool, true, not}
+use Rattle.std.specs.Prelude.{◌&&◌, List, [], ◌∷◌, length, map, Option, All}
 use Rattle.std.specs.List.{AllZip}
 use Rattle.cast_types.specs.declared.names.DomainNo.{DomainNo}
 use Rattle.cast_rules.specs.State.{State}
@@ -12,8 +13,8 @@ use Rattle.cast_table.specs.Tables.{domains_of, shared_of}
 use Rattle.cast_events.specs.declared.entry.Entry.{Entry}
 use Rattle.cast_pool.specs.Traces.{StandsFor, LeadsAll, IsEntryAmong, is_among}
 
--- the table as it was before the first event of the trace, the trace, how many events were taken before it, and the table
--- as it is
+-- the table as it was before the first event of the trace, the trace, how many events were taken
+-- before it, and the table as it is
 pub record Seen : Type 0 where
   pub base : Table
   pub trace : List Entry
@@ -44,9 +45,10 @@ abbrev pub are_apart : List DomainNo → Bool
 are_apart [] = true
 are_apart (d ∷ numbers) = not (is_among d numbers) && are_apart numbers
 
--- there is something that a domain stood for at the beginning of the trace, from which the trace leads to what it stands for
--- now
-pub record IsReplayed (base : Shared) (trace : List Entry) (now : Shared) (old : Domain) (new : Domain) : Type 0 where
+-- there is something that a domain stood for at the beginning of the trace, from which the trace
+-- leads to what it stands for now
+pub record IsReplayed (base : Shared) (trace : List Entry) (now : Shared) (old : Domain)
+    (new : Domain) : Type 0 where
   pub number : number_of new ≡ number_of old
   pub start : Option State
   pub end : Option State
@@ -57,5 +59,6 @@ pub record IsReplayed (base : Shared) (trace : List Entry) (now : Shared) (old :
 -- the trace leads from the base to the table: for each domain, and by what each entry says
 pub record Replays (base : Table) (trace : List Entry) (table : Table) : Type 0 where
   pub apart : are_apart (numbers_of base) ≡ true
-  pub domains : AllZip (IsReplayed (shared_of base) trace (shared_of table)) (domains_of base) (domains_of table)
+  pub domains : AllZip (IsReplayed (shared_of base) trace (shared_of table)) (domains_of base)
+      (domains_of table)
   pub entries : All (IsEntryAmong (numbers_of base)) trace

@@ -19,7 +19,8 @@ pub record Answers (may_trim : Bool) (raw : Raw) (done : Done) : Type 0 where
   pub answered : IsAnswered raw.asked may_trim done.outcome was now
 
 -- these were taken, and what came of each was sent, in the same order
-pub record HasAnswered (may_trim : Bool) (taken taken_now : Option (List Raw)) (sent sent_now : Option (List Done)) : Type 0 where
+pub record HasAnswered (may_trim : Bool) (taken taken_now : Option (List Raw))
+    (sent sent_now : Option (List Done)) : Type 0 where
   pub raws : List Raw
   pub dones : List Done
   pub takes : Adds taken taken_now raws

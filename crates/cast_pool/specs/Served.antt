@@ -1,6 +1,7 @@
 -- What it is that an event is served.
 -- It is applied to the table, and stands at the end of the trace with its answer.
-use Rattle.std.specs.Prelude.{◌≡◌, ◌⊎◌, ℕ, ◌+◌, ◌==◌, Bool, true, false, not, if◌then◌else◌, [], ◌∷◌, ◌++◌, length, Result, Ok, Err}
+use Rattle.std.specs.Prelude.{◌≡◌, ◌⊎◌, ℕ, ◌+◌, ◌==◌, Bool, true, false, not}
+use Rattle.std.specs.Prelude.{if◌then◌else◌, [], ◌∷◌, ◌++◌, length, Result, Ok, Err}
 use Rattle.cast_types.specs.declared.refusal.Refusal.TheVariants as refusal
 use Rattle.cast_events.specs.declared.event.Event.{Event}
 use Rattle.cast_events.specs.declared.event.Outs.{Outs}
@@ -23,7 +24,8 @@ use Rattle.cast_pool.specs.Tasks.{IsUndecoded, task_of}
 use Rattle.cast_trail.specs.Notes.{noted_taken}
 use Rattle.cast_pool.specs.Kept.{Seen, is_due, is_full, events_of}
 
--- the table is as it was, nothing is added to the trace, and its worker has taken as many events as before
+-- the table is as it was, nothing is added to the trace, and its worker has taken as many events as
+-- before
 abbrev pub IsLeft : Seen → Seen → ℕ → ℕ → Type 0
 IsLeft old new was now = (new ≡ old) × (now ≡ was)
 
@@ -45,50 +47,68 @@ abbrev pub IsTrimmedOr : Bool → Seen → Seen → Type 0
 IsTrimmedOr true old new = IsTrimmed old new ⊎ (new ≡ old)
 IsTrimmedOr false old new = new ≡ old
 
--- an event is applied to the table with this answer, stands at the end of the trace, which was trimmed before where that was
--- due, and is one more that its worker took
-pub record IsAdded (event : Event) (answer : Result Taken Fault) (kept : Noted) (outs : Outs) (old : Seen) (new : Seen) (was : ℕ) (now : ℕ) : Type 0 where
-  pub applied : IsApplied answer event (domains_of old.table) (domains_of new.table) (lent_of old.table no_outs) (lent_of new.table outs)
+-- an event is applied to the table with this answer, stands at the end of the trace, which was
+-- trimmed before where that was due, and is one more that its worker took
+pub record IsAdded (event : Event) (answer : Result Taken Fault) (kept : Noted) (outs : Outs)
+    (old : Seen) (new : Seen) (was : ℕ) (now : ℕ) : Type 0 where
+  pub applied : IsApplied answer event (domains_of old.table) (domains_of new.table)
+      (lent_of old.table no_outs) (lent_of new.table outs)
   pub halted : NotesHalts answer event (domains_of old.table) (domains_of new.table) [] outs.halted
-  pub trace : new.trace ≡ (if is_due old then [] else old.trace) ++ record { event = event; answer = kept; halted = outs.halted } ∷ []
+  pub trace : new.trace ≡ (if is_due old then [] else old.trace)
+      ++ record { event = event; answer = kept; halted = outs.halted } ∷ []
   pub count : new.count ≡ (if is_due old then events_of old else old.count)
   pub trims : is_due old ≡ true → IsCopyOf old.table new.base
   pub stays : is_due old ≡ false → new.base ≡ old.base
   pub taken : now ≡ was + 1
 
--- what becomes of an event, by its answer. Where there is no room for its entry, no domain of its number or no memory to begin
--- with, nothing
+-- what becomes of an event, by its answer. Where there is no room for its entry, no domain of its
+-- number or no memory to begin with, nothing
 abbrev pub IsServed : Event → Result Taken Fault → Outs → Seen → Seen → ℕ → ℕ → Type 0
-IsServed event (Ok taken) outs old new was now = IsAdded event (Ok taken) (noted_taken taken) outs old new was now
+IsServed event (Ok taken) outs old new was now =
+    IsAdded event (Ok taken) (noted_taken taken) outs old new was now
 IsServed event (Err NoMemory) outs old new was now = (outs ≡ no_outs) × IsLeft old new was now
-IsServed event (Err (Halted d)) outs old new was now = IsAdded event (Err (Halted d)) (noted.Halted d) outs old new was now
+IsServed event (Err (Halted d)) outs old new was now =
+    IsAdded event (Err (Halted d)) (noted.Halted d) outs old new was now
 IsServed event (Err NoDomain) outs old new was now =
-    IsApplied (Err NoDomain) event (domains_of old.table) (domains_of new.table) (lent_of old.table no_outs) (lent_of new.table outs)
+    IsApplied (Err NoDomain) event (domains_of old.table) (domains_of new.table)
+    (lent_of old.table no_outs) (lent_of new.table outs)
     × (outs ≡ no_outs)
     × IsLeft old new was now
 
--- an event that would take the number of events past its end is refused, as a halted domain refuses, and changes nothing
-pub record Serves (event : Event) (answer : Result Taken Fault) (outs : Outs) (old : Seen) (new : Seen) (was : ℕ) (now : ℕ) : Type 0 where
-  pub full : is_full old ≡ true → (answer ≡ Ok (Refused refusal.Halted)) × (outs ≡ no_outs) × IsLeft old new was now
+-- an event that would take the number of events past its end is refused, as a halted domain
+-- refuses, and changes nothing
+pub record Serves (event : Event) (answer : Result Taken Fault) (outs : Outs) (old : Seen)
+    (new : Seen) (was : ℕ) (now : ℕ) : Type 0 where
+  pub full : is_full old ≡ true
+      → (answer ≡ Ok (Refused refusal.Halted)) × (outs ≡ no_outs) × IsLeft old new was now
   pub room : is_full old ≡ false → IsServed event answer outs old new was now
 
 -- what a job does, and what comes of it: an event is served, and what a domain shows is no event
 abbrev pub IsDone : Task → Outcome → Seen → Seen → ℕ → ℕ → Type 0
-IsDone (Serve event) (Answered answer outs) old new was now = Serves event answer outs old new was now
+IsDone (Serve event) (Answered answer outs) old new was now =
+    Serves event answer outs old new was now
 IsDone (Serve event) (Shown shown) old new was now = ⊥
 IsDone (Serve event) (Undecoded fault) old new was now = ⊥
 IsDone (Show d) (Answered answer outs) old new was now = ⊥
-IsDone (Show d) (Shown shown) old new was now = (shown ≡ shown_at d old.table) × IsLeft old new was now
+IsDone (Show d) (Shown shown) old new was now =
+    (shown ≡ shown_at d old.table) × IsLeft old new was now
 IsDone (Show d) (Undecoded fault) old new was now = ⊥
 
--- a job is done, and then the trace may have been trimmed, if that may be, where that halted a domain
-pub record Completes (task : Task) (may_trim : Bool) (outcome : Outcome) (old : Seen) (new : Seen) (was : ℕ) (now : ℕ) : Type 0 where
+-- a job is done, and then the trace may have been trimmed, if that may be, where that halted a
+-- domain
+pub record Completes (task : Task) (may_trim : Bool) (outcome : Outcome) (old : Seen) (new : Seen)
+    (was : ℕ) (now : ℕ) : Type 0 where
   pub between : Seen
   pub done : IsDone task outcome old between was now
   pub trimmed : IsTrimmedOr (if may_trim then halts outcome else false) between new
 
--- this came of what was asked: a job of it left one kept table another, or its bytes are no frame and nothing was taken
+-- this came of what was asked: a job of it left one kept table another, or its bytes are no frame
+-- and nothing was taken
 abbrev pub IsAnswered : Asked → Bool → Outcome → ℕ → ℕ → Type 0
 IsAnswered asked may_trim outcome was now =
-    ((task : Task) × (old : Seen) × (new : Seen) × (task_of asked ≡ Ok task) × Completes task may_trim outcome old new was now)
+    ((task : Task)
+    × (old : Seen)
+    × (new : Seen)
+    × (task_of asked ≡ Ok task)
+    × Completes task may_trim outcome old new was now)
     ⊎ (IsUndecoded asked outcome × (now ≡ was))

@@ -30,8 +30,10 @@ is_datagram (asked.Datagram bytes) = true
 is_datagram (asked.Event event) = false
 is_datagram (asked.Show d) = false
 
--- it is told that bytes are no frame only of bytes, with their first fault, or that there was no memory to read them
+-- it is told that bytes are no frame only of bytes, with their first fault, or that there was no
+-- memory to read them
 abbrev pub IsUndecoded : Asked → Outcome → Type 0
 IsUndecoded asked (Answered answer outs) = ⊥
 IsUndecoded asked (Shown shown) = ⊥
-IsUndecoded asked (Undecoded fault) = (is_datagram asked ≡ true) × ((task_of asked ≡ Err fault) ⊎ (fault ≡ NoMemory))
+IsUndecoded asked (Undecoded fault) =
+    (is_datagram asked ≡ true) × ((task_of asked ≡ Err fault) ⊎ (fault ≡ NoMemory))

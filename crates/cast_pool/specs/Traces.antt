@@ -15,13 +15,15 @@ use Rattle.cast_domain.specs.Fits.{Represents}
 use Rattle.cast_table.specs.Tables.{domain_eq, IsLeast}
 use Rattle.cast_table.specs.Owns.{names, is_own}
 use Rattle.cast_events.specs.declared.entry.Noted.{Noted}
-use Rattle.cast_events.specs.declared.entry.Noted.TheVariants.{Nothing, Opened, Refused, Entries, Halted}
+use Rattle.cast_events.specs.declared.entry.Noted.TheVariants.{Nothing, Opened, Refused}
+use Rattle.cast_events.specs.declared.entry.Noted.TheVariants.{Entries, Halted}
 use Rattle.cast_events.specs.declared.entry.Entry.{Entry}
 use Rattle.cast_trail.specs.Notes.{noted_taken}
 
 -- One domain
 
--- what a domain stands for, with its part of what is shared: a history, or, where want of memory has halted it, none
+-- what a domain stands for, with its part of what is shared: a history, or, where want of memory
+-- has halted it, none
 abbrev pub StandsFor : Domain → Part → Option State → Type 0
 StandsFor d part (Some s) = (is_halted d ≡ false) × Represents d part s
 StandsFor d part None = is_halted d ≡ true
@@ -30,22 +32,28 @@ StandsFor d part None = is_halted d ≡ true
 abbrev pub is_among : DomainNo → List DomainNo → Bool
 is_among d numbers = list_any (domain_eq d) numbers
 
--- the event of an entry takes a domain's history from s to t, and where it names the domain, the answer that is kept is the
--- one that a daemon gives there which serves the domain alone
+-- the event of an entry takes a domain's history from s to t, and where it names the domain, the
+-- answer that is kept is the one that a daemon gives there which serves the domain alone
 pub record IsKeptStep (d : DomainNo) (e : Entry) (s : State) (t : State) : Type 0 where
   pub answer : Taken
   pub steps : IsStep s e.event answer t
   pub kept : names d e.event ≡ true → e.answer ≡ noted_taken answer
 
--- what an entry makes of what a domain stands for. Its own event is a step, or halts the domain, whose history ends there;
--- any other leaves it. A domain that was halted refuses each event that names it
+-- what an entry makes of what a domain stands for. Its own event is a step, or halts the domain,
+-- whose history ends there; any other leaves it. A domain that was halted refuses each event that
+-- names it
 abbrev pub Leads : DomainNo → Entry → Option State → Option State → Type 0
 Leads d e (Some s) (Some t) =
-    (is_among d e.halted ≡ false) × (is_own d e.event ≡ true → IsKeptStep d e s t) × (is_own d e.event ≡ false → t ≡ s)
+    (is_among d e.halted ≡ false)
+    × (is_own d e.event ≡ true → IsKeptStep d e s t)
+    × (is_own d e.event ≡ false → t ≡ s)
 Leads d e (Some s) None =
-    (is_among d e.halted ≡ true) × (is_own d e.event ≡ true) × (names d e.event ≡ true → e.answer ≡ Halted d)
+    (is_among d e.halted ≡ true)
+    × (is_own d e.event ≡ true)
+    × (names d e.event ≡ true → e.answer ≡ Halted d)
 Leads d e None (Some t) = ⊥
-Leads d e None None = (is_among d e.halted ≡ false) × (names d e.event ≡ true → e.answer ≡ Refused refusal.Halted)
+Leads d e None None =
+    (is_among d e.halted ≡ false) × (names d e.event ≡ true → e.answer ≡ Refused refusal.Halted)
 
 -- the entries of a trace, one after another
 abbrev pub LeadsAll : DomainNo → List Entry → Option State → Option State → Type 0
@@ -54,7 +62,8 @@ LeadsAll d (e ∷ trace) s t = (u : Option State) × Leads d e s u × LeadsAll d
 
 -- All domains
 
--- the answer that is kept tells of a halt exactly where a domain was halted, and then the least number of those that were
+-- the answer that is kept tells of a halt exactly where a domain was halted, and then the least
+-- number of those that were
 abbrev pub TellsHalts : Noted → List DomainNo → Type 0
 TellsHalts (Halted d) numbers = IsLeast d numbers
 TellsHalts Nothing numbers = numbers ≡ []

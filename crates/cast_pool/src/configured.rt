@@ -8,8 +8,8 @@ ghost use Rattle.cast_table.specs.Owns.{are_distinct, have_rising_groups, is_con
 use cast_events::{Config, DomainConfig};
 use cast_types::{DomainNo, GroupNo};
 
-/// Whether a table of this configuration can be kept: no two domains have one number, and each names its groups in rising
-/// order.
+/// Whether a table of this configuration can be kept: no two domains have one number, and each
+/// names its groups in rising order.
 pub fn can_keep(config: &Config) -> bool
     ensures { result ≡ are_distinct config.now.domains && have_rising_groups config.now.domains }
 {

@@ -1,5 +1,7 @@
-//! The table with its trace, and the jobs. Nothing outside this module changes a kept table, or makes a job or what comes of it.
-ghost use Rattle.std.specs.Prelude.{◌≡◌, ◌+◌, ◌<◌, ◌≤◌, ◌^◌, [], true, Ok, IfOk, OnOk, OnErr, IfErr, length};
+//! The table with its trace, and the jobs. Nothing outside this module changes a kept table, or
+//! makes a job or what comes of it.
+ghost use Rattle.std.specs.Prelude.{◌≡◌, ◌+◌, ◌<◌, ◌≤◌, ◌^◌, [], true};
+ghost use Rattle.std.specs.Prelude.{Ok, IfOk, OnOk, OnErr, IfErr, length};
 ghost use Rattle.cast_table.specs.Owns.{are_distinct, have_rising_groups};
 ghost use Rattle.cast_pool.specs.Kept.{Replays, Seen, events_of};
 ghost use Rattle.cast_pool.specs.Served.{Completes, IsDone, IsTrimmed, IsTrimmedOr, Serves, halts};
@@ -16,23 +18,25 @@ use std::alloc::Global;
 use std::marker::Model;
 use std::sync::ledger::{Blank, Book, Ledger, Share};
 
-/// A job: what is to be done with the table, under the number that was asked. `decode` alone makes one.
+/// A job: what is to be done with the table, under the number that was asked. `decode` alone makes
+/// one.
 #[derive(Drop)]
 pub struct Job {
     number: u64,
     task: Task,
 }
 
-/// What came of a job, or why bytes were none, under the number that was asked. `decode` and `Kept::serve_one` alone make one.
+/// What came of a job, or why bytes were none, under the number that was asked. `decode` and
+/// `Kept::serve_one` alone make one.
 #[derive(Drop)]
 pub struct Done {
     number: u64,
     outcome: Outcome,
 }
 
-/// The table of a daemon, beside the trace of the events that it took since the base, with the number of those before it.
-/// Contracts see a `Seen`. Whenever nobody is changing it, the trace leads from what the base stands for to what the table
-/// stands for.
+/// The table of a daemon, beside the trace of the events that it took since the base, with the
+/// number of those before it. Contracts see a `Seen`. Whenever nobody is changing it, the trace
+/// leads from what the base stands for to what the table stands for.
 #[derive(Drop)]
 pub struct Kept<L: Ledger> {
     alloc: Global,
@@ -49,7 +53,9 @@ impl<L: Ledger> Model for Kept<L> {
 
     ghost view = { λ k. seen_of k.trail.base k.trail.entries.items k.trail.count k.table };
 
-    ghost invariant = { λ k. Replays k.trail.base k.trail.entries.items k.table × (k.trail.count + length k.trail.entries.items ≡ k.book.total) × (k.trail.count + length k.trail.entries.items < 2 ^ 64) };
+    ghost invariant = { λ k. Replays k.trail.base k.trail.entries.items k.table
+        × (k.trail.count + length k.trail.entries.items ≡ k.book.total)
+        × (k.trail.count + length k.trail.entries.items < 2 ^ 64) };
 }
 
 /// A worker's share of the count: how many events it took.
@@ -62,11 +68,13 @@ pub struct Worked<L: Ledger> {
     ghost parts_are: { share.parts ≡ parts },
 }
 
-/// What is to be done where this is asked. The bytes of a datagram are read as a frame; why they are none is an answer
-/// already.
+/// What is to be done where this is asked. The bytes of a datagram are read as a frame; why they
+/// are none is an answer already.
 pub fn decode(alloc: Global, raw: Raw) -> Result<Job, Done>
-    ensures job { IfOk result (λ job. (job.number ≡ raw.number) × (task_of raw.asked ≡ Ok job.task)) }
-    ensures fault { IfErr result (λ done. (done.number ≡ raw.number) × IsUndecoded raw.asked done.outcome) }
+    ensures job { IfOk result
+        (λ job. (job.number ≡ raw.number) × (task_of raw.asked ≡ Ok job.task)) }
+    ensures fault { IfErr result
+        (λ done. (done.number ≡ raw.number) × IsUndecoded raw.asked done.outcome) }
 {
     let Raw { number, asked } = raw;
     match asked {
@@ -155,7 +163,8 @@ impl<L: Ledger> Worked<L> {
     /// Adds up two shares. Gives both back where their sum passes the greatest u64.
     pub fn join(self, other: Worked<L>) -> Result<Worked<L>, (Worked<L>, Worked<L>)>
         requires { self.parts + other.parts < 2 ^ 64 }
-        ensures ok { IfOk result (λ w. (w.taken ≡ self.taken + other.taken) × (w.parts ≡ self.parts + other.parts)) }
+        ensures ok { IfOk result
+            (λ w. (w.taken ≡ self.taken + other.taken) × (w.parts ≡ self.parts + other.parts)) }
         ensures err { IfErr result (λ p. (p.0 ≡ self) × (p.1 ≡ other)) }
         ensures past { OnErr result (2 ^ 64 ≤ self.taken + other.taken) }
     {
@@ -186,7 +195,8 @@ impl<L: Ledger> Kept<L> {
     ghost use Rattle.cast_table.specs.Tables.{IsNew, SharesNothing, by_number, domains_of};
     ghost use Rattle.cast_pool.specs.Kept.{is_due};
 
-    /// A table before its first event, with an empty trace, and the whole share of its count, in so many parts.
+    /// A table before its first event, with an empty trace, and the whole share of its count, in so
+    /// many parts.
     pub fn new(
         alloc: Global,
         config: &Config,
@@ -197,10 +207,12 @@ impl<L: Ledger> Kept<L> {
         requires rising { have_rising_groups config.now.domains ≡ true }
         requires name { blank.name ≡ L.name }
         requires parts { (blank.parts ≡ L.parts) × (blank.parts ≡ parts) }
-        ensures domains { IfOk result (λ r. AllZip (IsNew config.now.site) (by_number config.now.domains) (domains_of r.0.table)) }
+        ensures domains { IfOk result (λ r.
+            AllZip (IsNew config.now.site) (by_number config.now.domains) (domains_of r.0.table)) }
         ensures unshared { IfOk result (λ r. SharesNothing r.0.table) }
         ensures begins { IfOk result (λ r. (r.0.trace ≡ []) × (r.0.count ≡ 0)) }
-        ensures worked { IfOk result (λ r. (r.1.taken ≡ 0) × (r.1.parts ≡ parts) × (r.1.parts ≡ L.parts)) }
+        ensures worked { IfOk result
+            (λ r. (r.1.taken ≡ 0) × (r.1.parts ≡ parts) × (r.1.parts ≡ L.parts)) }
     {
         let table = Table::new(alloc, config)?;
         let base = Table::new(alloc, config)?;
@@ -233,9 +245,10 @@ impl<L: Ledger> Kept<L> {
         &self.table
     }
 
-    /// What holds of a kept table whenever it is got: there is something that each domain stood for at the base, from which the
-    /// domain's own events in the trace, each a step of a daemon that serves it alone, with the answer that is kept, lead to
-    /// what the domain stands for in the table.
+    /// What holds of a kept table whenever it is got: there is something that each domain stood for
+    /// at the base, from which the domain's own events in the trace, each a step of a daemon that
+    /// serves it alone, with the answer that is kept, lead to what the domain stands for in the
+    /// table.
     pub fn trace_leads(&self)
         ensures leads { Replays self.now.base self.now.trace self.now.table }
         ensures counted { events_of self.now < 2 ^ 64 }
@@ -257,13 +270,15 @@ impl<L: Ledger> Kept<L> {
         self.trail.entries.len()
     }
 
-    /// Does a job. An event is applied to the table, and one that was taken is added to the trace, which is trimmed first where
-    /// it has 4,096 events. Room for all of this is made before: where there is none, and where no domain has the number,
-    /// nothing is changed. The event after the last one that can be counted is refused.
+    /// Does a job. An event is applied to the table, and one that was taken is added to the trace,
+    /// which is trimmed first where it has 4,096 events. Room for all of this is made before: where
+    /// there is none, and where no domain has the number, nothing is changed. The event after the
+    /// last one that can be counted is refused.
     pub fn serve_one(&mut self, mine: &mut Worked<L>, job: Job) -> Done
         requires { 0 < mine.old.parts }
         ensures number { result.number ≡ job.number }
-        ensures done { IsDone job.task result.outcome self.old self.new mine.old.taken mine.new.taken }
+        ensures done { IsDone job.task result.outcome self.old self.new mine.old.taken
+            mine.new.taken }
         ensures parts { mine.new.parts ≡ mine.old.parts }
     {
         let Job { number, task } = job;
@@ -277,7 +292,8 @@ impl<L: Ledger> Kept<L> {
     // Serves an event.
     fn serve(&mut self, mine: &mut Worked<L>, event: Event) -> Outcome
         requires { 0 < mine.old.parts }
-        ensures done { IsDone (Task.Serve event) result self.old self.new mine.old.taken mine.new.taken }
+        ensures done { IsDone (Task.Serve event)
+            result self.old self.new mine.old.taken mine.new.taken }
         ensures parts { mine.new.parts ≡ mine.old.parts }
     {
         let mut outs = Outs::new(self.alloc);
@@ -321,19 +337,20 @@ impl<L: Ledger> Kept<L> {
         Ok(())
     }
 
-    /// As `trim`, and hands on the events that the trace had, in their order. The trace goes on in the room that is given for it.
-    /// `NoMemory` changes nothing.
+    /// As `trim`, and hands on the events that the trace had, in their order. The trace goes on in
+    /// the room that is given for it. `NoMemory` changes nothing.
     pub fn cut(&mut self, room: Vec<Entry>) -> Result<Vec<Entry>, NoMemory>
         requires { room.items ≡ [] }
-        ensures ok { IfOk result (λ entries. IsTrimmed self.old self.new × (entries.items ≡ self.old.trace)) }
+        ensures ok { IfOk result
+            (λ entries. IsTrimmed self.old self.new × (entries.items ≡ self.old.trace)) }
         ensures err { OnErr result (self.new ≡ self.old) }
     {
         let base = self.table.copy()?;
         Ok(self.trail.cut(room, base))
     }
 
-    /// If the job halted a domain, trims the trace, since its base and its events hold what that domain kept. If memory is refused,
-    /// nothing is changed, and the next trim lets go of it.
+    /// If the job halted a domain, trims the trace, since its base and its events hold what that
+    /// domain kept. If memory is refused, nothing is changed, and the next trim lets go of it.
     pub fn let_go(&mut self, done: &Done)
         ensures { IsTrimmedOr (halts done.now.outcome) self.old self.new }
     {
@@ -342,12 +359,14 @@ impl<L: Ledger> Kept<L> {
         }
     }
 
-    /// Does a job, as `serve_one` does. If `may_trim` is set and the job halted a domain, then lets go of what that domain kept, as
-    /// `let_go` does. Whoever records the events cuts the trace instead: a trim would lose them.
+    /// Does a job, as `serve_one` does. If `may_trim` is set and the job halted a domain, then lets
+    /// go of what that domain kept, as `let_go` does. Whoever records the events cuts the trace
+    /// instead: a trim would lose them.
     pub fn complete(&mut self, mine: &mut Worked<L>, job: Job, may_trim: bool) -> Done
         requires { 0 < mine.old.parts }
         ensures number { result.number ≡ job.number }
-        ensures done { Completes job.task may_trim result.outcome self.old self.new mine.old.taken mine.new.taken }
+        ensures done { Completes job.task may_trim result.outcome self.old self.new mine.old.taken
+            mine.new.taken }
         ensures parts { mine.new.parts ≡ mine.old.parts }
     {
         let done = self.serve_one(mine, job);
@@ -357,7 +376,8 @@ impl<L: Ledger> Kept<L> {
         done
     }
 
-    /// How many events were taken, where all shares were joined into one: as many as their holders took.
+    /// How many events were taken, where all shares were joined into one: as many as their holders
+    /// took.
     pub fn total(&mut self, all: Worked<L>) -> u64
         requires { all.parts ≡ L.parts }
         ensures taken { result ≡ all.taken }

@@ -53,7 +53,8 @@ impl<R: Wait> Post for Channels<'_, R> {
 }
 
 /// Hands something on. It is lost once nobody takes it.
-// It is proved for any type at once: a call of the channel at a large type takes many times as long to prove.
+// It is proved for any type at once: a call of the channel at a large type takes many times as long
+// to prove.
 pub fn hand_on<T: Drop, R: Wait>(rt: &R, to: &Sender<T>, what: T) {
     let _ = to.send(rt, what);
 }

@@ -18,9 +18,9 @@ pub enum Task {
 /// What came of what was asked.
 #[derive(Drop)]
 pub enum Outcome {
-    /// What the event was answered, and what came of it: the frames to be sent, the deliveries, and the domains that it halted.
-    /// `NoMemory` and `NoDomain` changed nothing. A halted domain's event, and one past the last number of events, is
-    /// `Refused(Halted)`.
+    /// What the event was answered, and what came of it: the frames to be sent, the deliveries, and
+    /// the domains that it halted. `NoMemory` and `NoDomain` changed nothing. A halted domain's
+    /// event, and one past the last number of events, is `Refused(Halted)`.
     Answered(Result<Taken, Fault>, Outs),
     /// What the domain shows; `None` where no domain has the number.
     Shown(Option<Shown>),

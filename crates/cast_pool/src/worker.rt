@@ -10,7 +10,8 @@ use std::alloc::Global;
 use std::sync::ledger::Ledger;
 use std::sync::{Mutex, Wait};
 
-/// What a worker passes on its way, by the number that was asked. A test may let a worker wait there.
+/// What a worker passes on its way, by the number that was asked. A test may let a worker wait
+/// there.
 pub trait Gate {
     /// What it has from before it takes the lock until after it has given it back.
     type Pass: Drop;
@@ -39,8 +40,9 @@ impl Gate for Open {
     fn done(&self, _number: u64) {}
 }
 
-/// Does what is asked until nothing more can be, sends what came of each, and gives the worker's share of the count back. The lock is
-/// held for `Kept::complete` alone, which is told whether it may trim the trace after a job that halted a domain.
+/// Does what is asked until nothing more can be, sends what came of each, and gives the worker's
+/// share of the count back. The lock is held for `Kept::complete` alone, which is told whether it
+/// may trim the trace after a job that halted a domain.
 pub fn work<L: Ledger, R: Wait, P: Post, G: Gate>(
     rt: &R,
     alloc: Global,
@@ -53,7 +55,8 @@ pub fn work<L: Ledger, R: Wait, P: Post, G: Gate>(
     requires { 0 < mine.parts }
     ensures parts { result.parts ≡ mine.parts }
     // For each that was taken one was sent, in the same order: what came of it, under its number.
-    ensures answered { HasAnswered may_trim (P.taken post.old) (P.taken post.new) (P.sent post.old) (P.sent post.new) }
+    ensures answered { HasAnswered may_trim (P.taken post.old) (P.taken post.new) (P.sent post.old)
+        (P.sent post.new) }
     ensures over { P.is_over post.new }
 {
     let mut mine = mine;

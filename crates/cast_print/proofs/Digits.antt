@@ -1,5 +1,6 @@
 -- The digits of bytes that are made part by part.
-use Rattle.std.proofs.Common.{◌≡◌, ◌==◌, ℕ, ◌/◌, ◌%◌, true, List, [], ◌∷◌, ◌++◌, length, take, drop, refl, sym, ap, ◌∙◌, append_assoc, slice_index}
+use Rattle.std.proofs.Common.{◌≡◌, ◌==◌, ℕ, ◌/◌, ◌%◌, true, List, [], ◌∷◌, ◌++◌, length}
+use Rattle.std.proofs.Common.{take, drop, refl, sym, ap, ◌∙◌, append_assoc, slice_index}
 use Rattle.std.proofs.lemmas.Bool.{eqb-true}
 use Rattle.std.proofs.lemmas.List.{append-nil, nil_from_length, take-append-drop}
 use Rattle.hex.specs.Hex.{encode_lower, encode_with}
@@ -10,7 +11,8 @@ encode_append t [] ys = refl
 encode_append t (b ∷ xs) ys = ap (λ r. slice_index t (b / 16) ∷ slice_index t (b % 16) ∷ r) (encode_append t xs ys)
 
 -- a text, the digits of the first bytes and those of the others are the text and the digits of all
-pub part_written : (text bytes : List ℕ) (n : ℕ) → (text ++ encode_lower (take n bytes)) ++ encode_lower (drop n bytes) ≡ text ++ encode_lower bytes
+pub part_written : (text bytes : List ℕ) (n : ℕ) →
+    (text ++ encode_lower (take n bytes)) ++ encode_lower (drop n bytes) ≡ text ++ encode_lower bytes
 part_written text bytes n =
     append_assoc text (encode_lower (take n bytes)) (encode_lower (drop n bytes))
     ∙ ap (λ r. text ++ r) (sym (encode_append _ (take n bytes) (drop n bytes)) ∙ ap encode_lower (take-append-drop n bytes))

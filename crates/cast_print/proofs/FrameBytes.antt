@@ -1,5 +1,6 @@
 -- The spelling of a frame is of bytes.
-use Rattle.std.proofs.Common.{ℕ, zero, suc, ◌<◌, ◌≤◌, Bool, true, false, List, [], ◌∷◌, ◌++◌, length, Option, Some, None, inl, inr, sym, subst, arith}
+use Rattle.std.proofs.Common.{ℕ, zero, suc, ◌<◌, ◌≤◌, Bool, true, false, List, [], ◌∷◌}
+use Rattle.std.proofs.Common.{◌++◌, length, Option, Some, None, inl, inr, sym, subst, arith}
 use Rattle.std.specs.List.{All, AllByRecursion, flat_map, position_or_len}
 use Rattle.std.specs.Int.{byte_at, bytes_high_first}
 use Rattle.std.proofs.lemmas.Bool.{cases_lt}
@@ -23,14 +24,17 @@ use Rattle.cast_message.specs.declared.message.Message.{Message}
 use Rattle.cast_message.specs.declared.site.Change.{Change}
 use Rattle.cast_message.specs.declared.site.Change.TheVariants as change
 use Rattle.cast_message.specs.declared.site.SiteFrame.{SiteFrame}
-use Rattle.cast_message.specs.declared.site.SiteFrame.TheVariants.{Data, Ack, Stable, Ask, Asked, Prepare, Flushed, Want, Forward, Install, Installed, Out}
+use Rattle.cast_message.specs.declared.site.SiteFrame.TheVariants.{Data, Ack, Stable, Ask, Asked, Prepare, Flushed}
+use Rattle.cast_message.specs.declared.site.SiteFrame.TheVariants.{Want, Forward, Install, Installed, Out}
 use Rattle.cast_message.specs.Bodies.{kind_of}
 use Rattle.cast_message.specs.KeptIds.{KeptList, Marked}
 use Rattle.cast_message.specs.Membership.{Membership}
 use Rattle.cast_message.specs.Placement.{Placement}
 use Rattle.cast_message.specs.Tail.{Tail}
 use Rattle.cast_message.proofs.Places.{position_or_len_within}
-use Rattle.cast_field.specs.Spelling.{byte, kind_code, mark_code, short, spelled_body, spelled_clock, spelled_counts, spelled_entry, spelled_holder, spelled_kept, spelled_marked, spelled_members, spelled_message, spelled_new_holder, spelled_payload, spelled_proc, spelled_sequence, spelled_tail, spelled_times, spelled_uid, word}
+use Rattle.cast_field.specs.Spelling.{byte, kind_code, mark_code, short, spelled_body, spelled_clock, spelled_counts, spelled_entry}
+use Rattle.cast_field.specs.Spelling.{spelled_holder, spelled_kept, spelled_marked, spelled_members, spelled_message, spelled_new_holder}
+use Rattle.cast_field.specs.Spelling.{spelled_payload, spelled_proc, spelled_sequence, spelled_tail, spelled_times, spelled_uid, word}
 use Rattle.cast_field.specs.Spelled.{AreCounts, AreMembers, ArePlaced, AreTimes, IsBody, IsClock, IsMessage}
 use Rattle.cast_field.proofs.Holders.{members_parts}
 use Rattle.cast_field.proofs.Orders.{sequence_parts}
@@ -49,7 +53,8 @@ Fit bytes = All IsByte bytes
 both : (a b : List ℕ) → Fit a → Fit b → Fit (a ++ b)
 both a b left right = All-append IsByte a b left right
 
-all_fit : {A : Type 0} (spell : A → List ℕ) (P : A → Type 0) → ((x : A) → P x → Fit (spell x)) → (xs : List A) → AllByRecursion P xs → Fit (flat_map spell xs)
+all_fit : {A : Type 0} (spell : A → List ℕ) (P : A → Type 0) → ((x : A) → P x → Fit (spell x)) → (xs : List A) → AllByRecursion P xs →
+    Fit (flat_map spell xs)
 all_fit spell P one [] are = All-nil IsByte
 all_fit spell P one (x ∷ xs) are =
     All-same IsByte (flat_map spell (x ∷ xs)) (spell x ++ flat_map spell xs) (flat_map-cons spell x xs)
@@ -58,7 +63,8 @@ all_fit spell P one (x ∷ xs) are =
 each_fit : {A : Type 0} (spell : A → List ℕ) → ((x : A) → Fit (spell x)) → (xs : List A) → Fit (flat_map spell xs)
 each_fit spell one [] = All-nil IsByte
 each_fit spell one (x ∷ xs) =
-    All-same IsByte (flat_map spell (x ∷ xs)) (spell x ++ flat_map spell xs) (flat_map-cons spell x xs) (both (spell x) (flat_map spell xs) (one x) (each_fit spell one xs))
+    All-same IsByte (flat_map spell (x ∷ xs)) (spell x ++ flat_map spell xs) (flat_map-cons spell x xs)
+    (both (spell x) (flat_map spell xs) (one x) (each_fit spell one xs))
 
 from_bytes : (bytes : List ℕ) → IsBytes bytes → Fit bytes
 from_bytes bytes are = All-from_get_or IsByte bytes 0 (λ i inside. are i)
@@ -120,13 +126,15 @@ counts_fit c are =
 clock_fits : (e : GroupNo × Clock) → IsClock e → Fit (spelled_clock e)
 unfolding spelled_clock
 clock_fits e is =
-    both (short e.0.0) _ (short_fits e.0.0) (both (word e.1.view) (spelled_counts e.1.counts) (word_fits e.1.view) (counts_fit e.1.counts is.counts))
+    both (short e.0.0) _ (short_fits e.0.0)
+    (both (word e.1.view) (spelled_counts e.1.counts) (word_fits e.1.view) (counts_fit e.1.counts is.counts))
 
 times_fit : (t : List (GroupNo × Clock)) → AreTimes t → Fit (spelled_times t)
 unfolding spelled_times
 times_fit t are =
     let few = (stamp_parts t are.sorted).1.below in
-    both (byte (length t)) (flat_map spelled_clock t) (byte_fits (length t) (omega (arith, few))) (all_fit spelled_clock IsClock clock_fits t are.clocks)
+    both (byte (length t)) (flat_map spelled_clock t) (byte_fits (length t) (omega (arith, few)))
+    (all_fit spelled_clock IsClock clock_fits t are.clocks)
 
 payload_fits : (payload : List ℕ) → IsBytes payload → Fit (spelled_payload payload)
 unfolding spelled_payload
@@ -143,7 +151,8 @@ sequence_fits s are =
     let few = (sequence_parts s are.short).1.below in
     both (word s.first) _ (word_fits s.first)
     (both (byte (length s.ids)) _ (byte_fits (length s.ids) (omega (arith, few)))
-    (both (flat_map spelled_entry s.ids) (spelled_new_holder s.holder) (each_fit spelled_entry entry_fits s.ids) (new_holder_fits s.holder)))
+    (both (flat_map spelled_entry s.ids) (spelled_new_holder s.holder) (each_fit spelled_entry entry_fits s.ids)
+    (new_holder_fits s.holder)))
 
 body_fits : (b : Body) → IsBody b → IsByteBody b → Fit (spelled_body b)
 unfolding spelled_body
@@ -173,7 +182,8 @@ unfolding spelled_members
 members_fit m are =
     let few = (members_parts m are.sorted).1 in
     both (byte (length m.list)) _ (byte_fits (length m.list) (omega (arith, few)))
-    (both (flat_map spelled_proc m.list) (spelled_holder m.list m.holder) (each_fit spelled_proc proc_fits m.list) (holder_fits m.list m.holder (omega (arith, few))))
+    (both (flat_map spelled_proc m.list) (spelled_holder m.list m.holder) (each_fit spelled_proc proc_fits m.list)
+    (holder_fits m.list m.holder (omega (arith, few))))
 
 tail_fits : (t : Tail) → Fit (spelled_tail t)
 unfolding spelled_tail
@@ -212,14 +222,16 @@ fields_fit (Data m) is are = message_fits m is are
 fields_fit (Ack u) is are = uid_fits u
 fields_fit (Stable u) is are = uid_fits u
 fields_fit (Ask g n c p) is are =
-    both (short g.0) _ (short_fits g.0) (both (word n) _ (word_fits n) (both (byte (change_code c)) (spelled_proc p) (byte_fits (change_code c) (change_fits c)) (proc_fits p)))
+    both (short g.0) _ (short_fits g.0)
+    (both (word n) _ (word_fits n) (both (byte (change_code c)) (spelled_proc p) (byte_fits (change_code c) (change_fits c)) (proc_fits p)))
 fields_fit (Asked g n full) is are =
     both (short g.0) _ (short_fits g.0) (both (word n) (byte (full_code full)) (word_fits n) (byte_fits (full_code full) (full_fits full)))
 fields_fit (Prepare g view) is are = named g view
 fields_fit (Flushed g view counts tail kept) is are =
     both (short g.0) _ (short_fits g.0)
     (both (word view) _ (word_fits view)
-    (both (spelled_counts counts) _ (counts_fit counts is.counts) (both (spelled_tail tail) (spelled_kept kept) (tail_fits tail) (kept_fits kept))))
+    (both (spelled_counts counts) _ (counts_fit counts is.counts)
+    (both (spelled_tail tail) (spelled_kept kept) (tail_fits tail) (kept_fits kept))))
 fields_fit (Want u) is are = uid_fits u
 fields_fit (Forward m) is are = message_fits m is are
 fields_fit (Install g view members request cut tail) is are =

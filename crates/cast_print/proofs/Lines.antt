@@ -41,21 +41,27 @@ used ([] ∷ ws) are = absurd (omega (arith, are.0))
 used ((b ∷ w) ∷ []) are = no_comment b (are.1.0 0 0 (omega arith))
 used ((b ∷ w) ∷ next ∷ ws) are = no_comment b (are.1.0 0 0 (omega arith))
 
-pub lines_again : (lines : List (List (List ℕ))) → AllByRecursion AreWords lines → used_lines_of (flat_map line_text lines) ≡ map joined lines
+pub lines_again : (lines : List (List (List ℕ))) → AllByRecursion AreWords lines →
+    used_lines_of (flat_map line_text lines) ≡ map joined lines
 lines_again [] are = refl
 lines_again (ws ∷ lines) are =
-    ap (filter is_used) (parted_first 10 (joined ws) (flat_map line_text lines) (no_feed ws are.0)) ∙ rw (used ws are.0) (ap (λ ls. joined ws ∷ ls) (lines_again lines are.1))
+    ap (filter is_used) (parted_first 10 (joined ws) (flat_map line_text lines) (no_feed ws are.0))
+    ∙ rw (used ws are.0) (ap (λ ls. joined ws ∷ ls) (lines_again lines are.1))
 
 -- ---- ASCII
 
 ascii_words : (ws : List (List ℕ)) → AllByRecursion IsWord ws → AllByRecursion (All (λ b. b < 128)) ws
 ascii_words [] are = tt
-ascii_words (w ∷ ws) are = (All-weaker (λ b. is_word_byte b ≡ true) (λ b. b < 128) (λ b is. (word_byte_is b is).1) w are.0, ascii_words ws are.1)
+ascii_words (w ∷ ws) are = (
+  All-weaker (λ b. is_word_byte b ≡ true) (λ b. b < 128) (λ b is. (word_byte_is b is).1) w are.0,
+  ascii_words ws are.1,
+)
 
 ascii_line : (ws : List (List ℕ)) → AreWords ws → IsAscii (line_text ws)
 ascii_line [] are = absurd are
 ascii_line (w ∷ ws) are =
-    IsAscii-append (joined (w ∷ ws)) (10 ∷ []) (IsAscii-from_all _ (joined_all (λ b. b < 128) 32 (w ∷ ws) (omega arith) (ascii_words (w ∷ ws) are.1)))
+    IsAscii-append (joined (w ∷ ws)) (10 ∷ [])
+    (IsAscii-from_all _ (joined_all (λ b. b < 128) 32 (w ∷ ws) (omega arith) (ascii_words (w ∷ ws) are.1)))
     (IsAscii-cons 10 [] (omega arith) IsAscii-nil)
 
 pub ascii_lines : (lines : List (List (List ℕ))) → AllByRecursion AreWords lines → IsAscii (flat_map line_text lines)

@@ -95,13 +95,15 @@ event_printable ws (event.Quota d q n) spells = (spells.1, spells.2)
 event_printable ws (event.Take d k n) spells = (spells.1, spells.2, spells.3)
 event_printable ws (event.Tick n) spells = spells.1
 
-events_printable : (lines : List (List ℕ)) (events : List Event) → AllZip (λ line e. SpellsEvent (words_of line) e) lines events → AllByRecursion IsPrintable events
+events_printable : (lines : List (List ℕ)) (events : List Event) → AllZip (λ line e. SpellsEvent (words_of line) e) lines events →
+    AllByRecursion IsPrintable events
 events_printable [] [] spell = tt
 events_printable [] (e ∷ events) spell = absurd spell
 events_printable (line ∷ lines) [] spell = absurd spell
 events_printable (line ∷ lines) (e ∷ events) spell = (event_printable (words_of line) e spell.0, events_printable lines events spell.1)
 
-parts_printable : (own : SiteNo) (lines : List (List ℕ)) (ds : List DomainConfig) (events : List Event) → SpellsParts own lines ds events → AllByRecursion IsPrintable events
+parts_printable : (own : SiteNo) (lines : List (List ℕ)) (ds : List DomainConfig) (events : List Event) → SpellsParts own lines ds events →
+    AllByRecursion IsPrintable events
 parts_printable own lines [] events spell = events_printable lines events spell
 parts_printable own [] (d ∷ ds) events spell = absurd spell
 parts_printable own (line ∷ lines) (d ∷ ds) events spell = parts_printable own lines ds events spell.1

@@ -1,5 +1,6 @@
 -- What is printed spells what was printed.
-use Rattle.std.proofs.Common.{◌≡◌, ℕ, ◌<◌, ◌≤◌, ◌^◌, true, List, [], ◌∷◌, ◌++◌, length, map, codes, inl, inr, refl, sym, ap, subst, ◌∙◌, append_assoc, lit≤, arith}
+use Rattle.std.proofs.Common.{◌≡◌, ℕ, ◌<◌, ◌≤◌, ◌^◌, true, List, [], ◌∷◌, ◌++◌, length, map, codes}
+use Rattle.std.proofs.Common.{inl, inr, refl, sym, ap, subst, ◌∙◌, append_assoc, lit≤, arith}
 use Rattle.std.specs.List.{AllByRecursion, AllZip, flat_map}
 use Rattle.std.specs.Fmt.{decimal}
 use Rattle.std.specs.Str.{IsAscii}
@@ -28,22 +29,26 @@ use Rattle.cast_events.specs.declared.config.Config.{Config}
 use Rattle.cast_events.specs.declared.config.DomainConfig.{DomainConfig}
 use Rattle.cast_events.specs.declared.event.Event.{Event}
 use Rattle.cast_events.specs.declared.event.Event.TheVariants as event
-use Rattle.cast_script.specs.Words.{AreWithinLimits, IsGroup, IsProc, IsSite, SpellsBytes, SpellsGroups, SpellsLists, SpellsSites, proc_text, quota_name_text, quota_texts}
+use Rattle.cast_script.specs.Words.{AreWithinLimits, IsGroup, IsProc, IsSite, SpellsBytes, SpellsGroups}
+use Rattle.cast_script.specs.Words.{SpellsLists, SpellsSites, proc_text, quota_name_text, quota_texts}
 use Rattle.cast_script.specs.Lines.{AreNumbers, IsDomainAt, SpellsDomain, SpellsEvent, SpellsRequest, SpellsSite, request_texts, words_of}
 use Rattle.cast_script.specs.Scripts.{SpellsParts, SpellsScript, used_lines_of}
 use Rattle.cast_script.specs.declared.script.Script.{Script}
 use Rattle.cast_script.proofs.Spelled.{spelled_is_read}
 use Rattle.cast_print.specs.Logs.{payload_text}
-use Rattle.cast_print.specs.Scripts.{domain_text, domain_words, event_text, event_words, line_text, list_texts, numbers_text, request_words, script_text, site_words}
+use Rattle.cast_print.specs.Scripts.{domain_text, domain_words, event_text, event_words, line_text}
+use Rattle.cast_print.specs.Scripts.{list_texts, numbers_text, request_words, script_text, site_words}
 use Rattle.cast_print.specs.Printable.{IsPrintable, IsPrintableRequest}
 use Rattle.cast_print.specs.Laws.{PrintedIsRead}
 use Rattle.cast_print.proofs.FrameBytes.{frame_bytes}
-use Rattle.cast_print.proofs.WordBytes.{IsWord, frame_digits, hex_word, is_word_byte, number_word, numbers_again, numbers_word, payload_word, plain, some_digits}
+use Rattle.cast_print.proofs.WordBytes.{IsWord, frame_digits, hex_word, is_word_byte, number_word}
+use Rattle.cast_print.proofs.WordBytes.{numbers_again, numbers_word, payload_word, plain, some_digits}
 use Rattle.cast_print.proofs.Lines.{AreWords, ascii_lines, joined, lines_again, words_again}
 
 -- ---- words
 
-request_are : (d : DomainNo) (k t : ℕ) (g : GroupNo) (rest : List (List ℕ)) → AreNumbers d k t g → AllByRecursion IsWord rest → AllByRecursion IsWord (request_texts d k t g ++ rest)
+request_are : (d : DomainNo) (k t : ℕ) (g : GroupNo) (rest : List (List ℕ)) → AreNumbers d k t g → AllByRecursion IsWord rest →
+    AllByRecursion IsWord (request_texts d k t g ++ rest)
 request_are d k t g rest are words =
     let domain = number_word d.0 (omega (arith, are.domain.1)) in
     let serial = number_word k (omega (arith, are.serial)) in
@@ -54,7 +59,8 @@ request_are d k t g rest are words =
 proc_word : (p : Proc) → IsProc p → IsWord (proc_text p)
 proc_word p is =
     All-append (λ b. is_word_byte b ≡ true) (decimal p.site.0) _ (number_word p.site.0 (omega (arith, is.0.1)))
-    (All-append (λ b. is_word_byte b ≡ true) (codes ".") (decimal p.serial) (plain (codes ".") refl) (number_word p.serial (omega (arith, is.1.1))))
+    (All-append (λ b. is_word_byte b ≡ true) (codes ".") (decimal p.serial) (plain (codes ".") refl)
+    (number_word p.serial (omega (arith, is.1.1))))
 
 quota_word : (q : QuotaName) → IsWord (quota_name_text q)
 quota_word name.Sessions = plain (codes "sessions") refl
@@ -73,11 +79,19 @@ record Printed (ws : List (List ℕ)) (Spells : List (List ℕ) → Type 0) : Ty
   words : AreWords ws
   spell : Spells ws
 
-cast_line : (d : DomainNo) (k t : ℕ) (g : GroupNo) (how : CastKind) (payload : List ℕ) → AreNumbers d k t g → IsBytes payload → AreWords (request_words d k (request.Cast t g how payload))
-cast_line d k t g kind.Causal payload are bytes = (lit≤ tt, (plain (codes "cast") refl, request_are d k t g (payload_text payload ∷ []) are (payload_word payload bytes, tt)))
-cast_line d k t g kind.Atomic payload are bytes = (lit≤ tt, (plain (codes "abcast") refl, request_are d k t g (payload_text payload ∷ []) are (payload_word payload bytes, tt)))
+cast_line : (d : DomainNo) (k t : ℕ) (g : GroupNo) (how : CastKind) (payload : List ℕ) → AreNumbers d k t g → IsBytes payload →
+    AreWords (request_words d k (request.Cast t g how payload))
+cast_line d k t g kind.Causal payload are bytes = (
+  lit≤ tt,
+  (plain (codes "cast") refl, request_are d k t g (payload_text payload ∷ []) are (payload_word payload bytes, tt)),
+)
+cast_line d k t g kind.Atomic payload are bytes = (
+  lit≤ tt,
+  (plain (codes "abcast") refl, request_are d k t g (payload_text payload ∷ []) are (payload_word payload bytes, tt)),
+)
 
-request_line : (d : DomainNo) (k : ℕ) (r : Request) → IsPrintableRequest d k r → Printed (request_words d k r) (λ ws. SpellsRequest d k ws r)
+request_line : (d : DomainNo) (k : ℕ) (r : Request) → IsPrintableRequest d k r →
+    Printed (request_words d k r) (λ ws. SpellsRequest d k ws r)
 request_line d k (request.Join t g) are = record {
   words = (lit≤ tt, (plain (codes "join") refl, request_are d k t g [] are tt));
   spell = (refl, are);
@@ -95,7 +109,8 @@ request_line d k (request.Pass t g to) are = record {
   spell = (refl, are.0, are.1);
 }
 
-frame_line : (d : DomainNo) (s : SiteNo) (f : SiteFrame) → IsPrintable (event.Frame d s f) → Printed (event_words (event.Frame d s f)) (λ ws. SpellsEvent ws (event.Frame d s f))
+frame_line : (d : DomainNo) (s : SiteNo) (f : SiteFrame) → IsPrintable (event.Frame d s f) →
+    Printed (event_words (event.Frame d s f)) (λ ws. SpellsEvent ws (event.Frame d s f))
 frame_line d s f is =
     let bytes = frame_bytes d s f is.0 is.1 in
     record {
@@ -119,15 +134,27 @@ event_line (event.Gone d k) is = record {
 }
 event_line (event.Frame d s f) is = frame_line d s f is
 event_line (event.Suspect d s) is = record {
-  words = (lit≤ tt, (plain (codes "suspect") refl, (number_word d.0 (omega (arith, is.0.1)), (number_word s.0 (omega (arith, is.1.1)), tt))));
+  words = (
+    lit≤ tt,
+    (plain (codes "suspect") refl, (number_word d.0 (omega (arith, is.0.1)), (number_word s.0 (omega (arith, is.1.1)), tt))),
+  );
   spell = (refl, is.0, is.1);
 }
 event_line (event.Quota d q n) is = record {
-  words = (lit≤ tt, (plain (codes "quota") refl, (number_word d.0 (omega (arith, is.0.1)), (quota_word q, (number_word n (omega (arith, is.1)), tt)))));
+  words = (
+    lit≤ tt,
+    (plain (codes "quota") refl, (number_word d.0 (omega (arith, is.0.1)), (quota_word q, (number_word n (omega (arith, is.1)), tt)))),
+  );
   spell = (refl, is.0, is.1);
 }
 event_line (event.Take d k n) is = record {
-  words = (lit≤ tt, (plain (codes "take") refl, (number_word d.0 (omega (arith, is.0.1)), (number_word k (omega (arith, is.1)), (number_word n (omega (arith, is.2)), tt)))));
+  words = (
+    lit≤ tt,
+    (
+      plain (codes "take") refl,
+      (number_word d.0 (omega (arith, is.0.1)), (number_word k (omega (arith, is.1)), (number_word n (omega (arith, is.2)), tt))),
+    ),
+  );
   spell = (refl, is.0, is.1, is.2);
 }
 event_line (event.Tick n) is = record {
@@ -145,11 +172,17 @@ groups_small : (groups : List GroupNo) → AllByRecursion IsGroup groups → All
 groups_small [] are = tt
 groups_small (g ∷ groups) are = (omega (arith, are.0.1), groups_small groups are.1)
 
-sites_spelled : (sites : List SiteNo) → 1 ≤ length sites → AllByRecursion IsSite sites → SpellsSites (numbers_text (map (λ s. s.0) sites)) sites
-sites_spelled sites some are = numbers_again (map (λ s. s.0) sites) (omega (arith, length-map {A = SiteNo} {B = ℕ})) (sites_small sites are) ∙ map-map decimal (λ (s : SiteNo). s.0) sites
+sites_spelled : (sites : List SiteNo) → 1 ≤ length sites → AllByRecursion IsSite sites →
+    SpellsSites (numbers_text (map (λ s. s.0) sites)) sites
+sites_spelled sites some are =
+    numbers_again (map (λ s. s.0) sites) (omega (arith, length-map {A = SiteNo} {B = ℕ})) (sites_small sites are)
+    ∙ map-map decimal (λ (s : SiteNo). s.0) sites
 
-groups_spelled : (groups : List GroupNo) → 1 ≤ length groups → AllByRecursion IsGroup groups → SpellsGroups (numbers_text (map (λ g. g.0) groups)) groups
-groups_spelled groups some are = numbers_again (map (λ g. g.0) groups) (omega (arith, length-map {A = GroupNo} {B = ℕ})) (groups_small groups are) ∙ map-map decimal (λ (g : GroupNo). g.0) groups
+groups_spelled : (groups : List GroupNo) → 1 ≤ length groups → AllByRecursion IsGroup groups →
+    SpellsGroups (numbers_text (map (λ g. g.0) groups)) groups
+groups_spelled groups some are =
+    numbers_again (map (λ g. g.0) groups) (omega (arith, length-map {A = GroupNo} {B = ℕ})) (groups_small groups are)
+    ∙ map-map decimal (λ (g : GroupNo). g.0) groups
 
 quotas_are : (q : Quotas) → AreWithinLimits q → AllByRecursion IsWord (quota_texts q)
 quotas_are q within =
@@ -179,7 +212,16 @@ domain_line own d at =
     record {
       words = (
         lit≤ tt,
-        (plain (codes "domain") refl, (domain, (plain (codes "home") refl, (home, (plain (codes "sites") refl, (sites, (plain (codes "groups") refl, (groups, quotas_are d.quotas at.within)))))))),
+        (
+          plain (codes "domain") refl,
+          (
+            domain,
+            (
+              plain (codes "home") refl,
+              (home, (plain (codes "sites") refl, (sites, (plain (codes "groups") refl, (groups, quotas_are d.quotas at.within))))),
+            ),
+          ),
+        ),
       );
       spell = (list_texts d.sites d.groups, refl, lists, at);
     }
@@ -195,13 +237,15 @@ text_is config events =
     let domains = flat_map-map line_text domain_words config.domains in
     let after = flat_map-map line_text event_words events in
     append_assoc (line_text (site_words config.site)) (flat_map domain_text config.domains) (flat_map event_text events)
-    ∙ ap (λ rest. line_text (site_words config.site) ++ rest) (sym (flat_map-append line_text (map domain_words config.domains) (map event_words events) ∙ cc))
+    ∙ ap (λ rest. line_text (site_words config.site) ++ rest)
+    (sym (flat_map-append line_text (map domain_words config.domains) (map event_words events) ∙ cc))
 
 events_lines : (events : List Event) → AllByRecursion IsPrintable events → AllByRecursion AreWords (map event_words events)
 events_lines [] are = tt
 events_lines (e ∷ events) are = ((event_line e are.0).words, events_lines events are.1)
 
-parts_lines : (own : SiteNo) (ds : List DomainConfig) (events : List Event) → AllByRecursion (IsDomainAt own) ds → AllByRecursion IsPrintable events → AllByRecursion AreWords (map domain_words ds ++ map event_words events)
+parts_lines : (own : SiteNo) (ds : List DomainConfig) (events : List Event) → AllByRecursion (IsDomainAt own) ds →
+    AllByRecursion IsPrintable events → AllByRecursion AreWords (map domain_words ds ++ map event_words events)
 parts_lines own [] events at are = events_lines events are
 parts_lines own (d ∷ ds) events at are = ((domain_line own d at.0).words, parts_lines own ds events at.1 are)
 
@@ -209,13 +253,18 @@ parts_lines own (d ∷ ds) events at are = ((domain_line own d at.0).words, part
 line_spells : (ws : List (List ℕ)) (Spells : List (List ℕ) → Type 0) → Printed ws Spells → Spells (words_of (joined ws))
 line_spells ws Spells printed = subst Spells (sym (words_again ws printed.words)) printed.spell
 
-events_spell : (events : List Event) → AllByRecursion IsPrintable events → AllZip (λ line e. SpellsEvent (words_of line) e) (map joined (map event_words events)) events
+events_spell : (events : List Event) → AllByRecursion IsPrintable events →
+    AllZip (λ line e. SpellsEvent (words_of line) e) (map joined (map event_words events)) events
 events_spell [] are = tt
 events_spell (e ∷ events) are = (line_spells (event_words e) (λ ws. SpellsEvent ws e) (event_line e are.0), events_spell events are.1)
 
-parts_spell : (own : SiteNo) (ds : List DomainConfig) (events : List Event) → AllByRecursion (IsDomainAt own) ds → AllByRecursion IsPrintable events → SpellsParts own (map joined (map domain_words ds ++ map event_words events)) ds events
+parts_spell : (own : SiteNo) (ds : List DomainConfig) (events : List Event) → AllByRecursion (IsDomainAt own) ds →
+    AllByRecursion IsPrintable events → SpellsParts own (map joined (map domain_words ds ++ map event_words events)) ds events
 parts_spell own [] events at are = events_spell events are
-parts_spell own (d ∷ ds) events at are = (line_spells (domain_words d) (λ ws. SpellsDomain own ws d) (domain_line own d at.0), parts_spell own ds events at.1 are)
+parts_spell own (d ∷ ds) events at are = (
+  line_spells (domain_words d) (λ ws. SpellsDomain own ws d) (domain_line own d at.0),
+  parts_spell own ds events at.1 are,
+)
 
 -- the own site is a site of each domain
 own_site : (own : SiteNo) (ds : List DomainConfig) → 1 ≤ length ds → AllByRecursion (IsDomainAt own) ds → IsSite own
@@ -231,8 +280,10 @@ site_line s is = record {
 pub printed_is_read : PrintedIsRead
 printed_is_read config events has are =
     let first = site_line config.site (own_site config.site config.domains has.counted.0 has.within) in
-    let lines : AllByRecursion AreWords (all_words config events) = (first.words, parts_lines config.site config.domains events has.within are) in
-    let used : used_lines_of (script_text config events) ≡ map joined (all_words config events) = ap used_lines_of (text_is config events) ∙ lines_again (all_words config events) lines in
+    let lines : AllByRecursion AreWords (all_words config events) =
+    (first.words, parts_lines config.site config.domains events has.within are) in
+    let used : used_lines_of (script_text config events) ≡ map joined (all_words config events) =
+    ap used_lines_of (text_is config events) ∙ lines_again (all_words config events) lines in
     let script : Script = record { config = config; events = events } in
     let spells : SpellsScript (map joined (all_words config events)) script = (
       line_spells (site_words config.site) (λ ws. SpellsSite ws config.site) first,

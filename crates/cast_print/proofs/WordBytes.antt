@@ -52,7 +52,8 @@ pass_digits : (ds : List ℕ) → AllDigits 10 ds → AllPass is_digit ds
 pass_digits [] all = All-nil (λ b. is_digit b ≡ true)
 pass_digits (d ∷ ds) (here, there) =
     let range = digit_from_value d here in
-    All-cons (λ b. is_digit b ≡ true) d ds (and_from (ltb 47 d) (ltb d 58) (lt-ltb 47 d (omega (arith, range.0))) (lt-ltb d 58 (omega (arith, range.1)))) (pass_digits ds there)
+    All-cons (λ b. is_digit b ≡ true) d ds
+    (and_from (ltb 47 d) (ltb d 58) (lt-ltb 47 d (omega (arith, range.0))) (lt-ltb d 58 (omega (arith, range.1)))) (pass_digits ds there)
 
 numerals : IsNumeralModel (AllDigits 10) (digits_value 10)
 numerals = numerals_by_value (AllDigits 10) tells_digits
@@ -63,7 +64,9 @@ digits n small = pass_digits (decimal n) (digits_decimal numerals n small)
 pub number_word : (n : ℕ) → n < 2 ^ 64 → IsWord (decimal n)
 number_word n small =
     All-weaker (λ b. is_digit b ≡ true) (λ b. is_word_byte b ≡ true)
-    (λ b is. let at = digit_is b is in and_from (ltb 35 b) (ltb b 128) (lt-ltb 35 b (omega (arith, at.0))) (lt-ltb b 128 (omega (arith, at.1)))) (decimal n) (digits n small)
+    (λ b is.
+    let at = digit_is b is in
+    and_from (ltb 35 b) (ltb b 128) (lt-ltb 35 b (omega (arith, at.0))) (lt-ltb b 128 (omega (arith, at.1)))) (decimal n) (digits n small)
 
 -- a number has no comma
 pub number_lacks : (n : ℕ) → n < 2 ^ 64 → Lacks 44 (decimal n)

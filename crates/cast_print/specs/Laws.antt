@@ -28,4 +28,5 @@ PartsJoin =
 -- what a text is read as can be printed
 abbrev pub ReadIsPrintable : Type 0
 ReadIsPrintable =
-    (text : List ℕ) (s : Script) → script_of text ≡ Ok s → HasDomains s.config × AllByRecursion IsPrintable s.events
+    (text : List ℕ) (s : Script) → script_of text ≡ Ok s
+    → HasDomains s.config × AllByRecursion IsPrintable s.events

@@ -1,5 +1,6 @@
 -- The printed text of a log, each line ended by a line feed.
-use Rattle.std.specs.Prelude.{ℕ, ◌+◌, List, [], ◌∷◌, ◌++◌, codes, Bool, if◌then◌else◌, Option, Some, None, Result, Ok, Err}
+use Rattle.std.specs.Prelude.{ℕ, ◌+◌, List, [], ◌∷◌, ◌++◌, codes, Bool}
+use Rattle.std.specs.Prelude.{if◌then◌else◌, Option, Some, None, Result, Ok, Err}
 use Rattle.std.specs.List.{flat_map}
 use Rattle.std.specs.Fmt.{decimal}
 use Rattle.hex.specs.Hex.{encode_lower}
@@ -35,7 +36,8 @@ line_feed = 10 ∷ []
 -- as in `1/1/1.1/1`
 abbrev pub uid_text : Uid → List ℕ
 uid_text u =
-    decimal u.group.0 ++ (codes "/" ++ (decimal u.view ++ (codes "/" ++ (proc_text u.proc ++ (codes "/" ++ decimal u.count)))))
+    decimal u.group.0 ++ (codes "/"
+    ++ (decimal u.view ++ (codes "/" ++ (proc_text u.proc ++ (codes "/" ++ decimal u.count)))))
 
 -- bytes in hexadecimal, `-` where there are none
 abbrev pub payload_text : List ℕ → List ℕ
@@ -59,19 +61,24 @@ kind_text kind.Atomic = codes "atomic"
 
 abbrev pub push_text : Push → List ℕ
 push_text (push.Opened p) = codes "opened " ++ proc_text p
-push_text (push.Reply tag refusal) = codes "reply " ++ (decimal tag ++ (codes " " ++ decimal (reply_code refusal)))
+push_text (push.Reply tag refusal) =
+    codes "reply " ++ (decimal tag ++ (codes " " ++ decimal (reply_code refusal)))
 push_text (push.View group view members) =
     codes "view " ++ (decimal group.0 ++ (codes " " ++ (decimal view ++ members_text members)))
 push_text (push.Deliver id how payload) =
-    codes "deliver " ++ (uid_text id ++ (codes " " ++ (kind_text how ++ (codes " " ++ payload_text payload))))
-push_text (push.Ejected group view) = codes "ejected " ++ (decimal group.0 ++ (codes " " ++ decimal view))
-push_text (push.Denied group refusal) = codes "denied " ++ (decimal group.0 ++ (codes " " ++ decimal (refusal_code refusal)))
+    codes "deliver "
+    ++ (uid_text id ++ (codes " " ++ (kind_text how ++ (codes " " ++ payload_text payload))))
+push_text (push.Ejected group view) =
+    codes "ejected " ++ (decimal group.0 ++ (codes " " ++ decimal view))
+push_text (push.Denied group refusal) =
+    codes "denied " ++ (decimal group.0 ++ (codes " " ++ decimal (refusal_code refusal)))
 push_text (push.Closed refusal) = codes "closed " ++ decimal (refusal_code refusal)
 
 -- a push of a domain's session
 abbrev pub push_line : DomainNo → ℕ → Push → List ℕ
 push_line d serial p =
-    codes "push " ++ (decimal d.0 ++ (codes " " ++ (decimal serial ++ (codes " " ++ (push_text p ++ line_feed)))))
+    codes "push "
+    ++ (decimal d.0 ++ (codes " " ++ (decimal serial ++ (codes " " ++ (push_text p ++ line_feed)))))
 
 abbrev pub session_text : DomainNo → ℕ → List Push → List ℕ
 session_text d serial pushes = flat_map (push_line d serial) pushes
@@ -79,7 +86,8 @@ session_text d serial pushes = flat_map (push_line d serial) pushes
 -- a frame of a domain, sent by a site
 abbrev pub frame_line : DomainNo → SiteNo → SiteNo × SiteFrame → List ℕ
 frame_line d from sent =
-    codes "send " ++ (decimal d.0 ++ (codes " " ++ (decimal sent.0.0 ++ (codes " " ++ (encode_lower (spelled_site d from sent.1) ++ line_feed)))))
+    codes "send " ++ (decimal d.0 ++ (codes " " ++ (decimal sent.0.0
+    ++ (codes " " ++ (encode_lower (spelled_site d from sent.1) ++ line_feed)))))
 
 abbrev pub halted_text : DomainNo → Bool → List ℕ
 halted_text d halted = if halted then codes "halted " ++ (decimal d.0 ++ line_feed) else []
@@ -87,7 +95,8 @@ halted_text d halted = if halted then codes "halted " ++ (decimal d.0 ++ line_fe
 -- what a domain has given: its pushes by serial, its frames, and whether it was halted
 abbrev pub given_text : SiteNo → Given → List ℕ
 given_text site g =
-    numbered_texts (session_text g.domain) 1 g.pushes ++ (flat_map (frame_line g.domain site) g.sent ++ halted_text g.domain g.halted)
+    numbered_texts (session_text g.domain) 1 g.pushes
+    ++ (flat_map (frame_line g.domain site) g.sent ++ halted_text g.domain g.halted)
 
 abbrev pub taken_line : ℕ → Taken → List ℕ
 taken_line n taken.Nothing = []

@@ -39,7 +39,8 @@ IsByteFrame (frame.Out g view) = Unit {0}
 abbrev pub IsPrintableRequest : DomainNo → ℕ → Request → Type 0
 IsPrintableRequest d serial (request.Join tag group) = AreNumbers d serial tag group
 IsPrintableRequest d serial (request.Leave tag group) = AreNumbers d serial tag group
-IsPrintableRequest d serial (request.Cast tag group how payload) = AreNumbers d serial tag group × IsBytes payload
+IsPrintableRequest d serial (request.Cast tag group how payload) =
+    AreNumbers d serial tag group × IsBytes payload
 IsPrintableRequest d serial (request.Pass tag group to) = AreNumbers d serial tag group × IsProc to
 
 abbrev pub IsPrintable : Event → Type 0

@@ -32,10 +32,13 @@ site_words s = codes "site" ∷ decimal s.0 ∷ []
 -- the words that name the sites and the groups of a domain
 abbrev pub list_texts : List SiteNo → List GroupNo → List (List ℕ)
 list_texts sites groups =
-    codes "sites" ∷ numbers_text (map (λ s. s.0) sites) ∷ codes "groups" ∷ numbers_text (map (λ g. g.0) groups) ∷ []
+    codes "sites" ∷ numbers_text (map (λ s. s.0) sites) ∷ codes "groups"
+    ∷ numbers_text (map (λ g. g.0) groups) ∷ []
 
 abbrev pub domain_words : DomainConfig → List (List ℕ)
-domain_words d = codes "domain" ∷ (place_texts d.domain d.home ++ (list_texts d.sites d.groups ++ quota_texts d.quotas))
+domain_words d =
+    codes "domain"
+    ∷ (place_texts d.domain d.home ++ (list_texts d.sites d.groups ++ quota_texts d.quotas))
 
 abbrev pub domain_text : DomainConfig → List ℕ
 domain_text d = line_text (domain_words d)
@@ -50,7 +53,8 @@ request_words d serial (request.Join tag group) = codes "join" ∷ request_texts
 request_words d serial (request.Leave tag group) = codes "leave" ∷ request_texts d serial tag group
 request_words d serial (request.Cast tag group how payload) =
     cast_text how ∷ (request_texts d serial tag group ++ payload_text payload ∷ [])
-request_words d serial (request.Pass tag group to) = codes "pass" ∷ (request_texts d serial tag group ++ proc_text to ∷ [])
+request_words d serial (request.Pass tag group to) =
+    codes "pass" ∷ (request_texts d serial tag group ++ proc_text to ∷ [])
 
 abbrev pub event_words : Event → List (List ℕ)
 event_words (event.Open d) = codes "open" ∷ decimal d.0 ∷ []
@@ -59,8 +63,10 @@ event_words (event.Command d serial command.Bad) = codes "bad" ∷ decimal d.0 �
 event_words (event.Gone d serial) = codes "gone" ∷ decimal d.0 ∷ decimal serial ∷ []
 event_words (event.Frame d s f) = codes "frame" ∷ encode_lower (spelled_site d s f) ∷ []
 event_words (event.Suspect d site) = codes "suspect" ∷ decimal d.0 ∷ decimal site.0 ∷ []
-event_words (event.Quota d name value) = codes "quota" ∷ decimal d.0 ∷ quota_name_text name ∷ decimal value ∷ []
-event_words (event.Take d serial most) = codes "take" ∷ decimal d.0 ∷ decimal serial ∷ decimal most ∷ []
+event_words (event.Quota d name value) =
+    codes "quota" ∷ decimal d.0 ∷ quota_name_text name ∷ decimal value ∷ []
+event_words (event.Take d serial most) =
+    codes "take" ∷ decimal d.0 ∷ decimal serial ∷ decimal most ∷ []
 event_words (event.Tick now) = codes "tick" ∷ decimal now ∷ []
 
 abbrev pub event_text : Event → List ℕ

@@ -13,14 +13,16 @@ use cast_quota::QuotaName;
 use cast_types::{DomainNo, NoMemory, SiteNo};
 use std::alloc::Global;
 
-/// Adds the line of an event. `NoMemory` changes nothing. The line is made in a text whose room is kept for the next one.
+/// Adds the line of an event. `NoMemory` changes nothing. The line is made in a text whose room is
+/// kept for the next one.
 pub fn add_event(
     alloc: Global,
     text: &mut String,
     line: &mut String,
     event: &Event,
 ) -> Result<(), NoMemory>
-    ensures ok { OnOk result (string_bytes text.new ≡ string_bytes text.old ++ event_text event.now) }
+    ensures ok { OnOk result
+        (string_bytes text.new ≡ string_bytes text.old ++ event_text event.now) }
     ensures err { OnErr result (string_bytes text.new ≡ string_bytes text.old) }
 {
     line.clear();
@@ -87,7 +89,8 @@ fn put_request(
     serial: u32,
     request: &Request,
 ) -> Result<(), NoMemory>
-    ensures { OnOk result (string_bytes text.new ≡ string_bytes text.old ++ line_text (request_words domain serial request.now)) }
+    ensures { OnOk result (string_bytes text.new
+        ≡ string_bytes text.old ++ line_text (request_words domain serial request.now)) }
 {
     let number = domain.0;
     match request {
@@ -128,7 +131,8 @@ fn put_frame(
     site: SiteNo,
     frame: &SiteFrame,
 ) -> Result<(), NoMemory>
-    ensures { OnOk result (string_bytes text.new ≡ string_bytes text.old ++ event_text (event.Frame domain site frame.now)) }
+    ensures { OnOk result (string_bytes text.new
+        ≡ string_bytes text.old ++ event_text (event.Frame domain site frame.now)) }
 {
     let bytes = encode_site(alloc, domain, site, frame)?;
     text.push_str("frame ")?;

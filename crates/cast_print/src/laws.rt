@@ -5,7 +5,8 @@ pub fn printed_is_read()
     ensures { PrintedIsRead }
 {}
 
-/// What a script says can be printed: its configuration and its events are such that they are read back.
+/// What a script says can be printed: its configuration and its events are such that they are read
+/// back.
 pub fn read_is_printable()
     ensures { ReadIsPrintable }
 {}

@@ -2,7 +2,10 @@ ghost use Rattle.std.specs.Prelude.{◌≡◌, ◌++◌, IfOk, OnOk, codes};
 ghost use Rattle.std.specs.List.{flat_map};
 ghost use Rattle.std.specs.String.{string_bytes};
 ghost use Rattle.hex.specs.Hex.{encode_lower};
-ghost use Rattle.cast_print.specs.Logs.{answer_line, frame_line, given_text, halted_text, kind_text, log_text, member_text, members_text, numbered_texts, payload_text, push_line, push_text, session_text, uid_text};
+ghost use Rattle.cast_print.specs.Logs.{answer_line, frame_line, given_text};
+ghost use Rattle.cast_print.specs.Logs.{halted_text, kind_text, log_text, member_text};
+ghost use Rattle.cast_print.specs.Logs.{members_text, numbered_texts, payload_text};
+ghost use Rattle.cast_print.specs.Logs.{push_line, push_text, session_text, uid_text};
 ghost use Rattle.cast_script.specs.Words.{proc_text};
 
 use cast_events::{Fault, Given, Log, Taken};
@@ -14,8 +17,8 @@ use std::alloc::Global;
 // So many bytes are made digits at once.
 const PART: usize = 256;
 
-/// The text of a log at a site: the refused events, and then for each domain its pushes, its frames and whether it
-/// was halted.
+/// The text of a log at a site: the refused events, and then for each domain its pushes, its frames
+/// and whether it was halted.
 pub fn print(alloc: Global, site: SiteNo, log: &Log) -> Result<String, NoMemory>
     ensures { IfOk result (λ text. string_bytes text ≡ log_text site log.now) }
 {
@@ -29,7 +32,8 @@ pub fn print(alloc: Global, site: SiteNo, log: &Log) -> Result<String, NoMemory>
 
 // A line for each event that was refused or that names no domain, numbered from 1.
 fn print_answers(text: &mut String, answers: &[Result<Taken, Fault>]) -> Result<(), NoMemory>
-    ensures { OnOk result (string_bytes text.new ≡ string_bytes text.old ++ numbered_texts answer_line 1 answers.now) }
+    ensures { OnOk result (string_bytes text.new
+        ≡ string_bytes text.old ++ numbered_texts answer_line 1 answers.now) }
 {
     for (index, answer) in answers.iter().enumerate() {
         print_answer(text, index + 1, answer)?;
@@ -42,7 +46,8 @@ fn print_answer(
     number: usize,
     answer: &Result<Taken, Fault>,
 ) -> Result<(), NoMemory>
-    ensures { OnOk result (string_bytes text.new ≡ string_bytes text.old ++ answer_line number answer.now) }
+    ensures { OnOk result
+        (string_bytes text.new ≡ string_bytes text.old ++ answer_line number answer.now) }
 {
     match answer {
         Ok(Taken::Refused(refusal)) => {
@@ -62,7 +67,8 @@ fn print_given(
     site: SiteNo,
     given: &Given,
 ) -> Result<(), NoMemory>
-    ensures { OnOk result (string_bytes text.new ≡ string_bytes text.old ++ given_text site given.now) }
+    ensures { OnOk result
+        (string_bytes text.new ≡ string_bytes text.old ++ given_text site given.now) }
 {
     print_sessions(alloc, text, given.domain, given.pushes.as_slice())?;
     print_sent(alloc, text, given.domain, site, given.sent.as_slice())?;
@@ -76,7 +82,8 @@ fn print_sessions(
     domain: DomainNo,
     sessions: &[List<Push>],
 ) -> Result<(), NoMemory>
-    ensures { OnOk result (string_bytes text.new ≡ string_bytes text.old ++ numbered_texts (session_text domain) 1 sessions.now) }
+    ensures { OnOk result (string_bytes text.new
+        ≡ string_bytes text.old ++ numbered_texts (session_text domain) 1 sessions.now) }
 {
     for (index, pushes) in sessions.iter().enumerate() {
         print_session(alloc, text, domain, index + 1, pushes.as_slice())?;
@@ -92,7 +99,8 @@ fn print_session(
     serial: usize,
     pushes: &[Push],
 ) -> Result<(), NoMemory>
-    ensures { OnOk result (string_bytes text.new ≡ string_bytes text.old ++ session_text domain serial pushes.now) }
+    ensures { OnOk result
+        (string_bytes text.new ≡ string_bytes text.old ++ session_text domain serial pushes.now) }
 {
     for push in pushes {
         print_push_line(alloc, text, domain, serial, push)?;
@@ -107,7 +115,8 @@ fn print_push_line(
     serial: usize,
     push: &Push,
 ) -> Result<(), NoMemory>
-    ensures { OnOk result (string_bytes text.new ≡ string_bytes text.old ++ push_line domain serial push.now) }
+    ensures { OnOk result
+        (string_bytes text.new ≡ string_bytes text.old ++ push_line domain serial push.now) }
 {
     let number = domain.0;
     write!(text, "push {number} {serial} ")?;
@@ -156,7 +165,8 @@ fn print_push(alloc: Global, text: &mut String, push: &Push) -> Result<(), NoMem
 }
 
 fn print_reply(text: &mut String, tag: u32, refusal: Option<Refusal>) -> Result<(), NoMemory>
-    ensures { OnOk result (string_bytes text.new ≡ string_bytes text.old ++ push_text (Push.Reply tag refusal)) }
+    ensures { OnOk result
+        (string_bytes text.new ≡ string_bytes text.old ++ push_text (Push.Reply tag refusal)) }
 {
     let code = match refusal {
         Some(refused) => refused.number(),
@@ -167,7 +177,8 @@ fn print_reply(text: &mut String, tag: u32, refusal: Option<Refusal>) -> Result<
 
 // ` holder 1.1 members 1.1 2.1`
 fn print_members(text: &mut String, members: &Membership) -> Result<(), NoMemory>
-    ensures { OnOk result (string_bytes text.new ≡ string_bytes text.old ++ members_text members.now) }
+    ensures { OnOk result
+        (string_bytes text.new ≡ string_bytes text.old ++ members_text members.now) }
 {
     if let Some(holder) = members.holder() {
         text.push_str(" holder ")?;
@@ -179,7 +190,8 @@ fn print_members(text: &mut String, members: &Membership) -> Result<(), NoMemory
 
 // ` 1.1 2.1`
 fn print_procs(text: &mut String, procs: &[Proc]) -> Result<(), NoMemory>
-    ensures { OnOk result (string_bytes text.new ≡ string_bytes text.old ++ flat_map member_text procs.now) }
+    ensures { OnOk result
+        (string_bytes text.new ≡ string_bytes text.old ++ flat_map member_text procs.now) }
 {
     for process in procs {
         text.push_str(" ")?;
@@ -211,7 +223,8 @@ fn print_uid(text: &mut String, id: Uid) -> Result<(), NoMemory>
 
 // ` causal ` or ` atomic `
 fn print_kind(text: &mut String, kind: CastKind) -> Result<(), NoMemory>
-    ensures { OnOk result (string_bytes text.new ≡ string_bytes text.old ++ (codes " " ++ (kind_text kind ++ codes " "))) }
+    ensures { OnOk result (string_bytes text.new
+        ≡ string_bytes text.old ++ (codes " " ++ (kind_text kind ++ codes " "))) }
 {
     text.push_str(match kind {
         CastKind::Causal => " causal ",
@@ -221,7 +234,8 @@ fn print_kind(text: &mut String, kind: CastKind) -> Result<(), NoMemory>
 
 /// Adds bytes in lower-case hexadecimal, `-` where there are none.
 pub(crate) fn print_payload(alloc: Global, text: &mut String, bytes: &[u8]) -> Result<(), NoMemory>
-    ensures { OnOk result (string_bytes text.new ≡ string_bytes text.old ++ payload_text bytes.now) }
+    ensures { OnOk result
+        (string_bytes text.new ≡ string_bytes text.old ++ payload_text bytes.now) }
 {
     if bytes.is_empty() {
         text.push_str("-")
@@ -230,10 +244,11 @@ pub(crate) fn print_payload(alloc: Global, text: &mut String, bytes: &[u8]) -> R
     }
 }
 
-/// Adds bytes in lower-case hexadecimal. Little memory is taken at a time, which allocators keep for each thread: threads that print much
-/// do not wait for each other then.
+/// Adds bytes in lower-case hexadecimal. Little memory is taken at a time, which allocators keep
+/// for each thread: threads that print much do not wait for each other then.
 pub(crate) fn print_bytes(alloc: Global, text: &mut String, bytes: &[u8]) -> Result<(), NoMemory>
-    ensures { OnOk result (string_bytes text.new ≡ string_bytes text.old ++ encode_lower bytes.now) }
+    ensures { OnOk result
+        (string_bytes text.new ≡ string_bytes text.old ++ encode_lower bytes.now) }
 {
     let mut rest = bytes;
     while !rest.is_empty() {
@@ -252,7 +267,8 @@ fn print_sent(
     site: SiteNo,
     sent: &[(SiteNo, SiteFrame)],
 ) -> Result<(), NoMemory>
-    ensures { OnOk result (string_bytes text.new ≡ string_bytes text.old ++ flat_map (frame_line domain site) sent.now) }
+    ensures { OnOk result (string_bytes text.new
+        ≡ string_bytes text.old ++ flat_map (frame_line domain site) sent.now) }
 {
     for (receiver, frame) in sent {
         print_frame(alloc, text, domain, site, *receiver, frame)?;
@@ -268,7 +284,8 @@ fn print_frame(
     receiver: SiteNo,
     frame: &SiteFrame,
 ) -> Result<(), NoMemory>
-    ensures { OnOk result (string_bytes text.new ≡ string_bytes text.old ++ frame_line domain site (receiver, frame.now)) }
+    ensures { OnOk result (string_bytes text.new
+        ≡ string_bytes text.old ++ frame_line domain site (receiver, frame.now)) }
 {
     let number = domain.0;
     let to = receiver.0;
@@ -279,7 +296,8 @@ fn print_frame(
 }
 
 fn print_halted(text: &mut String, domain: DomainNo, halted: bool) -> Result<(), NoMemory>
-    ensures { OnOk result (string_bytes text.new ≡ string_bytes text.old ++ halted_text domain halted) }
+    ensures { OnOk result
+        (string_bytes text.new ≡ string_bytes text.old ++ halted_text domain halted) }
 {
     if halted {
         let number = domain.0;

@@ -1,6 +1,7 @@
 -- The ranges of quotas, and the tests that they make.
 use Rattle.std.specs.Prelude.{ℕ, ◌*◌, Bool, ◌&&◌, nat_lt, nat_le}
-use Rattle.cast_quota.specs.declared.limits.TheConstants.{MOST_SESSIONS, MOST_HELD, MOST_ENTRIES, LEAST_RESEND, MOST_RESEND}
+use Rattle.cast_quota.specs.declared.limits.TheConstants.{MOST_SESSIONS, MOST_HELD, MOST_ENTRIES}
+use Rattle.cast_quota.specs.declared.limits.TheConstants.{LEAST_RESEND, MOST_RESEND}
 use Rattle.cast_quota.specs.declared.quotas.Quotas.{Quotas}
 use Rattle.cast_quota.specs.declared.quotas.QuotaName.{QuotaName}
 use Rattle.cast_quota.specs.declared.quotas.QuotaName.TheVariants.{Sessions, Held, Outbox, Resend}
@@ -32,6 +33,7 @@ may_open q sessions = nat_lt sessions q.sessions
 abbrev pub may_receive : Quotas → ℕ → Bool
 may_receive q kept = nat_lt kept q.held
 
--- a set-order message may be sent or received beside so many, and a holder may deliver an ABCAST: there is room for these where casts find none
+-- a set-order message may be sent or received beside so many, and a holder may deliver an ABCAST:
+-- there is room for these where casts find none
 abbrev pub may_order : Quotas → ℕ → Bool
 may_order q kept = nat_lt kept (2 * q.held)

@@ -1,5 +1,6 @@
 ghost use Rattle.std.specs.Prelude.{◌≡◌, true, false, OnOk, OnErr, IfErr};
-ghost use Rattle.cast_quota.specs.Quotas.{is_in_range, may_open, may_order, may_receive, usual, with_quota};
+ghost use Rattle.cast_quota.specs.Quotas.{is_in_range, may_open, may_order};
+ghost use Rattle.cast_quota.specs.Quotas.{may_receive, usual, with_quota};
 
 use crate::limits::{LEAST_RESEND, MOST_ENTRIES, MOST_HELD, MOST_RESEND, MOST_SESSIONS};
 use cast_types::Refusal;
@@ -46,23 +47,24 @@ impl Quotas {
         sessions < self.sessions as usize
     }
 
-    /// Whether a cast, of a program or of another site, may be received beside so many messages that are kept.
+    /// Whether a cast, of a program or of another site, may be received beside so many messages
+    /// that are kept.
     pub fn check_cast(&self, held: usize) -> bool
         ensures { result ≡ may_receive self.now held }
     {
         held < self.held as usize
     }
 
-    /// Whether a set-order message may be sent or received, and a holder may deliver an ABCAST, beside so many messages that
-    /// are kept: twice as many as a cast finds room beside.
+    /// Whether a set-order message may be sent or received, and a holder may deliver an ABCAST,
+    /// beside so many messages that are kept: twice as many as a cast finds room beside.
     pub fn check_order(&self, held: usize) -> bool
         ensures { result ≡ may_order self.now held }
     {
         (held as u64) < 2 * self.held as u64
     }
 
-    /// Gives a quota another value, which may be the one that it has. `OutOfRange` where the value is outside its range,
-    /// which changes nothing.
+    /// Gives a quota another value, which may be the one that it has. `OutOfRange` where the value
+    /// is outside its range, which changes nothing.
     pub fn set(&mut self, name: QuotaName, value: u32) -> Result<(), Refusal>
         ensures ok { OnOk result (self.new ≡ with_quota name value self.old) }
         ensures inside { OnOk result (is_in_range name value ≡ true) }

@@ -18,4 +18,5 @@ raised_at s count counts = put source_cmp s (max (count_at counts s) count) coun
 
 -- the counts of one view of a group
 abbrev pub counts_in : GroupNo → ℕ → DeliveredCounts → List Entry
-counts_in g view counts = map (λ e. (e.0.process, e.1)) (filter (λ e. group_eq e.0.group g && (e.0.view == view)) counts)
+counts_in g view counts =
+    map (λ e. (e.0.process, e.1)) (filter (λ e. group_eq e.0.group g && (e.0.view == view)) counts)

@@ -1,5 +1,6 @@
 -- What the queue keeps of a process, counts in place of ids, and the tests over it.
-use Rattle.std.specs.Prelude.{◌≡◌, ℕ, ◌-◌, min, Bool, true, not, ◌&&◌, ◌||◌, ◌==◌, nat_lt, nat_le, if◌then◌else◌, List, [], length, Option, unwrap_or}
+use Rattle.std.specs.Prelude.{◌≡◌, ℕ, ◌-◌, min, Bool, true, not, ◌&&◌, ◌||◌, ◌==◌, nat_lt}
+use Rattle.std.specs.Prelude.{nat_le, if◌then◌else◌, List, [], length, Option, unwrap_or}
 use Rattle.std.specs.List.{list_all, list_any, position}
 use Rattle.std.specs.FinMap.Entries.{find, put}
 use Rattle.cast_types.specs.declared.names.GroupNo.{GroupNo}
@@ -41,17 +42,20 @@ abbrev pub needed_count : Uid → GroupNo → ℕ → Entry → ℕ
 needed_count id g view e = if uid_eq (uid_in g view e) id then e.1 - 1 else e.1
 
 abbrev pub has_past : Row → Uid → GroupNo → ℕ → List Entry → Bool
-has_past row id g view counts = list_all (λ e. nat_le (needed_count id g view e) (done_in row g view e.0)) counts
+has_past row id g view counts =
+    list_all (λ e. nat_le (needed_count id g view e) (done_in row g view e.0)) counts
 
 abbrev pub row_allows : Row → ℕ → Uid → ClockList → GroupNo → Standing → Bool
 row_allows row number id times g Outside = true
 row_allows row number id times g (Joining request heard) = nat_le (view_of times g) heard
 row_allows row number id times g Member =
     nat_lt (view_of times g) number
-    || ((view_of times g == number) && has_past row id g (view_of times g) (clock_of times g).counts)
+    || ((view_of times g == number)
+    && has_past row id g (view_of times g) (clock_of times g).counts)
 
 abbrev pub all_allow : List (GroupNo × Gate) → Row → Uid → ClockList → Bool
-all_allow gates row id times = list_all (λ s. row_allows row (gate_in gates s.0).number id times s.0 s.1) row.standings
+all_allow gates row id times =
+    list_all (λ s. row_allows row (gate_in gates s.0).number id times s.0 s.1) row.standings
 
 -- causally ready, by what the queue keeps
 abbrev pub is_causally_ready_row : List (GroupNo × Gate) → Row → Uid → ClockList → Bool
@@ -73,14 +77,16 @@ is_ready_row turns gates row o =
 abbrev pub has_delivered_in : Row → Uid → Bool
 has_delivered_in row u = nat_lt 0 u.count && nat_le u.count (done_in row u.group u.view u.proc)
 
--- how many of these ids of a view of a group the process has delivered before the first that it has not
+-- how many of these ids of a view of a group the process has delivered before the first that it has
+-- not
 abbrev pub passed_by : Row → GroupNo → ℕ → List Entry → ℕ
 passed_by row group view ids =
     unwrap_or (position (λ e. not (has_delivered_in row (uid_in group view e))) ids) (length ids)
 
 -- the process is a member of the message's group and has not delivered it, by what the queue keeps
 abbrev pub awaits_row : Row → Uid → Bool
-awaits_row row id = is_member (standing_in row id.group) && nat_lt (done_in row id.group id.view id.proc) id.count
+awaits_row row id =
+    is_member (standing_in row id.group) && nat_lt (done_in row id.group id.view id.proc) id.count
 
 -- the row after a delivery. A join without room changes no time; no ready message has one
 abbrev pub delivered_row : Uid → ClockList → Row → Row
@@ -96,7 +102,8 @@ with_standing g standing row = record row { standings = put group_cmp g standing
 abbrev pub with_time : ClockList → Row → Row
 with_time time row = record row { time = time }
 
--- the row once the group's views below a number have ended: of what the process delivered of these it has nothing more
+-- the row once the group's views below a number have ended: of what the process delivered of these
+-- it has nothing more
 abbrev pub ended_row : GroupNo → ℕ → Row → Row
 ended_row g number row = record row { done = but_ended g number row.done }
 
@@ -108,20 +115,23 @@ told_row (fact.Time time) row = with_time time row
 abbrev pub new_row : Proc → Row
 new_row p = record { process = p; standings = []; time = []; done = [] }
 
--- the lesser of a count and of how many messages of a process in a view of a group the row's process has delivered, where that
--- is a member of the group
+-- the lesser of a count and of how many messages of a process in a view of a group the row's
+-- process has delivered, where that is a member of the group
 abbrev pub lesser_by : GroupNo → ℕ → Proc → ℕ → Row → ℕ
-lesser_by group view p least row = if is_member (standing_in row group) then min least (done_in row group view p) else least
+lesser_by group view p least row =
+    if is_member (standing_in row group) then min least (done_in row group view p) else least
 
 -- the row awaits the message of an id, whose view is the one that stands
 abbrev pub awaits_now : List (GroupNo × Gate) → Row → Uid → Bool
 awaits_now gates row u = awaits_row row u && (u.view == (gate_in gates u.group).number)
 
--- a message is to be delivered after that of an id: its time has the view of the id's group, and counts so many of the process
+-- a message is to be delivered after that of an id: its time has the view of the id's group, and
+-- counts so many of the process
 abbrev pub is_after : Offered → Uid → Bool
 is_after o u =
     (view_of o.times u.group == u.view)
-    && list_any (λ e. proc_eq e.0 u.proc && nat_le u.count (needed_count o.id u.group u.view e)) (clock_of o.times u.group).counts
+    && list_any (λ e. proc_eq e.0 u.proc && nat_le u.count (needed_count o.id u.group u.view e))
+    (clock_of o.times u.group).counts
 
 -- and the row awaits that still
 abbrev pub holds_back : List (GroupNo × Gate) → Row → Offered → Uid → Bool

@@ -7,8 +7,8 @@ use cast_types::{GroupNo, NoMemory, Proc, Source};
 use std::alloc::Global;
 use std::marker::Model;
 
-/// How many messages of each source, 0 where none is kept. Contracts see the list of counts in rising order of their
-/// sources.
+/// How many messages of each source, 0 where none is kept. Contracts see the list of counts in
+/// rising order of their sources.
 #[derive(Drop)]
 pub struct DeliveredCounts {
     counts: Vec<(Source, u32)>,
@@ -46,8 +46,9 @@ impl DeliveredCounts {
         found_in(&self.counts, source).0
     }
 
-    /// The count of a source, 0 where none is kept, and the place behind it. The place that is given is looked at
-    /// first: where sources are asked for in rising order, each mostly stands behind the one before.
+    /// The count of a source, 0 where none is kept, and the place behind it. The place that is
+    /// given is looked at first: where sources are asked for in rising order, each mostly stands
+    /// behind the one before.
     pub fn near(&self, place: usize, source: Source) -> (u32, usize)
         ensures { result.0 ≡ count_at self.now source }
     {
@@ -100,7 +101,8 @@ impl DeliveredCounts {
     }
 }
 
-// The count of a source, 0 where none is kept, and the place behind it: at a place, or else found by halving.
+// The count of a source, 0 where none is kept, and the place behind it: at a place, or else found
+// by halving.
 fn near_in(counts: &[(Source, u32)], place: usize, source: Source) -> (u32, usize)
     requires { is_sorted source_cmp counts.now ≡ true }
     ensures { result.0 ≡ count_at counts.now source }

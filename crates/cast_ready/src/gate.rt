@@ -11,9 +11,11 @@ use std::alloc::Global;
 pub struct Gate {
     /// The number of its view, 0 before the first one.
     pub number: u32,
-    /// Whether a flush of that view has begun. Then nothing of the group is delivered but what is within the cut.
+    /// Whether a flush of that view has begun. Then nothing of the group is delivered but what is
+    /// within the cut.
     pub frozen: bool,
-    /// How many messages of each process belong to the view that ends, while the Install of the next one waits.
+    /// How many messages of each process belong to the view that ends, while the Install of the
+    /// next one waits.
     pub cut: Option<Counts>,
 }
 
@@ -29,7 +31,8 @@ impl Gate {
         }
     }
 
-    /// Whether the group lets a message of its view be delivered: it is not frozen, or the message is within the cut.
+    /// Whether the group lets a message of its view be delivered: it is not frozen, or the message
+    /// is within the cut.
     pub fn is_open_to(&self, id: Uid) -> bool
         ensures { result ≡ is_open_to self.now (entry_of id) }
     {
@@ -113,7 +116,8 @@ pub fn number_in(gates: &SortedMap<GroupNo, Gate>, group: GroupNo) -> u32
     }
 }
 
-/// Whether a message's group lets it be delivered, as far as flushes go. One of which nothing was told does.
+/// Whether a message's group lets it be delivered, as far as flushes go. One of which nothing was
+/// told does.
 pub fn is_open_in(gates: &SortedMap<GroupNo, Gate>, id: Uid) -> bool
     ensures { result ≡ is_open_to (gate_in gates.now id.group) (entry_of id) }
 {

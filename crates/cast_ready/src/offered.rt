@@ -2,8 +2,8 @@ ghost use Rattle.std.specs.Prelude.{◌≡◌, IfOk};
 
 use cast_types::{Key, NoMemory, Stamp, Uid};
 
-/// A message as the queue holds it: the key under which its domain keeps it, its name, whether it is an ABCAST, and its
-/// time.
+/// A message as the queue holds it: the key under which its domain keeps it, its name, whether it
+/// is an ABCAST, and its time.
 #[derive(Drop)]
 pub struct Offered {
     pub key: Key,

@@ -1,4 +1,5 @@
-ghost use Rattle.std.specs.Prelude.{◌≡◌, ℕ, List, true, OnOk, IfOk, IfSome, ◌-◌, ◌==◌, length, nat_le, not, unwrap_or};
+ghost use Rattle.std.specs.Prelude.{◌≡◌, ℕ, List, true, OnOk, IfOk, IfSome};
+ghost use Rattle.std.specs.Prelude.{◌-◌, ◌==◌, length, nat_le, not, unwrap_or};
 ghost use Rattle.std.specs.List.{list_all, position};
 ghost use Rattle.std.specs.Option.{option_copied};
 ghost use Rattle.cast_types.specs.Names.{uid_in};
@@ -34,8 +35,8 @@ pub struct Row {
     pub done: DeliveredCounts,
 }
 
-// The clock of a group, and the place behind it: at a place, or else found by halving. Where groups are asked for in
-// rising order, each mostly stands behind the one before.
+// The clock of a group, and the place behind it: at a place, or else found by halving. Where groups
+// are asked for in rising order, each mostly stands behind the one before.
 fn clock_near(times: &Stamp, place: usize, group: GroupNo) -> (Option<&Clock>, usize)
     ensures { IsClockIn times.now group (option_copied result.0) }
 {
@@ -70,7 +71,11 @@ fn counts_in(clock: Option<&Clock>) -> &[(Proc, u32)]
 }
 
 impl Row {
-    ghost use Rattle.cast_ready.specs.Rows.{standing_in, done_in, needed_count, has_past, row_allows, all_allow, is_causally_ready_row, is_ready_row, has_delivered_in, passed_by, awaits_row, delivered_row, ended_row, told_row, new_row, lesser_by, awaits_now, holds_back};
+    ghost use Rattle.cast_ready.specs.Rows.{standing_in, done_in, needed_count, has_past};
+    ghost use Rattle.cast_ready.specs.Rows.{row_allows, all_allow, is_causally_ready_row};
+    ghost use Rattle.cast_ready.specs.Rows.{is_ready_row, has_delivered_in, passed_by};
+    ghost use Rattle.cast_ready.specs.Rows.{awaits_row, delivered_row, ended_row, told_row};
+    ghost use Rattle.cast_ready.specs.Rows.{new_row, lesser_by, awaits_now, holds_back};
 
     /// A process that is in no group.
     pub fn new(alloc: Global, process: Proc) -> Self
@@ -128,8 +133,8 @@ impl Row {
         }
     }
 
-    /// The lesser of a count and of how many messages of a process in a view of a group were delivered, where the row's
-    /// process is a member of the group.
+    /// The lesser of a count and of how many messages of a process in a view of a group were
+    /// delivered, where the row's process is a member of the group.
     pub fn lesser(&self, least: u32, group: GroupNo, view: u32, process: Proc) -> u32
         ensures { result ≡ lesser_by group view process least self.now }
     {
@@ -139,8 +144,8 @@ impl Row {
         least
     }
 
-    // Whether all of these counts but the message itself is delivered. The place is where the counts are looked at first,
-    // and moves on behind what is found.
+    // Whether all of these counts but the message itself is delivered. The place is where the
+    // counts are looked at first, and moves on behind what is found.
     fn has_past(
         &self,
         place: &mut usize,
@@ -166,8 +171,9 @@ impl Row {
         true
     }
 
-    // Whether nothing of a group holds the message back, where this is the group's clock in the message's time. The
-    // place is where the counts are looked at first, and moves on behind what is found.
+    // Whether nothing of a group holds the message back, where this is the group's clock in the
+    // message's time. The place is where the counts are looked at first, and moves on behind what
+    // is found.
     fn allows(
         &self,
         place: &mut usize,
@@ -177,7 +183,8 @@ impl Row {
         clock: Option<&Clock>,
         standing: Standing,
     ) -> bool
-        ensures { (times : ClockList) → IsClockIn times group (option_copied clock.entry) → result ≡ row_allows self.now number id times group standing }
+        ensures { (times : ClockList) → IsClockIn times group (option_copied clock.entry)
+            → result ≡ row_allows self.now number id times group standing }
     {
         let view = view_in(clock);
         match standing {
@@ -207,8 +214,9 @@ impl Row {
         true
     }
 
-    /// Whether all that happened before a message was delivered to the process, a member of its group in the current
-    /// view that has not delivered the message, where the group is not frozen or the message is within its cut.
+    /// Whether all that happened before a message was delivered to the process, a member of its
+    /// group in the current view that has not delivered the message, where the group is not frozen
+    /// or the message is within its cut.
     pub fn is_causally_ready(
         &self,
         gates: &SortedMap<GroupNo, Gate>,
@@ -248,7 +256,8 @@ impl Row {
 
     // The place of the first of these ids of a view of a group that the process has not delivered.
     fn first_missing(&self, group: GroupNo, view: u32, ids: &[(Proc, u32)]) -> Option<usize>
-        ensures { result ≡ position (λ e. not (has_delivered_in self.now (uid_in group view e))) ids.now }
+        ensures { result
+            ≡ position (λ e. not (has_delivered_in self.now (uid_in group view e))) ids.now }
     {
         ids.iter().position(|(proc, count)| !self.has_delivered(Uid {
             group,
@@ -258,8 +267,8 @@ impl Row {
         }))
     }
 
-    /// How many of these ids, which are of a view of a group, the process has delivered before the first that it has
-    /// not: 0 to their number.
+    /// How many of these ids, which are of a view of a group, the process has delivered before the
+    /// first that it has not: 0 to their number.
     pub fn delivered_prefix(&self, group: GroupNo, view: u32, ids: &[(Proc, u32)]) -> usize
         ensures { result ≡ passed_by self.now group view ids.now }
     {
@@ -290,7 +299,8 @@ impl Row {
         self.awaits(id) && id.view == number_in(gates, id.group)
     }
 
-    /// The id of a message that is to be delivered to the process before another one, where one is found.
+    /// The id of a message that is to be delivered to the process before another one, where one is
+    /// found.
     pub fn missing_before(&self, gates: &SortedMap<GroupNo, Gate>, offered: &Offered) -> Option<Uid>
         ensures { IfSome result (λ id. holds_back gates.now self.now offered.now id ≡ true) }
     {
@@ -331,7 +341,8 @@ impl Row {
         None
     }
 
-    /// Notes that a message was delivered to the process. After `NoMemory` the row may be of no use.
+    /// Notes that a message was delivered to the process. After `NoMemory` the row may be of no
+    /// use.
     pub fn deliver(&mut self, id: Uid, times: &Stamp) -> Result<(), NoMemory>
         ensures { OnOk result (self.new ≡ delivered_row id times.now self.old) }
     {
@@ -387,7 +398,8 @@ fn needed_count(id: Uid, group: GroupNo, view: u32, entry: (Proc, u32)) -> u32
     }
 }
 
-// Whether so many messages of an entry suffice before a message. Mostly they are as many as the entry counts.
+// Whether so many messages of an entry suffice before a message. Mostly they are as many as the
+// entry counts.
 fn is_enough(done: u32, id: Uid, group: GroupNo, view: u32, entry: (Proc, u32)) -> bool
     ensures { result ≡ nat_le (needed_count id group view entry) done }
 {

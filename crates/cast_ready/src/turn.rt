@@ -6,14 +6,15 @@ ghost use Rattle.cast_ready.specs.Ready.{has_turn, turn_in};
 
 use cast_types::{GroupNo, Proc};
 
-/// How an ABCAST of a group gets its place in the order of the group's view. An ABCAST is named by its process and its
-/// count, from 1 on, in the group's current view.
+/// How an ABCAST of a group gets its place in the order of the group's view. An ABCAST is named by
+/// its process and its count, from 1 on, in the group's current view.
 #[derive(Clone, Copy, Debug, PartialEq, Eq)]
 pub enum Turn {
-    /// The order is held here: an ABCAST gets the next place as it is delivered. Whether there is room for one more.
+    /// The order is held here: an ABCAST gets the next place as it is delivered. Whether there is
+    /// room for one more.
     Holding(bool),
-    /// The order is held elsewhere: the ABCAST that stands next in the order that is known here, after those that the
-    /// process has delivered. `None` where no place after them is known.
+    /// The order is held elsewhere: the ABCAST that stands next in the order that is known here,
+    /// after those that the process has delivered. `None` where no place after them is known.
     Following(Option<(Proc, u32)>),
 }
 
@@ -30,7 +31,8 @@ impl Turn {
     }
 }
 
-/// The turn of a group: that of the first entry for it. Where there is none, no ABCAST of the group has its turn.
+/// The turn of a group: that of the first entry for it. Where there is none, no ABCAST of the group
+/// has its turn.
 pub fn turn_in(turns: &[(GroupNo, Turn)], group: GroupNo) -> Turn
     ensures { result ≡ turn_in turns.now group }
 {

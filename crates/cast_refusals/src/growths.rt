@@ -7,7 +7,8 @@ fn is_granted(alloc: Global) -> bool {
     bytes.push(1).is_ok()
 }
 
-/// Asks for memory until that is refused, at most so many times. Answers how many requests were granted.
+/// Asks for memory until that is refused, at most so many times. Answers how many requests were
+/// granted.
 pub fn granted(alloc: Global, most: u32) -> u32 {
     for count in 0..most {
         if !is_granted(alloc) {

@@ -21,7 +21,8 @@ const COMMANDS: [u8; 39] = [
     2, 0, 1, 1, 0, 0, 0, 4,
 ];
 
-// It is connected as 1.1, and in a view with 2.1. The first cast is done and delivered, the second refused.
+// It is connected as 1.1, and in a view with 2.1. The first cast is done and delivered, the second
+// refused.
 const PUSHES: [u8; 88] = [
     0, 0, 0, 11, 65, 0, 1, 0, 0, 0, 1, 0, 0, 0, 10, 66, 0, 0, 0, 0, 0, 0, 0, 0, 25, 67, 0, 1, 0, 0,
     0, 2, 2, 0, 1, 0, 0, 0, 1, 0, 2, 0, 0, 0, 1, 0, 0, 0, 0, 10, 66, 0, 0, 0, 1, 0, 0, 0, 0, 22,

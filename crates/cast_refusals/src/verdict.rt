@@ -6,7 +6,8 @@ use std::fmt::{Display, Formatter, Result, Write};
 pub enum Verdict {
     /// They are those of a run in which nothing is refused.
     Ample,
-    /// One says that there is no memory, and what was read or written up to it is a beginning of that.
+    /// One says that there is no memory, and what was read or written up to it is a beginning of
+    /// that.
     NoMemory,
     /// The refused request was not one of the calls.
     Elsewhere,

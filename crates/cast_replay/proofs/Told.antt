@@ -8,6 +8,7 @@ appends_nothing : (known : Option (List ℕ)) → Appends known known []
 appends_nothing None = tt
 appends_nothing (Some bytes) = sym (append-nil bytes)
 
-pub told_nothing : {W : Type 0} (contents : W → Option (List ℕ)) (old new : W) (Failed : Type 0) → new ≡ old → IsTold (contents old) (contents new) [] Failed
+pub told_nothing : {W : Type 0} (contents : W → Option (List ℕ)) (old new : W) (Failed : Type 0) → new ≡ old →
+    IsTold (contents old) (contents new) [] Failed
 told_nothing contents old new Failed same =
     inl (subst (λ w. Appends (contents old) (contents w) []) (sym same) (appends_nothing (contents old)))

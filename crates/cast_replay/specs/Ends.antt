@@ -69,7 +69,8 @@ output_of (Err fault) = []
 -- what it says of a fault of the file of this name
 abbrev pub fault_text : List ℕ → RunFault → List ℕ
 fault_text name Unreadable = codes "castd: cannot read " ++ (name ++ line_feed)
-fault_text name (BadLine line reason) = codes "castd: line " ++ (decimal line ++ (codes ": " ++ (reason_text reason ++ line_feed)))
+fault_text name (BadLine line reason) =
+    codes "castd: line " ++ (decimal line ++ (codes ": " ++ (reason_text reason ++ line_feed)))
 fault_text name NoMemory = codes "castd: no memory" ++ line_feed
 
 -- what it says of an end: nothing of a log
@@ -77,11 +78,14 @@ abbrev pub complaint_of : List ℕ → End → List ℕ
 complaint_of name (Ok text) = []
 complaint_of name (Err fault) = fault_text name fault
 
--- the program had this end: its status says so, its log was written, and the writer of errors was told; contents say what each
--- writer holds, before and after
-abbrev pub IsEnd : {O E : Type 0} → (O → Option (List ℕ)) → Watched O → Watched O → (E → Option (List ℕ)) → Watched E → Watched E
+-- the program had this end: its status says so, its log was written, and the writer of errors was
+-- told; contents say what each writer holds, before and after
+abbrev pub IsEnd : {O E : Type 0} → (O → Option (List ℕ)) → Watched O → Watched O
+    → (E → Option (List ℕ)) → Watched E → Watched E
     → List ℕ → ℕ → End → Type 0
 IsEnd out_contents out out_now err_contents err err_now name status end =
     (status ≡ status_of end)
-    × IsTold (out_contents out.device) (out_contents out_now.device) (output_of end) (HasFailedOrStalled out_now)
-    × IsTold (err_contents err.device) (err_contents err_now.device) (complaint_of name end) (HasFailedOrStalled err_now)
+    × IsTold (out_contents out.device) (out_contents out_now.device) (output_of end)
+    (HasFailedOrStalled out_now)
+    × IsTold (err_contents err.device) (err_contents err_now.device) (complaint_of name end)
+    (HasFailedOrStalled err_now)

@@ -14,8 +14,8 @@ const PAUSE: u64 = 200;
 // So many bytes are a megabyte.
 const MEGABYTE: u64 = 1_000_000;
 
-/// Shows how far a replay is, in one line that is written again and again: how many bytes were read and how many events applied, and
-/// how many of these in a second.
+/// Shows how far a replay is, in one line that is written again and again: how many bytes were read
+/// and how many events applied, and how many of these in a second.
 #[derive(Drop)]
 pub struct Meter<'a, R, T> {
     clock: &'a R,

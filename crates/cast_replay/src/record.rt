@@ -129,7 +129,8 @@ impl Joined {
         }
     }
 
-    // Adds a line where it is of the part. An empty line stands for one that is not, so that lines keep their numbers in the first file.
+    // Adds a line where it is of the part. An empty line stands for one that is not, so that lines
+    // keep their numbers in the first file.
     fn add(&mut self, line: &[u8], is_first: bool) -> Result<(), NoMemory> {
         if self.takes(line, is_first) {
             self.has_domain = self.has_domain || line.starts_with(b"domain ".as_slice());
@@ -139,8 +140,8 @@ impl Joined {
         Ok(())
     }
 
-    // Adds the lines of a file. What stands behind the last line feed of a file of a folder was cut off as it was written, and is left
-    // out.
+    // Adds the lines of a file. What stands behind the last line feed of a file of a folder was cut
+    // off as it was written, and is left out.
     fn add_file(&mut self, bytes: &[u8], is_first: bool, is_whole: bool) -> Result<(), NoMemory> {
         let mut last: Option<&[u8]> = None;
         for line in bytes.split(|byte| *byte == b'\n') {
@@ -170,7 +171,8 @@ fn site_of(name: &str) -> Option<&str> {
     }
 }
 
-// What the names of the files of the one record in a folder begin with. Fails where there is none, or more than one.
+// What the names of the files of the one record in a folder begin with. Fails where there is none,
+// or more than one.
 fn site_in<R: Files + AllocGlobal + Clone + Drop>(rt: &R, folder: &str) -> io::Result<String> {
     let mut found: Option<String> = None;
     for entry in fs::read_dir(rt, folder)? {
@@ -188,7 +190,8 @@ fn site_in<R: Files + AllocGlobal + Clone + Drop>(rt: &R, folder: &str) -> io::R
     }
 }
 
-// Reads the files of the record in a folder, one after another, up to the first number that has none.
+// Reads the files of the record in a folder, one after another, up to the first number that has
+// none.
 fn join_folder<R: Files + Clock + AllocGlobal + Clone + Drop, T: Write>(
     rt: &R,
     folder: &str,
@@ -245,9 +248,10 @@ const UNREADABLE: u8 = 3;
 // The status where a script does not have the domain, as for a faulty line.
 const FAULTY: u8 = 4;
 
-/// Replays a part of the script in the file of this name, or of the record in the folder of this name, as `replay_read` does, and
-/// answers the status of the program: also 3 where the folder has more than one record, and 4 where the domain is not there. A record is
-/// replayed up to the first place where events are missing, which is said. The meter shows how far this is.
+/// Replays a part of the script in the file of this name, or of the record in the folder of this
+/// name, as `replay_read` does, and answers the status of the program: also 3 where the folder has
+/// more than one record, and 4 where the domain is not there. A record is replayed up to the first
+/// place where events are missing, which is said. The meter shows how far this is.
 pub fn replay_part<R: Files + Clock + AllocGlobal + Clone + Drop, O: Write, E: Write, T: Write>(
     rt: &R,
     name: &str,

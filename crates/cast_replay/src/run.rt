@@ -5,7 +5,8 @@ ghost use Rattle.std.specs.String.{string_bytes};
 ghost use Rattle.cast_device.specs.Watching.{HasFailedOrStalled};
 ghost use Rattle.cast_device.specs.Writing.{IsTold};
 ghost use Rattle.cast_script.specs.declared.script.ScriptFault.{ScriptFault};
-ghost use Rattle.cast_replay.specs.Ends.{Ends, EndsAs, EndsOn, IsEnd, fault_text, run_fault, status_of, unread_as, End, Reading};
+ghost use Rattle.cast_replay.specs.Ends.{Ends, EndsAs, EndsOn, IsEnd, fault_text};
+ghost use Rattle.cast_replay.specs.Ends.{run_fault, status_of, unread_as, End, Reading};
 ghost use Rattle.cast_replay.specs.declared.run.RunFault.TheVariants.{NoMemory, Unreadable};
 
 use cast_device::{Watched, tell};
@@ -66,7 +67,8 @@ impl RunFault {
 
     // Says what it is, where the file has this name.
     fn say<E: Write>(self, name: &str, err: &mut Watched<E>)
-        ensures { IsTold (E.contents err.old.device) (E.contents err.new.device) (fault_text name.now self) (HasFailedOrStalled err.new) }
+        ensures { IsTold (E.contents err.old.device) (E.contents err.new.device)
+            (fault_text name.now self) (HasFailedOrStalled err.new) }
     {
         match self {
             RunFault::Unreadable => tell(err, &["castd: cannot read ", name, "\n"]),
@@ -84,15 +86,18 @@ impl RunFault {
 /// Says that memory ran out, and answers the status of the program for it.
 pub fn no_memory<E: Write>(err: &mut Watched<E>) -> u8
     ensures status { result ≡ status_of (Err NoMemory) }
-    ensures told { IsTold (E.contents err.old.device) (E.contents err.new.device) (fault_text [] NoMemory) (HasFailedOrStalled err.new) }
+    ensures told { IsTold (E.contents err.old.device) (E.contents err.new.device)
+        (fault_text [] NoMemory) (HasFailedOrStalled err.new) }
 {
     complain("", RunFault::NoMemory, err)
 }
 
-/// Says why the file of this name has no log, and answers the status of the program for it. Takes no memory.
+/// Says why the file of this name has no log, and answers the status of the program for it. Takes
+/// no memory.
 pub fn complain<E: Write>(name: &str, fault: RunFault, err: &mut Watched<E>) -> u8
     ensures status { result ≡ status_of (Err fault) }
-    ensures told { IsTold (E.contents err.old.device) (E.contents err.new.device) (fault_text name.now fault) (HasFailedOrStalled err.new) }
+    ensures told { IsTold (E.contents err.old.device) (E.contents err.new.device)
+        (fault_text name.now fault) (HasFailedOrStalled err.new) }
 {
     fault.say(name, err);
     fault.status()
@@ -112,8 +117,9 @@ pub(crate) fn say_gap<E: Write>(events: u64, err: &mut Watched<E>) {
     );
 }
 
-/// Replays the script in a file's bytes and writes its log, or why it has none, and answers the status of the program. How far the
-/// replay is, is told meanwhile. A write that fails is passed over. What was noted of earlier calls of the writers is cleared.
+/// Replays the script in a file's bytes and writes its log, or why it has none, and answers the
+/// status of the program. How far the replay is, is told meanwhile. A write that fails is passed
+/// over. What was noted of earlier calls of the writers is cleared.
 pub fn run_script<P: Watch, O: Write, E: Write>(
     alloc: Global,
     name: &str,
@@ -123,7 +129,9 @@ pub fn run_script<P: Watch, O: Write, E: Write>(
     err: &mut Watched<E>,
 ) -> u8
     // The log, the status and the errors are those of one end.
-    ensures ended { (end : End) × Ends bytes.now end × IsEnd O.contents out.old out.new E.contents err.old err.new name.now result end }
+    ensures ended { (end : End)
+        × Ends bytes.now end
+        × IsEnd O.contents out.old out.new E.contents err.old err.new name.now result end }
     // And no writer is called that has nothing to write.
     ensures done { result ≡ 0 → err.new.device ≡ err.old.device }
     ensures failed { result ≢ 0 → out.new.device ≡ out.old.device }
@@ -139,8 +147,8 @@ pub fn run_script<P: Watch, O: Write, E: Write>(
     }
 }
 
-/// Replays the script in what was read of a file, as `run_script` does. Where that is an error, the file could not be read, or there
-/// was no memory to read it, and this is said.
+/// Replays the script in what was read of a file, as `run_script` does. Where that is an error, the
+/// file could not be read, or there was no memory to read it, and this is said.
 pub fn replay_read<P: Watch, O: Write, E: Write>(
     alloc: Global,
     name: &str,
@@ -149,7 +157,9 @@ pub fn replay_read<P: Watch, O: Write, E: Write>(
     out: &mut Watched<O>,
     err: &mut Watched<E>,
 ) -> u8
-    ensures ended { (end : End) × EndsOn read end × IsEnd O.contents out.old out.new E.contents err.old err.new name.now result end }
+    ensures ended { (end : End)
+        × EndsOn read end
+        × IsEnd O.contents out.old out.new E.contents err.old err.new name.now result end }
     ensures done { result ≡ 0 → err.new.device ≡ err.old.device }
     ensures failed { result ≢ 0 → out.new.device ≡ out.old.device }
 {
@@ -169,7 +179,8 @@ fn unread(error: &io::Error) -> RunFault
     }
 }
 
-/// Replays the script in the file of this name, as `replay_read` does, and answers the status of the program.
+/// Replays the script in the file of this name, as `replay_read` does, and answers the status of
+/// the program.
 pub fn replay_file<R: Files + AllocGlobal, P: Watch, O: Write, E: Write>(
     files: &R,
     name: &str,
@@ -178,7 +189,10 @@ pub fn replay_file<R: Files + AllocGlobal, P: Watch, O: Write, E: Write>(
     err: &mut Watched<E>,
 ) -> u8
     // No clause can say that what was read is the file.
-    ensures ended { (read : Reading) × (end : End) × EndsOn read end × IsEnd O.contents out.old out.new E.contents err.old err.new name.now result end }
+    ensures ended { (read : Reading)
+        × (end : End)
+        × EndsOn read end
+        × IsEnd O.contents out.old out.new E.contents err.old err.new name.now result end }
     ensures done { result ≡ 0 → err.new.device ≡ err.old.device }
     ensures failed { result ≢ 0 → out.new.device ≡ out.old.device }
 {
@@ -196,7 +210,8 @@ fn text_of(bytes: &[u8]) -> Result<&str, RunFault>
     }
 }
 
-/// The printed log of the script in a file's bytes, in which each domain is served as if alone, or why there is none.
+/// The printed log of the script in a file's bytes, in which each domain is served as if alone, or
+/// why there is none.
 pub fn printed_log<P: Watch>(alloc: Global, bytes: &[u8], watch: &mut P) -> Result<String, RunFault>
     ensures ends { EndsAs string_bytes bytes.now result }
 {

@@ -1,5 +1,6 @@
 ghost use Rattle.std.specs.Prelude.{◌≡◌, ◌<◌, ◌&&◌, ◌==◌, true, false, IfOk, OnOk, vec_len, not};
-ghost use Rattle.cast_rules.specs.Rules.Home.{wants, announce, decide, lead, lead_group, owe_of_home, prepare, start, want, want_bodies};
+ghost use Rattle.cast_rules.specs.Rules.Home.{wants, announce, decide, lead, lead_group};
+ghost use Rattle.cast_rules.specs.Rules.Home.{owe_of_home, prepare, start, want, want_bodies};
 ghost use Rattle.cast_domain.specs.Records.{GivesBack, KeepsBeside, records_in, Makes, StaysUnless};
 ghost use Rattle.cast_domain.specs.PartCalls.{record_at};
 ghost use Rattle.cast_domain.specs.Calls.{records};
@@ -34,13 +35,16 @@ pub(crate) fn lead(domain: &mut Domain, lent: &mut Lent<'_>) -> Result<bool, NoM
     Ok(changed)
 }
 
-// The home starts a flush of the group at a place, wants what some sites lack, and decides the next view, where these are due.
+// The home starts a flush of the group at a place, wants what some sites lack, and decides the next
+// view, where these are due.
 fn lead_group(domain: &mut Domain, place: usize, lent: &mut Lent<'_>) -> Result<bool, NoMemory>
     requires { place < vec_len domain.old.groups }
     ensures stays { KeepsBeside domain.old lent.old domain.new lent.new }
-    ensures made { OnOk result (Makes (λ r. lead_group records r place) domain.old lent.old domain.new lent.new) }
+    ensures made { OnOk result
+        (Makes (λ r. lead_group records r place) domain.old lent.old domain.new lent.new) }
     ensures still { IfOk result (StaysUnless domain.old lent.old domain.new lent.new) }
-    ensures told { IfOk result (λ changed. changed ≡ leads_in (records_in domain.old lent.old) place) }
+    ensures told { IfOk result
+        (λ changed. changed ≡ leads_in (records_in domain.old lent.old) place) }
     ensures len { vec_len domain.new.groups ≡ vec_len domain.old.groups }
 {
     let started = start_and_reckon(domain, place, lent)?;
@@ -53,9 +57,11 @@ fn lead_group(domain: &mut Domain, place: usize, lent: &mut Lent<'_>) -> Result<
 fn start(domain: &mut Domain, place: usize, lent: &mut Lent<'_>) -> Result<bool, NoMemory>
     requires { place < vec_len domain.old.groups }
     ensures stays { KeepsBeside domain.old lent.old domain.new lent.new }
-    ensures made { OnOk result (Makes (λ r. start records r place) domain.old lent.old domain.new lent.new) }
+    ensures made { OnOk result
+        (Makes (λ r. start records r place) domain.old lent.old domain.new lent.new) }
     ensures still { IfOk result (StaysUnless domain.old lent.old domain.new lent.new) }
-    ensures told { IfOk result (λ changed. changed ≡ may_start (record_at domain.old.groups.items place).home) }
+    ensures told { IfOk result
+        (λ changed. changed ≡ may_start (record_at domain.old.groups.items place).home) }
     ensures len { vec_len domain.new.groups ≡ vec_len domain.old.groups }
 {
     if !domain.record(place).home.may_start() {
@@ -66,8 +72,8 @@ fn start(domain: &mut Domain, place: usize, lent: &mut Lent<'_>) -> Result<bool,
     Ok(true)
 }
 
-// The home starts a flush where something is to change. What some sites lack is reckoned once, and not in each pass. Answers whether
-// it started one.
+// The home starts a flush where something is to change. What some sites lack is reckoned once, and
+// not in each pass. Answers whether it started one.
 fn start_and_reckon(
     domain: &mut Domain,
     place: usize,
@@ -75,9 +81,11 @@ fn start_and_reckon(
 ) -> Result<bool, NoMemory>
     requires { place < vec_len domain.old.groups }
     ensures stays { KeepsBeside domain.old lent.old domain.new lent.new }
-    ensures made { OnOk result (Makes (λ r. start records r place) domain.old lent.old domain.new lent.new) }
+    ensures made { OnOk result
+        (Makes (λ r. start records r place) domain.old lent.old domain.new lent.new) }
     ensures still { IfOk result (StaysUnless domain.old lent.old domain.new lent.new) }
-    ensures told { IfOk result (λ changed. changed ≡ may_start (record_at domain.old.groups.items place).home) }
+    ensures told { IfOk result
+        (λ changed. changed ≡ may_start (record_at domain.old.groups.items place).home) }
     ensures len { vec_len domain.new.groups ≡ vec_len domain.old.groups }
 {
     let started = start(domain, place, lent)?;
@@ -89,9 +97,12 @@ fn start_and_reckon(
 fn want_bodies(domain: &Domain, place: usize, lent: &mut Lent<'_>) -> Result<bool, NoMemory>
     requires { place < vec_len domain.now.groups }
     ensures back { GivesBack domain.now.config.domain lent.old lent.new }
-    ensures made { OnOk result (Makes (λ r. want_bodies records r place) domain.now lent.old domain.now lent.new) }
+    ensures made { OnOk result
+        (Makes (λ r. want_bodies records r place) domain.now lent.old domain.now lent.new) }
     ensures still { IfOk result (StaysUnless domain.now lent.old domain.now lent.new) }
-    ensures told { IfOk result (λ changed. changed ≡ list_any (wants_more (records_in domain.now lent.old) place) (wants records (records_in domain.now lent.old) place)) }
+    ensures told { IfOk result
+        (λ changed. changed ≡ list_any (wants_more (records_in domain.now lent.old) place)
+        (wants records (records_in domain.now lent.old) place)) }
 {
     let wants = domain.wants(place)?;
     let changed = want_all(domain, place, wants.as_slice(), lent)?;
@@ -107,9 +118,11 @@ fn want_all(
 ) -> Result<bool, NoMemory>
     requires { place < vec_len domain.now.groups }
     ensures back { GivesBack domain.now.config.domain lent.old lent.new }
-    ensures made { OnOk result (Makes (λ r. fold (want records place) r wants.now) domain.now lent.old domain.now lent.new) }
+    ensures made { OnOk result (Makes (λ r. fold (want records place) r wants.now)
+        domain.now lent.old domain.now lent.new) }
     ensures still { IfOk result (StaysUnless domain.now lent.old domain.now lent.new) }
-    ensures told { IfOk result (λ changed. changed ≡ list_any (wants_more (records_in domain.now lent.old) place) wants.now) }
+    ensures told { IfOk result (λ changed.
+        changed ≡ list_any (wants_more (records_in domain.now lent.old) place) wants.now) }
 {
     let mut changed = false;
     for wanted in wants {
@@ -128,9 +141,11 @@ fn want(
 ) -> Result<bool, NoMemory>
     requires { place < vec_len domain.now.groups }
     ensures back { GivesBack domain.now.config.domain lent.old lent.new }
-    ensures made { OnOk result (Makes (λ r. want records place r wanted) domain.now lent.old domain.now lent.new) }
+    ensures made { OnOk result
+        (Makes (λ r. want records place r wanted) domain.now lent.old domain.now lent.new) }
     ensures still { IfOk result (StaysUnless domain.now lent.old domain.now lent.new) }
-    ensures told { IfOk result (λ changed. changed ≡ wants_more (records_in domain.now lent.old) place wanted) }
+    ensures told { IfOk result
+        (λ changed. changed ≡ wants_more (records_in domain.now lent.old) place wanted) }
 {
     let key = want_key(domain.record(place).name, wanted);
     if lent.shared.timers.is_owed(domain.config.domain, &key) {
@@ -144,9 +159,12 @@ fn want(
 fn decide(domain: &mut Domain, place: usize, lent: &mut Lent<'_>) -> Result<bool, NoMemory>
     requires { place < vec_len domain.old.groups }
     ensures stays { KeepsBeside domain.old lent.old domain.new lent.new }
-    ensures made { OnOk result (Makes (λ r. decide records r place) domain.old lent.old domain.new lent.new) }
+    ensures made { OnOk result
+        (Makes (λ r. decide records r place) domain.old lent.old domain.new lent.new) }
     ensures still { IfOk result (StaysUnless domain.old lent.old domain.new lent.new) }
-    ensures told { IfOk result (λ changed. changed ≡ may_decide (record_at domain.old.groups.items place).name (record_at domain.old.groups.items place).home) }
+    ensures told { IfOk result
+        (λ changed. changed ≡ may_decide (record_at domain.old.groups.items place).name
+        (record_at domain.old.groups.items place).home) }
     ensures len { vec_len domain.new.groups ≡ vec_len domain.old.groups }
 {
     let record = domain.record(place);
@@ -162,7 +180,8 @@ fn decide(domain: &mut Domain, place: usize, lent: &mut Lent<'_>) -> Result<bool
 fn prepare(domain: &Domain, place: usize, lent: &mut Lent<'_>) -> Result<(), NoMemory>
     requires { place < vec_len domain.now.groups }
     ensures back { GivesBack domain.now.config.domain lent.old lent.new }
-    ensures made { OnOk result (Makes (λ r. prepare records r place) domain.now lent.old domain.now lent.new) }
+    ensures made { OnOk result
+        (Makes (λ r. prepare records r place) domain.now lent.old domain.now lent.new) }
 {
     let home = &domain.record(place).home;
     owe_of_home(
@@ -179,7 +198,8 @@ fn prepare(domain: &Domain, place: usize, lent: &mut Lent<'_>) -> Result<(), NoM
 fn announce(domain: &Domain, place: usize, lent: &mut Lent<'_>) -> Result<(), NoMemory>
     requires { place < vec_len domain.now.groups }
     ensures back { GivesBack domain.now.config.domain lent.old lent.new }
-    ensures made { OnOk result (Makes (λ r. announce records r place) domain.now lent.old domain.now lent.new) }
+    ensures made { OnOk result
+        (Makes (λ r. announce records r place) domain.now lent.old domain.now lent.new) }
 {
     let home = &domain.record(place).home;
     owe_of_home(
@@ -202,7 +222,8 @@ fn owe_of_home(
 ) -> Result<(), NoMemory>
     requires { place < vec_len domain.now.groups }
     ensures back { GivesBack domain.now.config.domain lent.old lent.new }
-    ensures made { OnOk result (Makes (λ r. fold (owe_of_home records kind place) r sites.now) domain.now lent.old domain.now lent.new) }
+    ensures made { OnOk result (Makes (λ r. fold (owe_of_home records kind place) r sites.now)
+        domain.now lent.old domain.now lent.new) }
 {
     for site in sites {
         owe_to(domain, kind, place, *site, lent)?;
@@ -220,7 +241,8 @@ fn owe_to(
 ) -> Result<(), NoMemory>
     requires { place < vec_len domain.now.groups }
     ensures back { GivesBack domain.now.config.domain lent.old lent.new }
-    ensures made { OnOk result (Makes (λ r. owe_of_home records kind place r to) domain.now lent.old domain.now lent.new) }
+    ensures made { OnOk result
+        (Makes (λ r. owe_of_home records kind place r to) domain.now lent.old domain.now lent.new) }
 {
     domain.owe(home_key(kind, domain.record(place).name, to), lent)
 }

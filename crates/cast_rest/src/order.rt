@@ -1,15 +1,19 @@
-ghost use Rattle.std.specs.Prelude.{◌≡◌, ◌<◌, OnOk, true, false, None, IfOk, vec_len, ◌&&◌, ◌||◌, not, Some};
-ghost use Rattle.cast_domain.specs.Records.{Keeps, KeepsBeside, records_in, Makes, MakesAlone, own_records, StaysUnless, TellsAlone};
+ghost use Rattle.std.specs.Prelude.{◌≡◌, ◌<◌, OnOk, true, false, None};
+ghost use Rattle.std.specs.Prelude.{IfOk, vec_len, ◌&&◌, ◌||◌, not, Some};
+ghost use Rattle.cast_domain.specs.Records.{Keeps, KeepsBeside, records_in, Makes};
+ghost use Rattle.cast_domain.specs.Records.{MakesAlone, own_records, StaysUnless, TellsAlone};
 ghost use Rattle.cast_domain.specs.PartCalls.{record_at, added_if};
 ghost use Rattle.cast_domain.specs.FlushCalls.{holds_here, holders_in};
 ghost use Rattle.cast_domain.specs.Calls.{records};
-ghost use Rattle.cast_domain.specs.RestCalls.{resting_records, sets_order_in, note_delivery_in, raised_at, may_list_of, told_in};
+ghost use Rattle.cast_domain.specs.RestCalls.{resting_records, sets_order_in, note_delivery_in};
+ghost use Rattle.cast_domain.specs.RestCalls.{raised_at, may_list_of, told_in};
 ghost use Rattle.std.specs.List.{fold};
 ghost use Rattle.cast_types.specs.Names.{entry_of};
 ghost use Rattle.cast_ready.specs.Ready.{is_member};
 ghost use Rattle.cast_domain.specs.Freed.{AreNotFree};
 ghost use Rattle.cast_domain.specs.Flags.{lists_some, orders_at, orders_each, orders_some};
-ghost use Rattle.cast_rules.specs.Rules.Order.{may_list, send_places, set_order_by, set_order, set_orders};
+ghost use Rattle.cast_rules.specs.Rules.Order.{may_list, send_places, set_order_by};
+ghost use Rattle.cast_rules.specs.Rules.Order.{set_order, set_orders};
 
 use crate::turns::is_held_by;
 use cast_clock::Times;
@@ -33,7 +37,8 @@ fn holders(domain: &Domain, group: GroupNo) -> Result<Vec<u32>, NoMemory>
 
 // Adds the serial of a process, if it holds the token.
 fn add_holder(domain: &Domain, hand: &OrderHand, holders: &mut Vec<u32>) -> Result<(), NoMemory>
-    ensures { OnOk result (holders.new.items ≡ added_if (holds_here (own_records domain.now) hand.now) hand.now.process.serial holders.old.items) }
+    ensures { OnOk result (holders.new.items ≡ added_if
+        (holds_here (own_records domain.now) hand.now) hand.now.process.serial holders.old.items) }
 {
     if domain.holds_here(hand) {
         holders.push(hand.process.serial)?;
@@ -41,11 +46,12 @@ fn add_holder(domain: &Domain, hand: &OrderHand, holders: &mut Vec<u32>) -> Resu
     Ok(())
 }
 
-// Notes that a process delivered an ABCAST: the holder of a group that is not frozen has one more to list, another process
-// may have passed places.
+// Notes that a process delivered an ABCAST: the holder of a group that is not frozen has one more
+// to list, another process may have passed places.
 pub(crate) fn note_delivery(domain: &mut Domain, process: Proc, id: Uid) -> Result<(), NoMemory>
     ensures same { Keeps domain.old domain.new }
-    ensures made { OnOk result (MakesAlone (λ r. note_delivery_in r process id) domain.old domain.new) }
+    ensures made { OnOk result
+        (MakesAlone (λ r. note_delivery_in r process id) domain.old domain.new) }
 {
     if sets_order(domain, id.group, process) {
         return tell_delivery(domain, process, id);
@@ -57,10 +63,13 @@ pub(crate) fn note_delivery(domain: &mut Domain, process: Proc, id: Uid) -> Resu
     domain.orders.pass(id.group, process, passed)
 }
 
-// Notes that a process that holds the token delivered an ABCAST: it has one more to list, if that is not in the order known.
+// Notes that a process that holds the token delivered an ABCAST: it has one more to list, if that
+// is not in the order known.
 fn tell_delivery(domain: &mut Domain, process: Proc, id: Uid) -> Result<(), NoMemory>
     ensures same { Keeps domain.old domain.new }
-    ensures made { OnOk result (MakesAlone (λ r. record r { orders = told_in id.group process (entry_of id) r.orders }) domain.old domain.new) }
+    ensures made { OnOk result
+        (MakesAlone (λ r. record r { orders = told_in id.group process (entry_of id) r.orders })
+        domain.old domain.new) }
 {
     if domain.orders.knows(id.group, None, (id.proc, id.count)) {
         return Ok(());
@@ -68,7 +77,8 @@ fn tell_delivery(domain: &mut Domain, process: Proc, id: Uid) -> Result<(), NoMe
     domain.orders.tell(id.group, process, (id.proc, id.count))
 }
 
-// Whether a process holds the token of a group's view and sets its order, which it does while no flush has frozen the group.
+// Whether a process holds the token of a group's view and sets its order, which it does while no
+// flush has frozen the group.
 fn sets_order(domain: &Domain, group: GroupNo, process: Proc) -> bool
     ensures { TellsAlone (λ r. sets_order_in r group process) domain.now result }
 {
@@ -81,10 +91,12 @@ fn sets_order(domain: &Domain, group: GroupNo, process: Proc) -> bool
 // The holders at this site set orders, by group. Answers whether anything changed.
 pub(crate) fn set_orders(domain: &mut Domain, lent: &mut Lent<'_>) -> Result<bool, NoMemory>
     ensures stays { KeepsBeside domain.old lent.old domain.new lent.new }
-    ensures made { OnOk result (Makes (set_orders records resting_records) domain.old lent.old domain.new lent.new) }
+    ensures made { OnOk result
+        (Makes (set_orders records resting_records) domain.old lent.old domain.new lent.new) }
     ensures still { IfOk result (StaysUnless domain.old lent.old domain.new lent.new) }
     ensures told { IfOk result (λ changed. changed ≡ orders_some (records_in domain.old lent.old)) }
-    ensures none { OnOk result (AreNotFree (records_in domain.old lent.old) → AreNotFree (records_in domain.new lent.new)) }
+    ensures none { OnOk result (AreNotFree (records_in domain.old lent.old)
+        → AreNotFree (records_in domain.new lent.new)) }
 {
     if !domain.orders.some_wait() {
         return Ok(false);
@@ -101,11 +113,14 @@ pub(crate) fn set_orders(domain: &mut Domain, lent: &mut Lent<'_>) -> Result<boo
 fn set_order(domain: &mut Domain, place: usize, lent: &mut Lent<'_>) -> Result<bool, NoMemory>
     requires { place < vec_len domain.old.groups }
     ensures stays { KeepsBeside domain.old lent.old domain.new lent.new }
-    ensures made { OnOk result (Makes (λ r. set_order records resting_records r place) domain.old lent.old domain.new lent.new) }
+    ensures made { OnOk result (Makes (λ r. set_order records resting_records r place)
+        domain.old lent.old domain.new lent.new) }
     ensures still { IfOk result (StaysUnless domain.old lent.old domain.new lent.new) }
-    ensures told { IfOk result (λ changed. changed ≡ orders_at (records_in domain.old lent.old) place) }
+    ensures told { IfOk result
+        (λ changed. changed ≡ orders_at (records_in domain.old lent.old) place) }
     ensures len { vec_len domain.new.groups ≡ vec_len domain.old.groups }
-    ensures none { OnOk result (AreNotFree (records_in domain.old lent.old) → AreNotFree (records_in domain.new lent.new)) }
+    ensures none { OnOk result (AreNotFree (records_in domain.old lent.old)
+        → AreNotFree (records_in domain.new lent.new)) }
 {
     let group = domain.record(place).name;
     if !domain.orders.waits(group) {
@@ -124,11 +139,15 @@ fn set_order_by_each(
 ) -> Result<bool, NoMemory>
     requires { place < vec_len domain.old.groups }
     ensures stays { KeepsBeside domain.old lent.old domain.new lent.new }
-    ensures made { OnOk result (Makes (λ r. fold (λ t k. set_order_by records resting_records t place k) r holders.now) domain.old lent.old domain.new lent.new) }
+    ensures made { OnOk result
+        (Makes (λ r. fold (λ t k. set_order_by records resting_records t place k) r holders.now)
+        domain.old lent.old domain.new lent.new) }
     ensures still { IfOk result (StaysUnless domain.old lent.old domain.new lent.new) }
-    ensures told { IfOk result (λ changed. changed ≡ orders_each (records_in domain.old lent.old) place holders.now) }
+    ensures told { IfOk result
+        (λ changed. changed ≡ orders_each (records_in domain.old lent.old) place holders.now) }
     ensures len { vec_len domain.new.groups ≡ vec_len domain.old.groups }
-    ensures none { OnOk result (AreNotFree (records_in domain.old lent.old) → AreNotFree (records_in domain.new lent.new)) }
+    ensures none { OnOk result (AreNotFree (records_in domain.old lent.old)
+        → AreNotFree (records_in domain.new lent.new)) }
 {
     let mut changed = false;
     for serial in holders {
@@ -147,11 +166,14 @@ fn set_order_by(
 ) -> Result<bool, NoMemory>
     requires { place < vec_len domain.old.groups }
     ensures stays { KeepsBeside domain.old lent.old domain.new lent.new }
-    ensures made { OnOk result (Makes (λ r. set_order_by records resting_records r place serial) domain.old lent.old domain.new lent.new) }
+    ensures made { OnOk result (Makes (λ r. set_order_by records resting_records r place serial)
+        domain.old lent.old domain.new lent.new) }
     ensures still { IfOk result (StaysUnless domain.old lent.old domain.new lent.new) }
-    ensures told { IfOk result (λ changed. changed ≡ lists_some (records_in domain.old lent.old) place serial) }
+    ensures told { IfOk result
+        (λ changed. changed ≡ lists_some (records_in domain.old lent.old) place serial) }
     ensures len { vec_len domain.new.groups ≡ vec_len domain.old.groups }
-    ensures none { OnOk result (AreNotFree (records_in domain.old lent.old) → AreNotFree (records_in domain.new lent.new)) }
+    ensures none { OnOk result (AreNotFree (records_in domain.old lent.old)
+        → AreNotFree (records_in domain.new lent.new)) }
 {
     let holder = domain.process(serial);
     let group = domain.record(place).name;
@@ -169,11 +191,12 @@ fn set_order_by(
     Ok(true)
 }
 
-// Whether the holder is a member of the group at a place, which no flush has frozen, and there is room for one more set-order
-// message.
+// Whether the holder is a member of the group at a place, which no flush has frozen, and there is
+// room for one more set-order message.
 fn may_list(domain: &Domain, place: usize, holder: Proc, lent: &Lent<'_>) -> bool
     requires { place < vec_len domain.now.groups }
-    ensures { result ≡ may_list_of (records_in domain.now lent.now) (record_at domain.now.groups.items place) holder }
+    ensures { result ≡ may_list_of (records_in domain.now lent.now)
+        (record_at domain.now.groups.items place) holder }
 {
     let record = domain.record(place);
     is_member(domain.delay.standing(holder, record.name))
@@ -195,7 +218,9 @@ fn send_places(
     requires raised { time ≡ raised_at (own_records domain.old) place serial }
     requires stamped { stamp ≡ time }
     ensures stays { KeepsBeside domain.old lent.old domain.new lent.new }
-    ensures made { OnOk result (Makes (λ r. send_places records resting_records r place serial places) domain.old lent.old domain.new lent.new) }
+    ensures made { OnOk result
+        (Makes (λ r. send_places records resting_records r place serial places)
+        domain.old lent.old domain.new lent.new) }
     ensures len { vec_len domain.new.groups ≡ vec_len domain.old.groups }
 {
     let holder = domain.process(serial);

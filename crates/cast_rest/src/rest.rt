@@ -1,9 +1,12 @@
 ghost use Rattle.std.specs.Prelude.{◌≡◌, ◌<◌, None, IfOk, Some, true, false, OnOk, ◌==◌};
 ghost use Rattle.cast_domain.specs.Calls.{records};
-ghost use Rattle.cast_domain.specs.RestCalls.{delivery_of, weight_of, resting_records, deliver_as, note_weight_in, take_delivery_in};
+ghost use Rattle.cast_domain.specs.RestCalls.{delivery_of, weight_of, resting_records};
+ghost use Rattle.cast_domain.specs.RestCalls.{deliver_as, note_weight_in, take_delivery_in};
 ghost use Rattle.cast_domain.specs.declared.rest.Weight.TheVariants.{Hands};
-ghost use Rattle.cast_rules.specs.Rules.Rest.{told_of, tell_if, deliver_first, deliver_all, settle, pass};
-ghost use Rattle.cast_domain.specs.Records.{Keeps, KeepsBeside, records_in, Makes, MakesAlone, MakesWithOuts, StaysUnless};
+ghost use Rattle.cast_rules.specs.Rules.Rest.{told_of, tell_if, deliver_first};
+ghost use Rattle.cast_rules.specs.Rules.Rest.{deliver_all, settle, pass};
+ghost use Rattle.cast_domain.specs.Records.{Keeps, KeepsBeside, records_in, Makes};
+ghost use Rattle.cast_domain.specs.Records.{MakesAlone, MakesWithOuts, StaysUnless};
 ghost use Rattle.cast_rules.specs.Rules.Flushes.{go_on_all};
 ghost use Rattle.cast_rules.specs.Rules.Home.{lead, wants};
 ghost use Rattle.cast_rules.specs.Rules.Order.{set_orders};
@@ -29,9 +32,13 @@ use std::alloc::AllocError;
 // What follows from an event, until nothing changes. No run makes 2^64 passes.
 pub fn rest(domain: &mut Domain, lent: &mut Lent<'_>) -> Result<(), NoMemory>
     ensures stays { KeepsBeside domain.old lent.old domain.new lent.new }
-    ensures dismissed { OnOk result (AreNotFree (records_in domain.old lent.old) → AreDismissed (records_in domain.old lent.old) → AreDismissed (records_in domain.new lent.new)) }
-    ensures rests { OnOk result (AreNotFree (records_in domain.old lent.old) → IsRested (records_in domain.old lent.old) (records_in domain.new lent.new)) }
-    ensures none { OnOk result (AreNotFree (records_in domain.old lent.old) → AreNotFree (records_in domain.new lent.new)) }
+    ensures dismissed { OnOk result
+        (AreNotFree (records_in domain.old lent.old) → AreDismissed (records_in domain.old lent.old)
+        → AreDismissed (records_in domain.new lent.new)) }
+    ensures rests { OnOk result (AreNotFree (records_in domain.old lent.old)
+        → IsRested (records_in domain.old lent.old) (records_in domain.new lent.new)) }
+    ensures none { OnOk result (AreNotFree (records_in domain.old lent.old)
+        → AreNotFree (records_in domain.new lent.new)) }
 {
     for _turn in 0..u64::MAX {
         if !pass(domain, lent)? {
@@ -41,14 +48,17 @@ pub fn rest(domain: &mut Domain, lent: &mut Lent<'_>) -> Result<(), NoMemory>
     Err(AllocError)
 }
 
-// Deliveries by serial; then by group set-order messages; then by group Installs and what the site wants; then by group the
-// home. Answers whether anything changed.
+// Deliveries by serial; then by group set-order messages; then by group Installs and what the site
+// wants; then by group the home. Answers whether anything changed.
 fn pass(domain: &mut Domain, lent: &mut Lent<'_>) -> Result<bool, NoMemory>
     ensures stays { KeepsBeside domain.old lent.old domain.new lent.new }
-    ensures made { OnOk result (AreNotFree (records_in domain.old lent.old) → Makes (pass records resting_records) domain.old lent.old domain.new lent.new) }
+    ensures made { OnOk result (AreNotFree (records_in domain.old lent.old)
+        → Makes (pass records resting_records) domain.old lent.old domain.new lent.new) }
     ensures still { IfOk result (StaysUnless domain.old lent.old domain.new lent.new) }
-    ensures told { IfOk result (λ changed. AreNotFree (records_in domain.old lent.old) → changed ≡ passes_some (records_in domain.old lent.old)) }
-    ensures none { OnOk result (AreNotFree (records_in domain.old lent.old) → AreNotFree (records_in domain.new lent.new)) }
+    ensures told { IfOk result (λ changed. AreNotFree (records_in domain.old lent.old)
+        → changed ≡ passes_some (records_in domain.old lent.old)) }
+    ensures none { OnOk result (AreNotFree (records_in domain.old lent.old)
+        → AreNotFree (records_in domain.new lent.new)) }
 {
     let settled = settle(domain, lent)?;
     let ordered = set_orders(domain, lent)?;
@@ -60,10 +70,13 @@ fn pass(domain: &mut Domain, lent: &mut Lent<'_>) -> Result<bool, NoMemory>
 // Each process delivers until nothing is ready for it. Where each message is settled, nothing is.
 fn settle(domain: &mut Domain, lent: &mut Lent<'_>) -> Result<bool, NoMemory>
     ensures stays { KeepsBeside domain.old lent.old domain.new lent.new }
-    ensures made { OnOk result (AreNotFree (records_in domain.old lent.old) → Makes (settle records resting_records) domain.old lent.old domain.new lent.new) }
+    ensures made { OnOk result (AreNotFree (records_in domain.old lent.old)
+        → Makes (settle records resting_records) domain.old lent.old domain.new lent.new) }
     ensures still { IfOk result (StaysUnless domain.old lent.old domain.new lent.new) }
-    ensures told { IfOk result (λ changed. AreNotFree (records_in domain.old lent.old) → changed ≡ delivers_some (records_in domain.old lent.old)) }
-    ensures none { OnOk result (AreNotFree (records_in domain.old lent.old) → AreNotFree (records_in domain.new lent.new)) }
+    ensures told { IfOk result (λ changed. AreNotFree (records_in domain.old lent.old)
+        → changed ≡ delivers_some (records_in domain.old lent.old)) }
+    ensures none { OnOk result (AreNotFree (records_in domain.old lent.old)
+        → AreNotFree (records_in domain.new lent.new)) }
 {
     if domain.delay.is_settled() {
         return Ok(false);
@@ -74,10 +87,13 @@ fn settle(domain: &mut Domain, lent: &mut Lent<'_>) -> Result<bool, NoMemory>
 // One process after the other delivers; those that are in no group are passed over.
 fn settle_each(domain: &mut Domain, lent: &mut Lent<'_>) -> Result<bool, NoMemory>
     ensures stays { KeepsBeside domain.old lent.old domain.new lent.new }
-    ensures made { OnOk result (AreNotFree (records_in domain.old lent.old) → Makes (settle records resting_records) domain.old lent.old domain.new lent.new) }
+    ensures made { OnOk result (AreNotFree (records_in domain.old lent.old)
+        → Makes (settle records resting_records) domain.old lent.old domain.new lent.new) }
     ensures still { IfOk result (StaysUnless domain.old lent.old domain.new lent.new) }
-    ensures told { IfOk result (λ changed. AreNotFree (records_in domain.old lent.old) → changed ≡ delivers_some (records_in domain.old lent.old)) }
-    ensures none { OnOk result (AreNotFree (records_in domain.old lent.old) → AreNotFree (records_in domain.new lent.new)) }
+    ensures told { IfOk result (λ changed. AreNotFree (records_in domain.old lent.old)
+        → changed ≡ delivers_some (records_in domain.old lent.old)) }
+    ensures none { OnOk result (AreNotFree (records_in domain.old lent.old)
+        → AreNotFree (records_in domain.new lent.new)) }
 {
     let count = domain.delay.admitted_count();
     let mut changed = false;
@@ -95,10 +111,13 @@ fn settle_each(domain: &mut Domain, lent: &mut Lent<'_>) -> Result<bool, NoMemor
 // A process looks at the messages that came since, and then delivers until nothing is ready for it.
 fn deliver_to(domain: &mut Domain, serial: u32, lent: &mut Lent<'_>) -> Result<bool, NoMemory>
     ensures stays { KeepsBeside domain.old lent.old domain.new lent.new }
-    ensures made { OnOk result (AreNotFree (records_in domain.old lent.old) → Makes (λ r. deliver_all records resting_records r serial) domain.old lent.old domain.new lent.new) }
+    ensures made { OnOk result (AreNotFree (records_in domain.old lent.old) → Makes (λ r.
+        deliver_all records resting_records r serial) domain.old lent.old domain.new lent.new) }
     ensures still { IfOk result (StaysUnless domain.old lent.old domain.new lent.new) }
-    ensures told { IfOk result (λ changed. changed ≡ has_ready (records_in domain.old lent.old) serial) }
-    ensures none { OnOk result (AreNotFree (records_in domain.old lent.old) → AreNotFree (records_in domain.new lent.new)) }
+    ensures told { IfOk result
+        (λ changed. changed ≡ has_ready (records_in domain.old lent.old) serial) }
+    ensures none { OnOk result (AreNotFree (records_in domain.old lent.old)
+        → AreNotFree (records_in domain.new lent.new)) }
 {
     let process = domain.process(serial);
     domain.delay.look(process);
@@ -108,10 +127,13 @@ fn deliver_to(domain: &mut Domain, serial: u32, lent: &mut Lent<'_>) -> Result<b
 // A process delivers until nothing is ready for it. It delivers no message twice.
 fn deliver_all(domain: &mut Domain, serial: u32, lent: &mut Lent<'_>) -> Result<bool, NoMemory>
     ensures stays { KeepsBeside domain.old lent.old domain.new lent.new }
-    ensures made { OnOk result (AreNotFree (records_in domain.old lent.old) → Makes (λ r. deliver_all records resting_records r serial) domain.old lent.old domain.new lent.new) }
+    ensures made { OnOk result (AreNotFree (records_in domain.old lent.old) → Makes (λ r.
+        deliver_all records resting_records r serial) domain.old lent.old domain.new lent.new) }
     ensures still { IfOk result (StaysUnless domain.old lent.old domain.new lent.new) }
-    ensures told { IfOk result (λ changed. changed ≡ has_ready (records_in domain.old lent.old) serial) }
-    ensures none { OnOk result (AreNotFree (records_in domain.old lent.old) → AreNotFree (records_in domain.new lent.new)) }
+    ensures told { IfOk result
+        (λ changed. changed ≡ has_ready (records_in domain.old lent.old) serial) }
+    ensures none { OnOk result (AreNotFree (records_in domain.old lent.old)
+        → AreNotFree (records_in domain.new lent.new)) }
 {
     let mut changed = false;
     for _turn in 0..domain.held_count(lent) {
@@ -123,13 +145,17 @@ fn deliver_all(domain: &mut Domain, serial: u32, lent: &mut Lent<'_>) -> Result<
     Ok(changed)
 }
 
-// A process delivers the first message that is ready for it, and what is free then is let go. Answers whether there was one.
+// A process delivers the first message that is ready for it, and what is free then is let go.
+// Answers whether there was one.
 fn deliver_first(domain: &mut Domain, serial: u32, lent: &mut Lent<'_>) -> Result<bool, NoMemory>
     ensures stays { KeepsBeside domain.old lent.old domain.new lent.new }
-    ensures made { OnOk result (AreNotFree (records_in domain.old lent.old) → Makes (deliver_first records resting_records serial) domain.old lent.old domain.new lent.new) }
+    ensures made { OnOk result (AreNotFree (records_in domain.old lent.old) → Makes
+        (deliver_first records resting_records serial) domain.old lent.old domain.new lent.new) }
     ensures still { IfOk result (StaysUnless domain.old lent.old domain.new lent.new) }
-    ensures told { IfOk result (λ changed. changed ≡ has_ready (records_in domain.old lent.old) serial) }
-    ensures none { OnOk result (AreNotFree (records_in domain.old lent.old) → AreNotFree (records_in domain.new lent.new)) }
+    ensures told { IfOk result
+        (λ changed. changed ≡ has_ready (records_in domain.old lent.old) serial) }
+    ensures none { OnOk result (AreNotFree (records_in domain.old lent.old)
+        → AreNotFree (records_in domain.new lent.new)) }
 {
     let process = domain.process(serial);
     let Some(key) = next_ready(domain, process, lent)? else {
@@ -146,13 +172,15 @@ fn deliver_first(domain: &mut Domain, serial: u32, lent: &mut Lent<'_>) -> Resul
     Ok(true)
 }
 
-// Lets go of what is free after a delivery. Where nothing was free before it, those are messages of one source, but where the
-// outbox was full: the session may have been closed then, and its process have left all groups. Nothing is pushed of a set-order
-// message.
+// Lets go of what is free after a delivery. Where nothing was free before it, those are messages of
+// one source, but where the outbox was full: the session may have been closed then, and its process
+// have left all groups. Nothing is pushed of a set-order message.
 fn let_go_delivered(domain: &mut Domain, full: bool, source: Source, lent: &mut Lent<'_>)
     ensures stays { KeepsBeside domain.old lent.old domain.new lent.new }
-    ensures made { (full ≡ false → AreNotFreeBut source (records_in domain.old lent.old)) → Makes (let_go records resting_records) domain.old lent.old domain.new lent.new }
-    ensures none { (full ≡ false → AreNotFreeBut source (records_in domain.old lent.old)) → AreNotFree (records_in domain.new lent.new) }
+    ensures made { (full ≡ false → AreNotFreeBut source (records_in domain.old lent.old))
+        → Makes (let_go records resting_records) domain.old lent.old domain.new lent.new }
+    ensures none { (full ≡ false → AreNotFreeBut source (records_in domain.old lent.old))
+        → AreNotFree (records_in domain.new lent.new) }
 {
     if full {
         domain.let_go(lent);
@@ -170,7 +198,8 @@ fn deliver(
     lent: &mut Lent<'_>,
 ) -> Result<(), NoMemory>
     ensures stays { KeepsBeside domain.old lent.old domain.new lent.new }
-    ensures made { OnOk result (Makes (λ r. deliver_as r process key delivery) domain.old lent.old domain.new lent.new) }
+    ensures made { OnOk result
+        (Makes (λ r. deliver_as r process key delivery) domain.old lent.old domain.new lent.new) }
 {
     take_delivery(domain, process, key, delivery.id, lent.outs)?;
     note_weight(domain, delivery.weight, process, delivery.id)?;
@@ -187,7 +216,8 @@ fn take_delivery(
     outs: &mut Outs,
 ) -> Result<(), NoMemory>
     ensures same { Keeps domain.old domain.new }
-    ensures made { OnOk result (MakesWithOuts (λ r. take_delivery_in r process key id) domain.old outs.old domain.new outs.new) }
+    ensures made { OnOk result (MakesWithOuts (λ r. take_delivery_in r process key id)
+        domain.old outs.old domain.new outs.new) }
 {
     domain.delay.note_delivered(process, key)?;
     outs.delivered.push((domain.config.domain, process, id))?;
@@ -197,7 +227,8 @@ fn take_delivery(
 // Notes for the order of its view that a process delivered a message.
 fn note_weight(domain: &mut Domain, weight: Weight, process: Proc, id: Uid) -> Result<(), NoMemory>
     ensures same { Keeps domain.old domain.new }
-    ensures made { OnOk result (MakesAlone (λ r. note_weight_in weight r process id) domain.old domain.new) }
+    ensures made { OnOk result
+        (MakesAlone (λ r. note_weight_in weight r process id) domain.old domain.new) }
 {
     match weight {
         Weight::Nothing => Ok(()),
@@ -215,7 +246,8 @@ fn take_token(
     id: Uid,
 ) -> Result<(), NoMemory>
     ensures same { Keeps domain.old domain.new }
-    ensures made { OnOk result (MakesAlone (λ r. note_weight_in (Hands holder first) r process id) domain.old domain.new) }
+    ensures made { OnOk result
+        (MakesAlone (λ r. note_weight_in (Hands holder first) r process id) domain.old domain.new) }
 {
     if holder == process {
         domain.orders.hold(id.group, process, first)?;
@@ -231,7 +263,8 @@ fn push_delivery(
     lent: &mut Lent<'_>,
 ) -> Result<(), NoMemory>
     ensures stays { KeepsBeside domain.old lent.old domain.new lent.new }
-    ensures made { OnOk result (Makes (λ r. tell_if records r process.serial push) domain.old lent.old domain.new lent.new) }
+    ensures made { OnOk result (Makes (λ r. tell_if records r process.serial push)
+        domain.old lent.old domain.new lent.new) }
 {
     match push {
         Some(push) => domain.push(process.serial, push, lent),

@@ -1,9 +1,11 @@
-ghost use Rattle.std.specs.Prelude.{◌≡◌, ◌<◌, None, IfOk, length, ◌&&◌, ◌||◌, ◌==◌, min, nat_lt, Some};
+ghost use Rattle.std.specs.Prelude.{◌≡◌, ◌<◌, None, IfOk, length, ◌&&◌};
+ghost use Rattle.std.specs.Prelude.{◌||◌, ◌==◌, min, nat_lt, Some};
 ghost use Rattle.cast_domain.specs.Records.{records_in, own_records};
 ghost use Rattle.cast_types.specs.declared.limits.TheConstants.{MAX_POSITION};
 ghost use Rattle.cast_order.specs.Log.{log_of, places_by};
 ghost use Rattle.cast_domain.specs.ReleaseCalls.{waiting_past, unsettled_at};
-ghost use Rattle.cast_domain.specs.RestCalls.{ready_key_in, turn_at, turns_in, sets_order_at, has_room_at};
+ghost use Rattle.cast_domain.specs.RestCalls.{ready_key_in, turn_at, turns_in};
+ghost use Rattle.cast_domain.specs.RestCalls.{sets_order_at, has_room_at};
 
 use cast_domain::Domain;
 use cast_domain::lent::Lent;
@@ -13,7 +15,8 @@ use cast_ready::Turn;
 use cast_types::limits::{MAX_POSITION, MAX_UNSETTLED};
 use cast_types::{GroupNo, Key, NoMemory, Proc};
 
-// The key of the first message that is ready for a process. Its turns are asked for only where an ABCAST may be.
+// The key of the first message that is ready for a process. Its turns are asked for only where an
+// ABCAST may be.
 pub(crate) fn next_ready(
     domain: &Domain,
     process: Proc,
@@ -33,7 +36,8 @@ pub(crate) fn next_ready(
 
 // The turns of a process, by group.
 fn turns(domain: &Domain, process: Proc, lent: &Lent<'_>) -> Result<Vec<(GroupNo, Turn)>, NoMemory>
-    ensures { IfOk result (λ turns. turns.items ≡ turns_in (records_in domain.now lent.now) process) }
+    ensures { IfOk result
+        (λ turns. turns.items ≡ turns_in (records_in domain.now lent.now) process) }
 {
     let alloc = *domain.groups.allocator();
     let mut turns = Vec::new(alloc);
@@ -74,9 +78,11 @@ fn turn_by(
     Turn::Following(ids.get(passed).copied())
 }
 
-// Whether a process holds the token of a group's view and sets its order, which it does while no flush has frozen the group.
+// Whether a process holds the token of a group's view and sets its order, which it does while no
+// flush has frozen the group.
 pub(crate) fn is_held_by(domain: &Domain, kept: &GroupRecord, process: Proc) -> bool
-    ensures { result ≡ sets_order_at (log_of domain.now.orders kept.now.name) process kept.now.here }
+    ensures { result
+        ≡ sets_order_at (log_of domain.now.orders kept.now.name) process kept.now.here }
 {
     domain.orders.first(kept.name, process).is_some() && !kept.here.is_frozen()
 }
@@ -98,23 +104,27 @@ fn may_place(
         && places < MAX_POSITION as usize
 }
 
-// Whether a process has delivered fewer ids past those places that it has settled than it may, where there are so many places
-// up to the last id that it has to list. They are counted only where there are so many at all.
+// Whether a process has delivered fewer ids past those places that it has settled than it may,
+// where there are so many places up to the last id that it has to list. They are counted only where
+// there are so many at all.
 fn is_unsettled_below_most(
     domain: &Domain,
     places: usize,
     process: Proc,
     kept: &GroupRecord,
 ) -> bool
-    requires { places ≡ min 18446744073709551615 (places_by (log_of domain.now.orders kept.now.name) process) }
-    ensures { result ≡ nat_lt (unsettled_at (own_records domain.now) process kept.now) MAX_UNSETTLED }
+    requires { places
+        ≡ min 18446744073709551615 (places_by (log_of domain.now.orders kept.now.name) process) }
+    ensures { result
+        ≡ nat_lt (unsettled_at (own_records domain.now) process kept.now) MAX_UNSETTLED }
 {
     places < MAX_UNSETTLED || is_unsettled_past_few(domain, process, kept)
 }
 
 // The same where there are many.
 fn is_unsettled_past_few(domain: &Domain, process: Proc, kept: &GroupRecord) -> bool
-    ensures { result ≡ nat_lt (unsettled_at (own_records domain.now) process kept.now) MAX_UNSETTLED }
+    ensures { result
+        ≡ nat_lt (unsettled_at (own_records domain.now) process kept.now) MAX_UNSETTLED }
 {
     let settled = domain.settled_to(process, kept);
     let known = domain.orders.length(kept.name).saturating_sub(settled);

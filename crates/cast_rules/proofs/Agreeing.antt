@@ -13,13 +13,16 @@ use Rattle.cast_rules.proofs.Rests.{rests_at_one}
 abbrev outcome : List Taken → List (SiteNo × SiteFrame) → List (ℕ × Push) → State → Outcome
 outcome answers sent pushed t = record { answers = answers; sent = sent; pushed = pushed; end = t }
 
-runs_alike : (events : List Event) (s : State) (answers others : List Taken) (sent told : List (SiteNo × SiteFrame)) (pushed given : List (ℕ × Push)) (t u : State) → IsRun s events answers sent pushed t → IsRun s events others told given u → outcome answers sent pushed t ≡ outcome others told given u
+runs_alike : (events : List Event) (s : State) (answers others : List Taken) (sent told : List (SiteNo × SiteFrame))
+    (pushed given : List (ℕ × Push)) (t u : State) → IsRun s events answers sent pushed t → IsRun s events others told given u →
+    outcome answers sent pushed t ≡ outcome others told given u
 runs_alike [] s [] [] sent told pushed given t u a b = λ i. outcome [] ((a.0 ∙ sym b.0) i) ((a.1 ∙ sym b.1) i) ((a.2 ∙ sym b.2) i)
 runs_alike [] s [] (y ∷ others) sent told pushed given t u a b = absurd b
 runs_alike [] s (x ∷ answers) others sent told pushed given t u a b = absurd a
 runs_alike (e ∷ events) s [] others sent told pushed given t u a b = absurd a
 runs_alike (e ∷ events) s (x ∷ answers) [] sent told pushed given t u a b = absurd b
-runs_alike (e ∷ events) s (x ∷ answers) (y ∷ others) sent told pushed given t u (v, later, more, step, sends, pushes, run) (w, after, rest, step2, sends2, pushes2, run2) =
+runs_alike (e ∷ events) s (x ∷ answers) (y ∷ others) sent told pushed given t u (v, later, more, step, sends, pushes, run)
+    (w, after, rest, step2, sends2, pushes2, run2) =
     let first : x ≡ y = step.answers ∙ sym step2.answers in
     let same : v ≡ w = rests_at_one (after_event s e) v w step.rests step2.rests in
     let left : outcome answers later more t ≡ outcome others after rest u =

@@ -30,7 +30,9 @@ use Rattle.cast_types.proofs.Orders.{same_group}
 use Rattle.cast_message.specs.declared.site.Change.{Change}
 use Rattle.cast_message.specs.declared.site.Change.TheVariants as change
 use Rattle.cast_events.specs.Session.{Session, is_open, pushed_to, tell_end}
-use Rattle.cast_rules.specs.State.{State, local, serials, with_push, set_process, set_group, emit, others_of, noting_ack, noting_stable, is_filled, pushing, closing, outside, local_members, receiving, noting_sent, releasing, is_ended, releasing_ended}
+use Rattle.cast_rules.specs.State.{State, local, serials, with_push, set_process, set_group, emit, others_of}
+use Rattle.cast_rules.specs.State.{noting_ack, noting_stable, is_filled, pushing, closing, outside}
+use Rattle.cast_rules.specs.State.{local_members, receiving, noting_sent, releasing, is_ended, releasing_ended}
 use Rattle.cast_rules.specs.Entering.{put_outside, is_put_out, all_parted, putting_out, enters, in_view, all_in_view, passing}
 use Rattle.cast_rules.specs.Rest.{let_go}
 use Rattle.cast_rules.specs.Owing.{noting_owed, noting_resent, paying, paying_upto, paying_view, at_moment}
@@ -66,7 +68,16 @@ pub record Alike (s : State) (t : State) : Type 0 where
   pub delivered : (j : ℕ) → (t.process j).delivered ≡ (s.process j).delivered
 
 pub alike_self : (s : State) → Alike s s
-alike_self s = record { here = refl; config = refl; used = refl; group = refl; home = refl; got = refl; abcasts = refl; delivered = λ j. refl }
+alike_self s = record {
+  here = refl;
+  config = refl;
+  used = refl;
+  group = refl;
+  home = refl;
+  got = refl;
+  abcasts = refl;
+  delivered = λ j. refl;
+}
 
 pub alike_then : (s t u : State) → Alike s t → Alike t u → Alike s u
 alike_then s t u a b = record {
@@ -84,30 +95,62 @@ pub alike_if : (s x y : State) (b : Bool) → Alike s x → Alike s y → Alike 
 alike_if s x y true p q = p
 alike_if s x y false p q = q
 
-pub alike_fold : {X : Type 0} (f : State → X → State) → ((s : State) (x : X) → Alike s (f s x)) → (xs : List X) (s : State) → Alike s (fold f s xs)
+pub alike_fold : {X : Type 0} (f : State → X → State) → ((s : State) (x : X) → Alike s (f s x)) → (xs : List X) (s : State) →
+    Alike s (fold f s xs)
 alike_fold f h [] s = alike_self s
 alike_fold f h (x ∷ xs) s = alike_then s (f s x) (fold f (f s x) xs) (h s x) (alike_fold f h xs (f s x))
 
 alike_push : (s : State) (k : ℕ) (v : Session) (p : Push) → Alike s (with_push s k v p)
-alike_push s k v p = record { here = refl; config = refl; used = refl; group = refl; home = refl; got = refl; abcasts = refl; delivered = λ j. refl }
+alike_push s k v p = record {
+  here = refl;
+  config = refl;
+  used = refl;
+  group = refl;
+  home = refl;
+  got = refl;
+  abcasts = refl;
+  delivered = λ j. refl;
+}
 
 pub alike_emitted : (s : State) (to : SiteNo) (f : SiteFrame) → Alike s (emit s to f)
-alike_emitted s to f = record { here = refl; config = refl; used = refl; group = refl; home = refl; got = refl; abcasts = refl; delivered = λ j. refl }
+alike_emitted s to f = record {
+  here = refl;
+  config = refl;
+  used = refl;
+  group = refl;
+  home = refl;
+  got = refl;
+  abcasts = refl;
+  delivered = λ j. refl;
+}
 
 alike_pushing : (s : State) (k : ℕ) (p : Push) → Alike s (pushing s k p)
-alike_pushing s k p = alike_if s (with_push s k (pushed_to (s.session k) p) p) s (is_open (s.session k)) (alike_push s k (pushed_to (s.session k) p) p) (alike_self s)
+alike_pushing s k p =
+    alike_if s (with_push s k (pushed_to (s.session k) p) p) s (is_open (s.session k)) (alike_push s k (pushed_to (s.session k) p) p)
+    (alike_self s)
 
 alike_closing : (s : State) (k : ℕ) (refusal : Refusal) → Alike s (closing s k refusal)
 alike_closing s k refusal =
-    alike_if s (with_push s k (tell_end refusal (s.session k)) (push.Closed refusal)) s (is_open (s.session k)) (alike_push s k (tell_end refusal (s.session k)) (push.Closed refusal)) (alike_self s)
+    alike_if s (with_push s k (tell_end refusal (s.session k)) (push.Closed refusal)) s (is_open (s.session k))
+    (alike_push s k (tell_end refusal (s.session k)) (push.Closed refusal)) (alike_self s)
 
 pub alike_let_go : (s : State) → Alike s (let_go s)
-alike_let_go s = record { here = refl; config = refl; used = refl; group = refl; home = refl; got = refl; abcasts = refl; delivered = λ j. refl }
+alike_let_go s = record {
+  here = refl;
+  config = refl;
+  used = refl;
+  group = refl;
+  home = refl;
+  got = refl;
+  abcasts = refl;
+  delivered = λ j. refl;
+}
 
 -- Messages that are sent
 
 -- the process at one place, as far as it delivered
-alike_time : (s : State) (k : ℕ) (p : Process) → p.delivered ≡ (s.process k).delivered → (j : ℕ) → (set_at (λ a b. a == b) s.process k p j).delivered ≡ (s.process j).delivered
+alike_time : (s : State) (k : ℕ) (p : Process) → p.delivered ≡ (s.process k).delivered → (j : ℕ) →
+    (set_at (λ a b. a == b) s.process k p j).delivered ≡ (s.process j).delivered
 alike_time s k p same j =
     elim (k == j) as (λ b. k == j ≡ b → (if b then p else s.process j).delivered ≡ (s.process j).delivered) [
       | true ↦ λ at. same ∙ ap (λ i. (s.process i).delivered) (eqb-true k j at)
@@ -115,13 +158,41 @@ alike_time s k p same j =
     ] refl
 
 alike_process : (s : State) (k : ℕ) (p : Process) → p.delivered ≡ (s.process k).delivered → Alike s (set_process s k p)
-alike_process s k p same = record { here = refl; config = refl; used = refl; group = refl; home = refl; got = refl; abcasts = refl; delivered = alike_time s k p same }
+alike_process s k p same = record {
+  here = refl;
+  config = refl;
+  used = refl;
+  group = refl;
+  home = refl;
+  got = refl;
+  abcasts = refl;
+  delivered = alike_time s k p same;
+}
 
 alike_owed : (s : State) (owed : List Owed) → Alike s (record s { owed = owed })
-alike_owed s owed = record { here = refl; config = refl; used = refl; group = refl; home = refl; got = refl; abcasts = refl; delivered = λ j. refl }
+alike_owed s owed = record {
+  here = refl;
+  config = refl;
+  used = refl;
+  group = refl;
+  home = refl;
+  got = refl;
+  abcasts = refl;
+  delivered = λ j. refl;
+}
 
-alike_known : (s : State) (acks : List Acked) (told : List Uid) (moment : ℕ) → Alike s (record s { acks = acks; told = told; moment = moment })
-alike_known s acks told moment = record { here = refl; config = refl; used = refl; group = refl; home = refl; got = refl; abcasts = refl; delivered = λ j. refl }
+alike_known : (s : State) (acks : List Acked) (told : List Uid) (moment : ℕ) →
+    Alike s (record s { acks = acks; told = told; moment = moment })
+alike_known s acks told moment = record {
+  here = refl;
+  config = refl;
+  used = refl;
+  group = refl;
+  home = refl;
+  got = refl;
+  abcasts = refl;
+  delivered = λ j. refl;
+}
 
 moves_alike : (s : State) → IsInvariant history (Alike s)
 moves_alike s = record {
@@ -152,7 +223,16 @@ alike_send_data u s to = send_data_keeps history (Alike s) (moves_alike s) u s (
 
 -- a group whose requests alone change
 alike_group : (s : State) (g : GroupNo) (v : MemberSide) → but_requests v ≡ but_requests (s.group g) → Alike s (set_group s g v)
-alike_group s g v same = record { here = refl; config = refl; used = refl; group = λ i h. at h i; home = refl; got = refl; abcasts = refl; delivered = λ j. refl }
+alike_group s g v same = record {
+  here = refl;
+  config = refl;
+  used = refl;
+  group = λ i h. at h i;
+  home = refl;
+  got = refl;
+  abcasts = refl;
+  delivered = λ j. refl;
+}
   where
     at : (h : GroupNo) → but_requests (set_at group_eq s.group g v h) ≡ but_requests (s.group h)
     at h = elim (group_eq g h) as (λ b. group_eq g h ≡ b → but_requests (if b then v else s.group h) ≡ but_requests (s.group h)) [
@@ -161,18 +241,30 @@ alike_group s g v same = record { here = refl; config = refl; used = refl; group
     ] refl
 
 alike_ask_home : (s : State) (g : GroupNo) → Alike s (ask_home history s g)
-alike_ask_home s g = alike_if s s (owe history s (ask_key g s.config.home)) (is_empty (s.group g).requests) (alike_self s) (alike_owe s (ask_key g s.config.home))
+alike_ask_home s g =
+    alike_if s s (owe history s (ask_key g s.config.home)) (is_empty (s.group g).requests) (alike_self s)
+    (alike_owe s (ask_key g s.config.home))
 
 alike_request : (s : State) (g : GroupNo) (what : Change) (p : Proc) → Alike s (request history s g what p)
 alike_request s g what p =
     let next : State = set_group s g (with_request (s.group g) what p) in
     let a : Alike s next = alike_group s g (with_request (s.group g) what p) refl in
-    alike_if s (ask_home history next g) next (is_empty (s.group g).requests) (alike_then s next (ask_home history next g) a (alike_ask_home next g)) a
+    alike_if s (ask_home history next g) next (is_empty (s.group g).requests)
+    (alike_then s next (ask_home history next g) a (alike_ask_home next g)) a
 
 alike_outside : (s : State) (k : ℕ) (g : GroupNo) → Alike s (outside s k g)
 alike_outside s k g =
     let a = alike_process s k (record (s.process k) { standing = set_at group_eq (s.process k).standing g Outside }) refl in
-    record { here = a.here; config = a.config; used = a.used; group = a.group; home = a.home; got = a.got; abcasts = a.abcasts; delivered = a.delivered }
+    record {
+      here = a.here;
+      config = a.config;
+      used = a.used;
+      group = a.group;
+      home = a.home;
+      got = a.got;
+      abcasts = a.abcasts;
+      delivered = a.delivered;
+    }
 
 alike_leave_group : (s : State) (k : ℕ) (g : GroupNo) → Alike s (leave_group history s k g g)
 alike_leave_group s k g =
@@ -209,15 +301,34 @@ alike_tell s k p =
 
 -- what is received alike leaves alike
 alike_receiving : (s t : State) (m : Message) → Alike s t → Alike (receiving s m) (receiving t m)
-alike_receiving s t m a = record { here = a.here; config = a.config; used = a.used; group = a.group; home = a.home; got = ap (λ got. got ++ m ∷ []) a.got; abcasts = a.abcasts; delivered = a.delivered }
+alike_receiving s t m a = record {
+  here = a.here;
+  config = a.config;
+  used = a.used;
+  group = a.group;
+  home = a.home;
+  got = ap (λ got. got ++ m ∷ []) a.got;
+  abcasts = a.abcasts;
+  delivered = a.delivered;
+}
 
 alike_sent : (s : State) (k : ℕ) (m : Message) → Alike s (noting_sent s k m)
 alike_sent s k m =
     let a = alike_process s k (record (s.process k) { time = m.times }) refl in
-    record { here = a.here; config = a.config; used = a.used; group = a.group; home = a.home; got = a.got; abcasts = a.abcasts; delivered = a.delivered }
+    record {
+      here = a.here;
+      config = a.config;
+      used = a.used;
+      group = a.group;
+      home = a.home;
+      got = a.got;
+      abcasts = a.abcasts;
+      delivered = a.delivered;
+    }
 
 -- a message that is sent is received here
-pub alike_sending : (s : State) (g : GroupNo) (k : ℕ) (content : Body) → Alike (receiving s (next_message s g k content)) (sending s g k content)
+pub alike_sending : (s : State) (g : GroupNo) (k : ℕ) (content : Body) →
+    Alike (receiving s (next_message s g k content)) (sending s g k content)
 alike_sending s g k content =
     let m : Message = next_message s g k content in
     let t : State = noting_sent s k m in
@@ -229,11 +340,29 @@ alike_sending s g k content =
 -- Views
 
 alike_kept : (s : State) (passes : Uid → Bool) → Alike s (releasing s passes)
-alike_kept s passes = record { here = refl; config = refl; used = refl; group = refl; home = refl; got = refl; abcasts = refl; delivered = λ j. refl }
+alike_kept s passes = record {
+  here = refl;
+  config = refl;
+  used = refl;
+  group = refl;
+  home = refl;
+  got = refl;
+  abcasts = refl;
+  delivered = λ j. refl;
+}
 
 -- processes are put out, all at once: what they delivered stands
 alike_parted : (s : State) (g : GroupNo) (goes : ℕ → Bool) → Alike s (all_parted s g goes)
-alike_parted s g goes = record { here = refl; config = refl; used = refl; group = refl; home = refl; got = refl; abcasts = refl; delivered = λ j. same j (goes j) }
+alike_parted s g goes = record {
+  here = refl;
+  config = refl;
+  used = refl;
+  group = refl;
+  home = refl;
+  got = refl;
+  abcasts = refl;
+  delivered = λ j. same j (goes j);
+}
   where
     same : (j : ℕ) (b : Bool) → (if b then put_outside g (s.process j) else s.process j).delivered ≡ (s.process j).delivered
     same j true = refl
@@ -243,8 +372,18 @@ pub alike_putting_out : (s : State) (g : GroupNo) (skips : Bool) (members : Memb
 alike_putting_out s g skips members = alike_parted s g (is_put_out s g skips members)
 
 -- and taken in
-alike_entered : (s : State) (g : GroupNo) (n : ℕ) (members : Membership) (request : ℕ) (cut : CountList) → Alike s (all_in_view s g n members request cut)
-alike_entered s g n members request cut = record { here = refl; config = refl; used = refl; group = refl; home = refl; got = refl; abcasts = refl; delivered = λ j. same j (enters s g members request j) }
+alike_entered : (s : State) (g : GroupNo) (n : ℕ) (members : Membership) (request : ℕ) (cut : CountList) →
+    Alike s (all_in_view s g n members request cut)
+alike_entered s g n members request cut = record {
+  here = refl;
+  config = refl;
+  used = refl;
+  group = refl;
+  home = refl;
+  got = refl;
+  abcasts = refl;
+  delivered = λ j. same j (enters s g members request j);
+}
   where
     same : (j : ℕ) (b : Bool) → (if b then in_view g n (s.process j) else s.process j).delivered ≡ (s.process j).delivered
     same j true = refl
@@ -256,7 +395,8 @@ with_next_view s g skips n members =
     let t : State = putting_out s g skips members in set_group t g (with_view t.here n members (t.group g))
 
 -- all else that a site does where it passes to a view leaves that alike
-pub alike_installing : (s : State) (g : GroupNo) (skips : Bool) (from : SiteNo) (n : ℕ) (members : Membership) (request : ℕ) (cut : CountList) → Alike (with_next_view s g skips n members) (install history skips s g from n members request cut)
+pub alike_installing : (s : State) (g : GroupNo) (skips : Bool) (from : SiteNo) (n : ℕ) (members : Membership) (request : ℕ)
+    (cut : CountList) → Alike (with_next_view s g skips n members) (install history skips s g from n members request cut)
 alike_installing s g skips from n members request cut =
     let now : State = with_next_view s g skips n members in
     let entered : State = passing s g skips n members request cut in
@@ -267,7 +407,8 @@ alike_installing s g skips from n members request cut =
     let end : State = install history skips s g from n members request cut in
     alike_then now entered end (alike_entered now g n members request cut)
     (alike_then entered out end
-    (alike_fold (tell_out history g n) (λ x k. alike_tell x k (push.Ejected g n)) (filter (is_put_out s g skips members) (serials s)) entered)
+    (alike_fold (tell_out history g n) (λ x k. alike_tell x k (push.Ejected g n))
+    (filter (is_put_out s g skips members) (serials s)) entered)
     (alike_then out told end
     (alike_fold (tell_view history g n members) (λ x k. alike_tell x k (push.View g n members)) (local_members entered g) out)
     (alike_then told released end (alike_kept told (is_ended told g))

@@ -5,7 +5,8 @@ use Rattle.cast_message.specs.declared.site.SiteFrame.TheVariants as frame
 use Rattle.cast_message.specs.declared.client.CastKind.TheVariants as kind
 use Rattle.cast_order.specs.Order.{known_order}
 use Rattle.cast_rules.specs.Run.{Ran, run_of}
-use Rattle.cast_rules.proofs.Words.{site, group, proc, uid, alone, config, opens, asks_join, casts_as, comes, data_from, install, then_run, p11, p21}
+use Rattle.cast_rules.proofs.Words.{site, group, proc, uid, alone, config, opens, asks_join}
+use Rattle.cast_rules.proofs.Words.{casts_as, comes, data_from, install, then_run, p11, p21}
 
 p12 : Proc
 p12 = proc 1 2

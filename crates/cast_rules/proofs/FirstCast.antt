@@ -11,7 +11,8 @@ use Rattle.cast_events.specs.declared.event.Event.{Event}
 use Rattle.cast_events.specs.declared.event.Taken.TheVariants as taken
 use Rattle.cast_rules.specs.Acts.Act.{Sent, Delivered, Entered}
 use Rattle.cast_rules.specs.Run.{entries_for, Ran, run_of}
-use Rattle.cast_rules.proofs.Words.{site, group, uid, at, members, config, opens, asks_join, casts, comes, install, then_run, pushed_after, p11}
+use Rattle.cast_rules.proofs.Words.{site, group, uid, at, members, config, opens, asks_join}
+use Rattle.cast_rules.proofs.Words.{casts, comes, install, then_run, pushed_after, p11}
 
 events : List Event
 events =

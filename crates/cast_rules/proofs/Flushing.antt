@@ -1,5 +1,5 @@
--- A site takes part in a flush: it freezes the view and reports, the Install of the next view waits until what its cut covers is delivered, and
--- the site passes to that view.
+-- A site takes part in a flush: it freezes the view and reports, the Install of the next view waits until what its cut covers is delivered,
+-- and the site passes to that view.
 use Rattle.std.specs.Prelude.{◌≡◌, ℕ, Bool, false, List, [], ◌∷◌, map, Some, None, refl}
 use Rattle.cast_types.specs.declared.names.Proc.{Proc}
 use Rattle.cast_types.specs.declared.refusal.Refusal.TheVariants.{Flushing}
@@ -18,7 +18,8 @@ use Rattle.cast_view.specs.MemberSide.{MemberSide}
 use Rattle.cast_rules.specs.Entering.{in_view}
 use Rattle.cast_rules.specs.State.{opening, no_process}
 use Rattle.cast_rules.specs.Run.{Ran, run_of}
-use Rattle.cast_rules.proofs.Words.{site, group, proc, uid, members, config, alone, opens, asks_join, asks_leave, casts, suspects, comes, data_from, install, p11, p21, in_second_view, then_run, pushed_after}
+use Rattle.cast_rules.proofs.Words.{site, group, proc, uid, members, config, alone, opens, asks_join, asks_leave, casts}
+use Rattle.cast_rules.proofs.Words.{suspects, comes, data_from, install, p11, p21, in_second_view, then_run, pushed_after}
 
 -- a report: how many messages of each process the site has had, and which it keeps, marked where it knows no place for an ABCAST
 flushed : ℕ → List Entry → List (Entry × Bool) → SiteFrame
@@ -214,8 +215,8 @@ cast_late_sent : cast_late.sent ≡ (site 9, flushed 2 [] []) ∷ []
 unfolding known_order cast_late flushed
 cast_late_sent = refl
 
--- The first message of 2.1 is delivered before the flush, and is told to be stable in it; the second one comes in it. Neither is let go, and
--- the second one is not delivered
+-- The first message of 2.1 is delivered before the flush, and is told to be stable in it; the second one comes in it. Neither is let go,
+-- and the second one is not delivered
 frozen : Ran
 frozen = then_run in_second_view (
     data_from 2 (alone 1 2 p21 1)

@@ -1,5 +1,6 @@
 -- Where a pass goes on with the Installs that wait, fewer wait then, or nothing changes but what is owed and sent.
-use Rattle.std.proofs.Common.{◌≡◌, ◌<◌, ◌⊎◌, Bool, true, false, List, [], ◌∷◌, Some, None, Option, refl, sym, ap, subst, ◌∙◌, inl, inr, arith}
+use Rattle.std.proofs.Common.{◌≡◌, ◌<◌, ◌⊎◌, Bool, true, false, List, [], ◌∷◌, Some}
+use Rattle.std.proofs.Common.{None, Option, refl, sym, ap, subst, ◌∙◌, inl, inr, arith}
 use Rattle.std.specs.Prelude.{if◌then◌else◌}
 use Rattle.std.specs.List.{fold}
 use Rattle.cast_types.specs.declared.names.GroupNo.{GroupNo}
@@ -24,7 +25,8 @@ pub record GoesOn (s : State) (t : State) : Type 0 where
 goes_alike : (s t : State) → Alike s t → GoesOn s t
 goes_alike s t a = record { config = a.config; way = inr a }
 
-way_then : (s t u : State) → (pendings t < pendings s) ⊎ Alike s t → (pendings u < pendings t) ⊎ Alike t u → (pendings u < pendings s) ⊎ Alike s u
+way_then : (s t u : State) → (pendings t < pendings s) ⊎ Alike s t → (pendings u < pendings t) ⊎ Alike t u →
+    (pendings u < pendings s) ⊎ Alike s u
 way_then s t u (inl a) (inl b) = inl (omega arith)
 way_then s t u (inl a) (inr b) = inl (subst (λ n. n < pendings s) (sym (pendings_alike t u b)) a)
 way_then s t u (inr a) (inl b) = inl (subst (λ n. pendings u < n) (pendings_alike s t a) b)
@@ -34,7 +36,8 @@ goes_then : (s t u : State) → GoesOn s t → GoesOn t u → GoesOn s u
 goes_then s t u a b = record { config = b.config ∙ a.config; way = way_then s t u a.way b.way }
 
 -- one that waits is completed, or what is missing is wanted
-goes_waiting : (s : State) (g : GroupNo) (p : Pending) → In g s.config.groups → (s.group g).pending ≡ Some p → (b : Bool) → GoesOn s (if b then let_go (complete history s g p) else fold (want_own history g) s (missing_in s g p.cut))
+goes_waiting : (s : State) (g : GroupNo) (p : Pending) → In g s.config.groups → (s.group g).pending ≡ Some p → (b : Bool) →
+    GoesOn s (if b then let_go (complete history s g p) else fold (want_own history g) s (missing_in s g p.cut))
 goes_waiting s g p at waits true =
     let is : is_pending (s.group g) ≡ true = ap (λ (o : Option Pending). elim o as (λ _. Bool) [ Some p ↦ true | None ↦ false ]) waits in
     record { config = (moves_completed s g p at is).config; way = inl (let_go_less s g p at is) }
@@ -44,12 +47,14 @@ goes_waiting s g p at waits false =
 
 goes_group : (s : State) (g : GroupNo) → In g s.config.groups → GoesOn s (go_on history resting s g)
 goes_group s g at =
-    elim (s.group g).pending as (λ o. (s.group g).pending ≡ o → GoesOn s (elim o [ Some p ↦ complete_or_want history resting s g p | None ↦ s ])) [
+    elim (s.group g).pending
+    as (λ o. (s.group g).pending ≡ o → GoesOn s (elim o [ Some p ↦ complete_or_want history resting s g p | None ↦ s ])) [
       | None ↦ λ _. goes_alike s s (alike_self s)
       | Some p ↦ λ waits. goes_waiting s g p at waits (has_delivered_cut s g p.cut)
     ] refl
 
-goes_groups : (gs : List GroupNo) (s : State) → ((g : GroupNo) → In g gs → In g s.config.groups) → GoesOn s (fold (go_on history resting) s gs)
+goes_groups : (gs : List GroupNo) (s : State) → ((g : GroupNo) → In g gs → In g s.config.groups) →
+    GoesOn s (fold (go_on history resting) s gs)
 goes_groups [] s among = goes_alike s s (alike_self s)
 goes_groups (g ∷ gs) s among =
     let t : State = go_on history resting s g in

@@ -14,18 +14,22 @@ use Rattle.cast_order.specs.Order.{Facts, facts_of, id_at, order_from, known_ord
 use Rattle.cast_order.proofs.Told.{order_next, order_in_words, id_at-append, known_grows}
 
 -- the order known goes on behind what was known
-goes_on : (facts new : Facts) → known_order facts ++ order_from (MAX_POSITION - length (known_order facts)) (length (known_order facts) + 1) (facts ++ new) ≡ known_order (facts ++ new)
+goes_on : (facts new : Facts) → known_order facts ++ order_from (MAX_POSITION - length (known_order facts)) (length (known_order facts) + 1)
+    (facts ++ new) ≡ known_order (facts ++ new)
 goes_on facts new = known_grows facts new (facts ++ new) (known_order facts) refl (λ place low high. refl)
 
 -- what is in it stays in it
-pub known_stays : (facts new : Facts) (e : Entry) → is_among entry_eq e (known_order facts) ≡ true → is_among entry_eq e (known_order (facts ++ new)) ≡ true
+pub known_stays : (facts new : Facts) (e : Entry) → is_among entry_eq e (known_order facts) ≡ true →
+    is_among entry_eq e (known_order (facts ++ new)) ≡ true
 known_stays facts new e is =
     ap (is_among entry_eq e) (sym (goes_on facts new))
-    ∙ list_any-append (entry_eq e) (known_order facts) (order_from (MAX_POSITION - length (known_order facts)) (length (known_order facts) + 1) (facts ++ new))
+    ∙ list_any-append (entry_eq e) (known_order facts)
+    (order_from (MAX_POSITION - length (known_order facts)) (length (known_order facts) + 1) (facts ++ new))
     ∙ or_left (is_among entry_eq e (known_order facts)) _ is
 
 -- what is told of the next place stands in it
-next_stands : (facts : Facts) (known : List Entry) (most n place : ℕ) (e : Entry) → n < most → id_at facts place ≡ Some e → is_among entry_eq e (known ++ order_from (most - n) place facts) ≡ true
+next_stands : (facts : Facts) (known : List Entry) (most n place : ℕ) (e : Entry) → n < most → id_at facts place ≡ Some e →
+    is_among entry_eq e (known ++ order_from (most - n) place facts) ≡ true
 next_stands facts known most n place e lt is =
     let one : most - n ≡ suc (most - n - 1) = omega (arith, lt) in
     ap (λ k. is_among entry_eq e (known ++ order_from k place facts)) one
@@ -35,10 +39,13 @@ next_stands facts known most n place e lt is =
 
 -- a message tells its first id for its first place
 first_told : (place : ℕ) (e : Entry) (es : List Entry) → id_at (enumerate_from place (e ∷ es)) place ≡ Some e
-first_told place e es = ap (λ b. option_map (λ (f : ℕ × Entry). f.1) (if b then Some (place, e) else find (λ f. f.0 == place) (enumerate_from (place + 1) es))) (eq-eqb place place refl)
+first_told place e es =
+    ap (λ b. option_map (λ (f : ℕ × Entry). f.1) (if b then Some (place, e) else find (λ f. f.0 == place) (enumerate_from (place + 1) es)))
+    (eq-eqb place place refl)
 
 -- and the first id that is told for the place after it enters it
-pub first_enters : (facts : Facts) (q : Placement) (e : Entry) (es : List Entry) → length (known_order facts) < MAX_POSITION → q.first ≡ place_after (known_order facts) → q.ids ≡ e ∷ es → is_among entry_eq e (known_order (facts ++ facts_of q)) ≡ true
+pub first_enters : (facts : Facts) (q : Placement) (e : Entry) (es : List Entry) → length (known_order facts) < MAX_POSITION →
+    q.first ≡ place_after (known_order facts) → q.ids ≡ e ∷ es → is_among entry_eq e (known_order (facts ++ facts_of q)) ≡ true
 first_enters facts q e es lt at are =
     let new : Facts = facts_of q in
     let place : ℕ = length (known_order facts) + 1 in

@@ -11,7 +11,8 @@ use Rattle.cast_message.specs.declared.client.Push.TheVariants as push
 use Rattle.cast_events.specs.declared.event.Event.{Event}
 use Rattle.cast_order.specs.Order.{known_order}
 use Rattle.cast_rules.specs.Run.{Ran, run_of}
-use Rattle.cast_rules.proofs.Words.{site, group, uid, at, alone, config, opens, asks_join, casts_as, passes, lists, hands_over, comes, data_from, install, in_second_view, then_run, pushed_after, proc, p11, p21}
+use Rattle.cast_rules.proofs.Words.{site, group, uid, at, alone, config, opens, asks_join, casts_as, passes, lists, hands_over}
+use Rattle.cast_rules.proofs.Words.{comes, data_from, install, in_second_view, then_run, pushed_after, proc, p11, p21}
 
 -- a process casts an ABCAST without payload
 abbrev abcasts : ℕ → ℕ → ℕ → Event
@@ -52,7 +53,8 @@ taken_up : Ran
 unfolding known_order at_second over
 taken_up = then_run at_second (passes 1 1 1 p11 ∷ data_from 1 over ∷ abcasts 1 2 1 ∷ [])
 
-taken_up_pushes : pushed_after 3 taken_up ≡ push.Reply 1 (Some NotHolder) ∷ push.Reply 2 None ∷ push.Deliver (uid 1 2 p21 1) kind.Atomic [] ∷ []
+taken_up_pushes : pushed_after 3 taken_up
+    ≡ push.Reply 1 (Some NotHolder) ∷ push.Reply 2 None ∷ push.Deliver (uid 1 2 p21 1) kind.Atomic [] ∷ []
 unfolding known_order taken_up at_second over
 taken_up_pushes = refl
 
@@ -70,7 +72,8 @@ waits_for : Ran
 unfolding known_order at_second early
 waits_for = then_run at_second (data_from 1 early ∷ passes 1 1 1 p11 ∷ data_from 1 (alone 1 2 p11 1) ∷ passes 1 2 1 p11 ∷ [])
 
-waits_for_pushes : pushed_after 3 waits_for ≡ push.Reply 1 (Some NotHolder) ∷ push.Deliver (uid 1 2 p11 1) kind.Causal [] ∷ push.Reply 2 None ∷ []
+waits_for_pushes : pushed_after 3 waits_for
+    ≡ push.Reply 1 (Some NotHolder) ∷ push.Deliver (uid 1 2 p11 1) kind.Causal [] ∷ push.Reply 2 None ∷ []
 unfolding known_order waits_for at_second early
 waits_for_pushes = refl
 

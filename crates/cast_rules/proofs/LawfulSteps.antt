@@ -4,7 +4,8 @@
 -- `SameLaw`; the tests of a rule give what its effect supposes: a message that comes is of the
 -- view that its group has reached (`taken_current`), a view that is entered is a later one, and
 -- who sets the order may raise its time. The rules of the home change none of this.
-use Rattle.std.proofs.Common.{◌≡◌, ℕ, ◌+◌, ◌<◌, zero, suc, Bool, true, false, not, List, [], ◌∷◌, length, Option, Some, None, refl, sym, ap, subst, ◌∙◌, inl, inr, arith}
+use Rattle.std.proofs.Common.{◌≡◌, ℕ, ◌+◌, ◌<◌, zero, suc, Bool, true, false, not, List, [], ◌∷◌}
+use Rattle.std.proofs.Common.{length, Option, Some, None, refl, sym, ap, subst, ◌∙◌, inl, inr, arith}
 use Rattle.std.specs.Prelude.{◌&&◌, nat_lt, nat_le, if◌then◌else◌}
 use Rattle.std.specs.List.{fold, find}
 use Rattle.std.specs.FinMap.Entries.{is_sorted}
@@ -36,7 +37,8 @@ use Rattle.cast_events.specs.declared.event.Event.{Event}
 use Rattle.cast_events.specs.declared.event.Event.TheVariants as event
 use Rattle.cast_clock.proofs.Raised.{bump_leaves_views}
 use Rattle.cast_rules.specs.Rules.Commands.{message_sent}
-use Rattle.cast_rules.specs.State.{State, receiving, noting_sent, local, serials, is_group, may_speak, set_home, was_given, going, taking, setting_quota, with_delivery}
+use Rattle.cast_rules.specs.State.{State, receiving, noting_sent, local, serials, is_group, may_speak}
+use Rattle.cast_rules.specs.State.{set_home, was_given, going, taking, setting_quota, with_delivery}
 use Rattle.cast_rules.specs.Rules.Room.{may_order}
 use Rattle.cast_rules.specs.Order.{order_told, unlisted_ids, has_place, holders}
 use Rattle.cast_rules.specs.Turns.{is_ready_for}
@@ -68,9 +70,12 @@ use Rattle.cast_rules.proofs.Rules.Frames.{framed_keeps}
 use Rattle.cast_rules.proofs.Rules.Flushes.{wanted_current, wanted_of_member, go_on_keeps}
 use Rattle.cast_rules.proofs.Alikes.{alike_installing}
 use Rattle.cast_rules.proofs.Lawful.{same_acted, kept_map, lawful_if, lawful_fold}
-use Rattle.cast_rules.proofs.SameLaw.{SameLaw, same_self, same_then, same_fold, same_owe, same_home, same_group_set, same_freezing, same_pending, moves_same, invariant_by_same, lawful_same, same_pushing, same_closing, same_going, same_taking, same_setting, same_counting}
+use Rattle.cast_rules.proofs.SameLaw.{SameLaw, same_self, same_then, same_fold, same_owe, same_home, same_group_set}
+use Rattle.cast_rules.proofs.SameLaw.{same_freezing, same_pending, moves_same, invariant_by_same, lawful_same}
+use Rattle.cast_rules.proofs.SameLaw.{same_pushing, same_closing, same_going, same_taking, same_setting, same_counting}
 use Rattle.cast_rules.proofs.LawfulProcesses.{lawful_standing, lawful_outside}
-use Rattle.cast_rules.proofs.LawfulMessages.{lawful_sent_here, local_speaks, lawful_receiving, lawful_let_go, lawful_sending, lawful_delivery, lawful_releasing_ended}
+use Rattle.cast_rules.proofs.LawfulMessages.{lawful_sent_here, local_speaks, lawful_receiving, lawful_let_go}
+use Rattle.cast_rules.proofs.LawfulMessages.{lawful_sending, lawful_delivery, lawful_releasing_ended}
 use Rattle.cast_rules.proofs.LawfulViews.{lawful_passing}
 
 -- a stamp is in order
@@ -94,13 +99,15 @@ placed_at s g h at = of_test (is_group s g) at
     of_test false same = absurd (none-some h same)
 
 -- what is received is of the view that its group has reached
-pub taken_current : (s : State) (h : GroupNo) (from : SiteNo) (m : Message) → IsTaken history s h from m → m.id.view ≡ (s.group m.id.group).number
+pub taken_current : (s : State) (h : GroupNo) (from : SiteNo) (m : Message) → IsTaken history s h from m →
+    m.id.view ≡ (s.group m.id.group).number
 taken_current s h from m taken =
     let there = placed_at s m.id.group h taken.at in
     eqb-true m.id.view (s.group h).number (used_current history s h from m taken.used) ∙ ap (λ g. (s.group g).number) (sym there.1)
 
 -- and its process is one of the view's members
-pub taken_speaks : (s : State) (h : GroupNo) (from : SiteNo) (m : Message) → IsTaken history s h from m → may_speak s m.id.group m.id.proc ≡ true
+pub taken_speaks : (s : State) (h : GroupNo) (from : SiteNo) (m : Message) → IsTaken history s h from m →
+    may_speak s m.id.group m.id.proc ≡ true
 taken_speaks s h from m taken =
     let there = placed_at s m.id.group h taken.at in
     or_left (is_among proc_eq m.id.proc (members_of (s.group m.id.group))) (site_eq m.id.proc.site s.here)
@@ -113,7 +120,8 @@ brought_current s h m brought =
     eqb-true m.id.view (s.group h).number (wanted_current history s h m brought.wanted) ∙ ap (λ g. (s.group g).number) (sym there.1)
 
 -- and its process is one of the view's members
-pub brought_of_member : (s : State) (h : GroupNo) (m : Message) → IsBrought history s h m → is_among proc_eq m.id.proc (members_of (s.group m.id.group)) ≡ true
+pub brought_of_member : (s : State) (h : GroupNo) (m : Message) → IsBrought history s h m →
+    is_among proc_eq m.id.proc (members_of (s.group m.id.group)) ≡ true
 brought_of_member s h m brought =
     let there = placed_at s m.id.group h brought.at in
     ap (λ g. is_among proc_eq m.id.proc (members_of (s.group g))) there.1 ∙ wanted_of_member history s h m brought.wanted
@@ -137,19 +145,26 @@ all_lawful = record {
   note_joining = λ s l k given g h at number heard. lawful_standing s k g (Joining number heard) refl l (λ _. (placed_at s g h at).0);
   note_outside = λ s l k g is. lawful_outside s k g l;
   sends = λ s l h k g content sent. let there = placed_at s g h sent.at in
-      let same : message_sent history s k g h content ≡ next_message s g k content = ap (λ x. message_sent history s k g x content) (sym there.1) in
+      let same : message_sent history s k g h content ≡ next_message s g k content =
+      ap (λ x. message_sent history s k g x content) (sym there.1) in
       subst (λ m. IsLawful (receiving (noting_sent s k m) m)) (sym same)
-      (lawful_sent_here s k (next_message s g k content) l (λ i. bump_leaves_views (s.process k).time g i (local s k)) (raised_sorted (s.process k).time g (local s k) sent.raises) (omega arith) (local_speaks s g k));
-  receive = λ s l h from m taken. let same = taken_current s h from m taken in lawful_receiving s m l (stamp_sorted m.times taken.typed.0) (omega (arith, same)) (taken_speaks s h from m taken);
+      (lawful_sent_here s k (next_message s g k content) l (λ i. bump_leaves_views (s.process k).time g i (local s k))
+      (raised_sorted (s.process k).time g (local s k) sent.raises) (omega arith) (local_speaks s g k));
+  receive = λ s l h from m taken.
+      let same = taken_current s h from m taken in
+      lawful_receiving s m l (stamp_sorted m.times taken.typed.0) (omega (arith, same)) (taken_speaks s h from m taken);
   brings = λ s l h m brought. let same = brought_current s h m brought in
       lawful_receiving s m l (stamp_sorted m.times brought.typed.0) (omega (arith, same))
-      (or_left (is_among proc_eq m.id.proc (members_of (s.group m.id.group))) (site_eq m.id.proc.site s.here) (brought_of_member s h m brought));
+      (or_left (is_among proc_eq m.id.proc (members_of (s.group m.id.group))) (site_eq m.id.proc.site s.here)
+      (brought_of_member s h m brought));
   freeze = λ s l g. lawful_same s _ (same_freezing s g) l;
   pend = λ s l g p tail pended. lawful_same s _ (same_pending s g p tail pended.typed) l;
   note_request = λ s l g what p. lawful_same s _ (same_group_set s g (with_request (s.group g) what p) refl refl refl refl) l;
   note_answer = λ s l g. lawful_same s _ (same_group_set s g (with_answer (s.group g)) refl refl refl refl) l;
   move_home = λ s l g move. lawful_same s _ (same_home s g (apply_move move (s.home g))) l;
-  enter_view = λ s l h g skips n members request cut is. let e = entered s h g n members is in lawful_passing s h skips n members request cut l e.listed e.later;
+  enter_view = λ s l h g skips n members request cut is.
+      let e = entered s h g n members is in
+      lawful_passing s h skips n members request cut l e.listed e.later;
   release_ended = λ s l g. lawful_releasing_ended s g l;
   close = λ s l k given refusal. lawful_same s _ (same_closing s k refusal) l;
 }
@@ -179,7 +194,13 @@ lawful_opened s l unborn = record {
   }) s.got s.kept l.spent;
   listed = l.listed;
   waiting = l.waiting;
-  traced = record { reached = l.traced.reached; spoken = l.traced.spoken; acted = same_acted s (opening_next s) refl l.traced; delivered = l.traced.delivered; seen = l.traced.seen };
+  traced = record {
+    reached = l.traced.reached;
+    spoken = l.traced.spoken;
+    acted = same_acted s (opening_next s) refl l.traced;
+    delivered = l.traced.delivered;
+    seen = l.traced.seen;
+  };
 }
   where
     given_less : (used k : ℕ) → (used + 1 ≡ k → ⊥) → was_given (used + 1) k ≡ true → was_given used k ≡ true
@@ -212,13 +233,17 @@ lawful_acted s (event.Tick t) l unborn typed = lawful_same s (tick history s t) 
 
 pub lawful_first : (s : State) (k : ℕ) → IsLawful s → IsLawful (deliver_first k s)
 lawful_first s k l =
-    elim (find (is_ready_for s k) s.got) as (λ o. find (is_ready_for s k) s.got ≡ o → IsLawful (elim o [ Some m ↦ let_go (delivering s k m) | None ↦ s ])) [
+    elim (find (is_ready_for s k) s.got)
+    as (λ o. find (is_ready_for s k) s.got ≡ o → IsLawful (elim o [ Some m ↦ let_go (delivering s k m) | None ↦ s ])) [
       | Some m ↦ λ is. lawful_let_go (delivering s k m)
-          (told_if_keeps history IsLawful all_lawful (with_delivery s k m) (lawful_delivery s k m l (found_in (is_ready_for s k) s.got m is) (found_passes (is_ready_for s k) s.got m is)) k (told_of m.id m.body))
+          (told_if_keeps history IsLawful all_lawful (with_delivery s k m)
+          (lawful_delivery s k m l (found_in (is_ready_for s k) s.got m is) (found_passes (is_ready_for s k) s.got m is))
+          k (told_of m.id m.body))
       | None ↦ λ _. l
     ] refl
 
-pub lawful_iterate : (n : ℕ) (f : State → State) → ((s : State) → IsLawful s → IsLawful (f s)) → (s : State) → IsLawful s → IsLawful (iterate n f s)
+pub lawful_iterate : (n : ℕ) (f : State → State) → ((s : State) → IsLawful s → IsLawful (f s)) → (s : State) → IsLawful s →
+    IsLawful (iterate n f s)
 lawful_iterate zero f h s l = l
 lawful_iterate (suc n) f h s l = lawful_iterate n f h (f s) (h s l)
 
@@ -231,12 +256,14 @@ lawful_settle s l = lawful_fold deliver_all lawful_deliver_all (serials s) s l
 -- Set-order messages
 
 -- the holder may raise its time as it sends a set-order message
-pub lawful_order_sent : (s : State) (g : GroupNo) (k : ℕ) (content : Body) → IsLawful s → may_set_order s g k ≡ true → IsLawful (sending s g k content)
+pub lawful_order_sent : (s : State) (g : GroupNo) (k : ℕ) (content : Body) → IsLawful s → may_set_order s g k ≡ true →
+    IsLawful (sending s g k content)
 lawful_order_sent s g k content l may =
     let raises = may_raise (s.process k).time g (local s k) in
     let place = has_place (order_told s g) in
     let some = not (is_empty (unlisted_ids s g k)) in
-    let a = and_parts (is_member ((s.process k).standing g)) (not (s.group g).frozen && (may_order history s && (some && (place && raises)))) may in
+    let a =
+    and_parts (is_member ((s.process k).standing g)) (not (s.group g).frozen && (may_order history s && (some && (place && raises)))) may in
     let o = and_parts (not (s.group g).frozen) (may_order history s && (some && (place && raises))) a.1 in
     let b = and_parts (may_order history s) (some && (place && raises)) o.1 in
     let c = and_parts some (place && raises) b.1 in
@@ -276,7 +303,8 @@ same_want_own g es s = same_fold (want_own history g) (λ t e. same_owe t (own_w
 pub go_on_config : (s : State) (g : GroupNo) → (go_on history resting s g).config ≡ s.config
 go_on_config s g = waits (s.group g).pending
   where
-    of_cut : (b : Bool) (p : Pending) → (if b then let_go (complete history s g p) else fold (want_own history g) s (missing_in s g p.cut)).config ≡ s.config
+    of_cut : (b : Bool) (p : Pending) →
+        (if b then let_go (complete history s g p) else fold (want_own history g) s (missing_in s g p.cut)).config ≡ s.config
     of_cut true p = (alike_installing s g false s.config.home ((s.group g).number + 1) p.members p.request p.cut).config
     of_cut false p = (same_want_own g (missing_in s g p.cut) s).config
 
@@ -285,7 +313,9 @@ go_on_config s g = waits (s.group g).pending
     waits None = refl
 
 -- what holds after each group holds after all of them
-pub go_on_each : (holds : State → Type 0) → ((s : State) (g : GroupNo) → is_group s g ≡ true → holds s → holds (go_on history resting s g)) → (s : State) → holds s → holds (go_on_all history resting s)
+pub go_on_each : (holds : State → Type 0) →
+    ((s : State) (g : GroupNo) → is_group s g ≡ true → holds s → holds (go_on history resting s g)) → (s : State) → holds s →
+    holds (go_on_all history resting s)
 go_on_each holds step s l = each s.config.groups s (λ g at. listed g s.config.groups at) l
   where
     listed : (g : GroupNo) (gs : List GroupNo) → In g gs → is_among group_eq g gs ≡ true
@@ -293,10 +323,12 @@ go_on_each holds step s l = each s.config.groups s (λ g at. listed g s.config.g
     listed g (x ∷ gs) (inl same) = or_left (group_eq g x) (is_among group_eq g gs) (subst (λ y. group_eq g y ≡ true) same (group_itself g))
     listed g (x ∷ gs) (inr at) = or_right (group_eq g x) (is_among group_eq g gs) (listed g gs at)
 
-    each : (gs : List GroupNo) (t : State) → ((g : GroupNo) → In g gs → is_group t g ≡ true) → holds t → holds (fold (go_on history resting) t gs)
+    each : (gs : List GroupNo) (t : State) → ((g : GroupNo) → In g gs → is_group t g ≡ true) → holds t →
+        holds (fold (go_on history resting) t gs)
     each [] t among h = h
     each (g ∷ gs) t among h =
-        each gs (go_on history resting t g) (λ x at. ap (λ (c : DomainConfig). is_among group_eq x c.groups) (go_on_config t g) ∙ among x (inr at))
+        each gs (go_on history resting t g)
+        (λ x at. ap (λ (c : DomainConfig). is_among group_eq x c.groups) (go_on_config t g) ∙ among x (inr at))
         (step t g (among g (inl refl)) h)
 
 -- in each group

@@ -29,7 +29,9 @@ then_led start events = run_in 1 (record { answers = []; sent = []; pushed = sta
 
 -- at the home, which is site 9: a process joins, leaves, and joins anew before its site reports
 begun : Ran
-begun = run_of 1 (site 9) (config 9 (site 1 ∷ site 2 ∷ site 9 ∷ []) (group 1 ∷ [])) (comes 1 (frame.Ask (group 1) 1 change.Join p11) ∷ comes 1 (frame.Installed (group 1) 1) ∷ [])
+begun =
+    run_of 1 (site 9) (config 9 (site 1 ∷ site 2 ∷ site 9 ∷ []) (group 1 ∷ []))
+    (comes 1 (frame.Ask (group 1) 1 change.Join p11) ∷ comes 1 (frame.Installed (group 1) 1) ∷ [])
 
 begun_sent : begun.sent ≡
     (site 1, frame.Asked (group 1) 1 false) ∷ (site 1, install 1 1 (p11 ∷ []) p11 1) ∷ []
@@ -135,7 +137,9 @@ unfolding fetched lacking second next_view
 fetched_sent = refl
 
 forwarded : Ran
-forwarded = then_led at_lacking (comes 1 (frame.Forward (alone 1 2 p11 1)) ∷ comes 2 (frame.Want (uid 1 2 p11 1)) ∷ comes 2 (frame.Want (uid 1 2 p11 2)) ∷ [])
+forwarded =
+    then_led at_lacking
+    (comes 1 (frame.Forward (alone 1 2 p11 1)) ∷ comes 2 (frame.Want (uid 1 2 p11 1)) ∷ comes 2 (frame.Want (uid 1 2 p11 2)) ∷ [])
 
 forwarded_sent : forwarded.sent ≡ (site 1, next_view 2) ∷ (site 2, next_view 1) ∷ (site 2, frame.Forward (alone 1 2 p11 1)) ∷ []
 unfolding forwarded lacking second next_view

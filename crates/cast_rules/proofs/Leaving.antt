@@ -15,7 +15,8 @@ use Rattle.cast_rules.specs.Rules.Asking.{request}
 use Rattle.cast_rules.specs.Rules.Leaving.{leave_group}
 use Rattle.cast_rules.specs.State.{State, local, outside}
 use Rattle.cast_rules.specs.Run.{Ran, run_of}
-use Rattle.cast_rules.proofs.Words.{site, group, uid, alone, config, opens, asks_join, asks_leave, casts, sends_bad, is_gone, comes, data_from, p11, p21, in_second_view, then_run, pushed_after}
+use Rattle.cast_rules.proofs.Words.{site, group, uid, alone, config, opens, asks_join, asks_leave, casts, sends_bad}
+use Rattle.cast_rules.proofs.Words.{is_gone, comes, data_from, p11, p21, in_second_view, then_run, pushed_after}
 
 -- a member leaves, once
 left : Ran

@@ -34,7 +34,8 @@ use Rattle.cast_events.specs.declared.event.Event.{Event}
 use Rattle.cast_events.specs.declared.event.Event.TheVariants as event
 use Rattle.cast_rules.specs.Acts.{Act}
 use Rattle.cast_rules.specs.Acts.Act.{Sent, Delivered, Entered, Left}
-use Rattle.cast_rules.specs.State.{State, local, serials, receiving, noting_sent, pushing, closing, taking, setting_quota, with_push, local_members, set_process, set_group, with_delivery, noting_act, outside, acts_outside, set_standing}
+use Rattle.cast_rules.specs.State.{State, local, serials, receiving, noting_sent, pushing, closing, taking, setting_quota, with_push}
+use Rattle.cast_rules.specs.State.{local_members, set_process, set_group, with_delivery, noting_act, outside, acts_outside, set_standing}
 use Rattle.cast_rules.specs.Entering.{put_outside, is_put_out, all_parted, putting_out, enters, in_view, all_in_view, passing}
 use Rattle.cast_rules.specs.Turns.{is_ready_for}
 use Rattle.cast_rules.specs.Lawful.{IsTyped}
@@ -83,7 +84,8 @@ abcasts_append : (xs ys : List Act) → abcasts_by (xs ++ ys) ≡ abcasts_by xs 
 abcasts_append [] ys = refl
 abcasts_append (Sent m ∷ xs) ys = abcasts_append xs ys
 abcasts_append (Delivered m ∷ xs) ys =
-    elim (is_atomic (kind_of m.body)) as (λ b. (if b then m.id ∷ abcasts_by (xs ++ ys) else abcasts_by (xs ++ ys)) ≡ (if b then m.id ∷ abcasts_by xs else abcasts_by xs) ++ abcasts_by ys) [
+    elim (is_atomic (kind_of m.body)) as (λ b. (if b then m.id ∷ abcasts_by (xs ++ ys) else abcasts_by (xs ++ ys))
+    ≡ (if b then m.id ∷ abcasts_by xs else abcasts_by xs) ++ abcasts_by ys) [
       | true ↦ ap (λ us. m.id ∷ us) (abcasts_append xs ys)
       | false ↦ abcasts_append xs ys
     ]
@@ -95,7 +97,8 @@ nothing_sent : (xs : List Act) (a : Act) → sent_by (a ∷ []) ≡ [] → sent_
 nothing_sent xs a none = sym (append-nil (sent_by xs)) ∙ ap (λ ms. sent_by xs ++ ms) (sym none) ∙ sym (sent_append xs (a ∷ []))
 
 nothing_delivered : (xs : List Act) (a : Act) → delivered_by (a ∷ []) ≡ [] → delivered_by xs ≡ delivered_by (xs ++ a ∷ [])
-nothing_delivered xs a none = sym (append-nil (delivered_by xs)) ∙ ap (λ us. delivered_by xs ++ us) (sym none) ∙ sym (delivered_append xs (a ∷ []))
+nothing_delivered xs a none =
+    sym (append-nil (delivered_by xs)) ∙ ap (λ us. delivered_by xs ++ us) (sym none) ∙ sym (delivered_append xs (a ∷ []))
 
 no_abcast : (xs : List Act) (a : Act) → abcasts_by (a ∷ []) ≡ [] → abcasts_by xs ≡ abcasts_by (xs ++ a ∷ [])
 no_abcast xs a none = sym (append-nil (abcasts_by xs)) ∙ ap (λ us. abcasts_by xs ++ us) (sym none) ∙ sym (abcasts_append xs (a ∷ []))
@@ -114,7 +117,8 @@ all_within (x ∷ xs) = inl (xs, refl, all_within xs)
 
 within_append : {A : Type 0} (xs ys us vs : List A) → AreWithin xs ys → AreWithin us vs → AreWithin (xs ++ us) (ys ++ vs)
 within_append xs [] us vs none more = subst (λ zs. AreWithin (zs ++ us) vs) (sym none) more
-within_append xs (y ∷ ys) us vs (inl (rest, is, within)) more = inl (rest ++ us, ap (λ zs. zs ++ us) is, within_append rest ys us vs within more)
+within_append xs (y ∷ ys) us vs (inl (rest, is, within)) more =
+    inl (rest ++ us, ap (λ zs. zs ++ us) is, within_append rest ys us vs within more)
 within_append xs (y ∷ ys) us vs (inr within) more = inr (within_append xs ys us vs within more)
 
 -- a list is within one that goes on
@@ -134,10 +138,11 @@ noted_pushing s n k p = elim (is_open (s.session k)) as (λ b. IsNoted (if b the
 ]
 
 noted_closing : (s : State) → IsNoted s → (k : ℕ) (refusal : Refusal) → IsNoted (closing s k refusal)
-noted_closing s n k refusal = elim (is_open (s.session k)) as (λ b. IsNoted (if b then with_push s k (tell_end refusal (s.session k)) (push.Closed refusal) else s)) [
-  | true ↦ record { sent = n.sent; delivered = n.delivered; abcasts = n.abcasts }
-  | false ↦ n
-]
+noted_closing s n k refusal =
+    elim (is_open (s.session k)) as (λ b. IsNoted (if b then with_push s k (tell_end refusal (s.session k)) (push.Closed refusal) else s)) [
+      | true ↦ record { sent = n.sent; delivered = n.delivered; abcasts = n.abcasts }
+      | false ↦ n
+    ]
 
 -- a process that has delivered what it had delivered
 noted_process : (s : State) → IsNoted s → (k : ℕ) (p : Process) → p.delivered ≡ (s.process k).delivered → IsNoted (set_process s k p)
@@ -161,14 +166,16 @@ noted_outside s n k g = record {
     now : IsNoted (set_standing s k g Outside)
     now = noted_process s n k (record (s.process k) { standing = set_at group_eq (s.process k).standing g Outside }) refl
 
-    left_same : {A : Type 0} (f : List Act → A) → ((xs : List Act) → f xs ≡ f (xs ++ Left g ∷ [])) → (j : ℕ) → f (s.acts j) ≡ f (acts_outside s k g j)
-    left_same f same j = elim (is_member ((s.process k).standing g)) as (λ b. f (s.acts j) ≡ f ((if b then (noting_act s k (Left g)).acts else s.acts) j)) [
-      | true ↦ elim (k == j) as (λ b. k == j ≡ b → f (s.acts j) ≡ f (if b then s.acts k ++ Left g ∷ [] else s.acts j)) [
-        | true ↦ λ is. ap (λ i. f (s.acts i)) (sym (eqb-true k j is)) ∙ same (s.acts k)
-        | false ↦ λ _. refl
-      ] refl
-      | false ↦ refl
-    ]
+    left_same : {A : Type 0} (f : List Act → A) → ((xs : List Act) → f xs ≡ f (xs ++ Left g ∷ [])) → (j : ℕ) →
+        f (s.acts j) ≡ f (acts_outside s k g j)
+    left_same f same j =
+        elim (is_member ((s.process k).standing g)) as (λ b. f (s.acts j) ≡ f ((if b then (noting_act s k (Left g)).acts else s.acts) j)) [
+          | true ↦ elim (k == j) as (λ b. k == j ≡ b → f (s.acts j) ≡ f (if b then s.acts k ++ Left g ∷ [] else s.acts j)) [
+            | true ↦ λ is. ap (λ i. f (s.acts i)) (sym (eqb-true k j is)) ∙ same (s.acts k)
+            | false ↦ λ _. refl
+          ] refl
+          | false ↦ refl
+        ]
 
 -- a message is received: of another site, or one that the home brings, which may be under the name of a process of this site
 noted_receiving : (s : State) → IsNoted s → (m : Message) → IsNoted (receiving s m)
@@ -190,17 +197,20 @@ noted_sent s n k m named = record {
       ∙ ap (λ p. own s j ++ cond (proc_eq p (local s j)) (m ∷ []) []) named
       ∙ ap (λ b. own s j ++ cond (b && (k == j)) (m ∷ []) []) (site_itself s.here) in
       subst (AreWithin (sent_by (if k == j then s.acts k ++ Sent m ∷ [] else s.acts j))) (sym grown)
-      (elim (k == j) as (λ b. k == j ≡ b → AreWithin (sent_by (if b then s.acts k ++ Sent m ∷ [] else s.acts j)) (own s j ++ cond b (m ∷ []) [])) [
+      (elim (k == j)
+      as (λ b. k == j ≡ b → AreWithin (sent_by (if b then s.acts k ++ Sent m ∷ [] else s.acts j)) (own s j ++ cond b (m ∷ []) [])) [
         | true ↦ λ is.
             subst (λ i. AreWithin (sent_by (s.acts k ++ Sent m ∷ [])) (own s i ++ m ∷ [])) (eqb-true k j is)
             (subst (λ ms. AreWithin ms (own s k ++ m ∷ [])) (sym (sent_append (s.acts k) (Sent m ∷ [])))
             (within_append (sent_by (s.acts k)) (own s k) (m ∷ []) (m ∷ []) (n.sent k) (all_within (m ∷ []))))
         | false ↦ λ _. subst (AreWithin (sent_by (s.acts j))) (sym (append-nil (own s j))) (n.sent j)
       ] refl);
-  delivered = λ j. elim (k == j) as (λ b. (if b then record (s.process k) { time = m.times } else s.process j).delivered ≡ delivered_by (if b then s.acts k ++ Sent m ∷ [] else s.acts j)) [
-    | true ↦ n.delivered k ∙ nothing_delivered (s.acts k) (Sent m) refl
-    | false ↦ n.delivered j
-  ];
+  delivered = λ j.
+      elim (k == j) as (λ b. (if b then record (s.process k) { time = m.times } else s.process j).delivered
+      ≡ delivered_by (if b then s.acts k ++ Sent m ∷ [] else s.acts j)) [
+        | true ↦ n.delivered k ∙ nothing_delivered (s.acts k) (Sent m) refl
+        | false ↦ n.delivered j
+      ];
   abcasts = λ j. elim (k == j) as (λ b. k == j ≡ b → s.abcasts j ≡ abcasts_by (if b then s.acts k ++ Sent m ∷ [] else s.acts j)) [
     | true ↦ λ is. ap s.abcasts (sym (eqb-true k j is)) ∙ n.abcasts k ∙ no_abcast (s.acts k) (Sent m) refl
     | false ↦ λ _. n.abcasts j
@@ -215,45 +225,64 @@ noted_delivery s n k m = record {
         (subst (λ i. AreWithin (sent_by (s.acts i)) (own s j)) (sym (eqb-true k j is)) (n.sent j))
     | false ↦ λ _. n.sent j
   ] refl;
-  delivered = λ j. elim (k == j) as (λ b. (if b then now else s.process j).delivered ≡ delivered_by (if b then s.acts k ++ Delivered m ∷ [] else s.acts j)) [
-    | true ↦ ap (λ us. us ++ m.id ∷ []) (n.delivered k) ∙ sym (delivered_append (s.acts k) (Delivered m ∷ []))
-    | false ↦ n.delivered j
-  ];
-  abcasts = λ j. elim (is_atomic (kind_of m.body)) as (λ a. is_atomic (kind_of m.body) ≡ a → (if a then (λ i. if k == i then s.abcasts k ++ m.id ∷ [] else s.abcasts i) else s.abcasts) j ≡ abcasts_by (if k == j then s.acts k ++ Delivered m ∷ [] else s.acts j)) [
-    | true ↦ λ atomic. elim (k == j) as (λ b. (if b then s.abcasts k ++ m.id ∷ [] else s.abcasts j) ≡ abcasts_by (if b then s.acts k ++ Delivered m ∷ [] else s.acts j)) [
-      | true ↦ ap (λ us. us ++ m.id ∷ []) (n.abcasts k)
-          ∙ ap (λ b. abcasts_by (s.acts k) ++ (if b then m.id ∷ [] else [])) (sym atomic)
-          ∙ sym (abcasts_append (s.acts k) (Delivered m ∷ []))
-      | false ↦ n.abcasts j
-    ]
-    | false ↦ λ other. elim (k == j) as (λ b. k == j ≡ b → s.abcasts j ≡ abcasts_by (if b then s.acts k ++ Delivered m ∷ [] else s.acts j)) [
-      | true ↦ λ is. ap s.abcasts (sym (eqb-true k j is)) ∙ n.abcasts k ∙ no_abcast (s.acts k) (Delivered m) (ap (λ b. if b then m.id ∷ [] else []) other)
-      | false ↦ λ _. n.abcasts j
-    ] refl
-  ] refl;
+  delivered = λ j.
+      elim (k == j)
+      as (λ b. (if b then now else s.process j).delivered ≡ delivered_by (if b then s.acts k ++ Delivered m ∷ [] else s.acts j)) [
+        | true ↦ ap (λ us. us ++ m.id ∷ []) (n.delivered k) ∙ sym (delivered_append (s.acts k) (Delivered m ∷ []))
+        | false ↦ n.delivered j
+      ];
+  abcasts = λ j.
+      elim (is_atomic (kind_of m.body)) as (λ a. is_atomic (kind_of m.body) ≡ a →
+      (if a then (λ i. if k == i then s.abcasts k ++ m.id ∷ [] else s.abcasts i)
+      else s.abcasts) j ≡ abcasts_by (if k == j then s.acts k ++ Delivered m ∷ [] else s.acts j)) [
+        | true ↦ λ atomic.
+            elim (k == j) as (λ b.
+            (if b then s.abcasts k ++ m.id ∷ [] else s.abcasts j) ≡ abcasts_by (if b then s.acts k ++ Delivered m ∷ [] else s.acts j)) [
+              | true ↦ ap (λ us. us ++ m.id ∷ []) (n.abcasts k)
+                  ∙ ap (λ b. abcasts_by (s.acts k) ++ (if b then m.id ∷ [] else [])) (sym atomic)
+                  ∙ sym (abcasts_append (s.acts k) (Delivered m ∷ []))
+              | false ↦ n.abcasts j
+            ]
+        | false ↦
+            λ other. elim (k == j) as (λ b. k == j ≡ b → s.abcasts j ≡ abcasts_by (if b then s.acts k ++ Delivered m ∷ [] else s.acts j)) [
+              | true ↦ λ is.
+                  ap s.abcasts (sym (eqb-true k j is))
+                  ∙ n.abcasts k
+                  ∙ no_abcast (s.acts k) (Delivered m) (ap (λ b. if b then m.id ∷ [] else []) other)
+              | false ↦ λ _. n.abcasts j
+            ] refl
+      ] refl;
 }
   where
     now : Process
     now = record (s.process k) { time = join (s.process k).time m.times; delivered = (s.process k).delivered ++ m.id ∷ [] }
 
 -- processes enter a view
-noted_in_view : (s : State) → IsNoted s → (g : GroupNo) (v : ℕ) (members : Membership) (request : ℕ) (cut : CountList) → IsNoted (all_in_view s g v members request cut)
+noted_in_view : (s : State) → IsNoted s → (g : GroupNo) (v : ℕ) (members : Membership) (request : ℕ) (cut : CountList) →
+    IsNoted (all_in_view s g v members request cut)
 noted_in_view s n g v members request cut = record {
-  sent = λ k. elim (enters s g members request k) as (λ b. AreWithin (sent_by (if b then s.acts k ++ Entered g v cut ∷ [] else s.acts k)) (own s k)) [
-    | true ↦ subst (λ ms. AreWithin ms (own s k)) (nothing_sent (s.acts k) (Entered g v cut) refl) (n.sent k)
-    | false ↦ n.sent k
-  ];
-  delivered = λ k. elim (enters s g members request k) as (λ b. (if b then in_view g v (s.process k) else s.process k).delivered ≡ delivered_by (if b then s.acts k ++ Entered g v cut ∷ [] else s.acts k)) [
-    | true ↦ n.delivered k ∙ nothing_delivered (s.acts k) (Entered g v cut) refl
-    | false ↦ n.delivered k
-  ];
-  abcasts = λ k. n.abcasts k ∙ (elim (enters s g members request k) as (λ b. abcasts_by (s.acts k) ≡ abcasts_by (if b then s.acts k ++ Entered g v cut ∷ [] else s.acts k)) [
-    | true ↦ no_abcast (s.acts k) (Entered g v cut) refl
-    | false ↦ refl
-  ]);
+  sent = λ k.
+      elim (enters s g members request k)
+      as (λ b. AreWithin (sent_by (if b then s.acts k ++ Entered g v cut ∷ [] else s.acts k)) (own s k)) [
+        | true ↦ subst (λ ms. AreWithin ms (own s k)) (nothing_sent (s.acts k) (Entered g v cut) refl) (n.sent k)
+        | false ↦ n.sent k
+      ];
+  delivered = λ k.
+      elim (enters s g members request k) as (λ b. (if b then in_view g v (s.process k) else s.process k).delivered
+      ≡ delivered_by (if b then s.acts k ++ Entered g v cut ∷ [] else s.acts k)) [
+        | true ↦ n.delivered k ∙ nothing_delivered (s.acts k) (Entered g v cut) refl
+        | false ↦ n.delivered k
+      ];
+  abcasts = λ k.
+      n.abcasts k ∙ (elim (enters s g members request k)
+      as (λ b. abcasts_by (s.acts k) ≡ abcasts_by (if b then s.acts k ++ Entered g v cut ∷ [] else s.acts k)) [
+        | true ↦ no_abcast (s.acts k) (Entered g v cut) refl
+        | false ↦ refl
+      ]);
 }
 
-noted_fold : {X : Type 0} (f : State → X → State) → ((s : State) (x : X) → IsNoted s → IsNoted (f s x)) → (xs : List X) (s : State) → IsNoted s → IsNoted (fold f s xs)
+noted_fold : {X : Type 0} (f : State → X → State) → ((s : State) (x : X) → IsNoted s → IsNoted (f s x)) → (xs : List X) (s : State) →
+    IsNoted s → IsNoted (fold f s xs)
 noted_fold f h [] s n = n
 noted_fold f h (x ∷ xs) s n = noted_fold f h xs (f s x) (h s x n)
 
@@ -264,18 +293,27 @@ noted_all_parted s n g goes = record {
     | true ↦ subst (λ ms. AreWithin ms (own s k)) (nothing_sent (s.acts k) (Left g) refl) (n.sent k)
     | false ↦ n.sent k
   ];
-  delivered = λ k. elim (goes k) as (λ b. (if b then put_outside g (s.process k) else s.process k).delivered ≡ delivered_by (if b then s.acts k ++ Left g ∷ [] else s.acts k)) [
-    | true ↦ n.delivered k ∙ nothing_delivered (s.acts k) (Left g) refl
-    | false ↦ n.delivered k
-  ];
-  abcasts = λ k. n.abcasts k ∙ (elim (goes k) as (λ b. abcasts_by (s.acts k) ≡ abcasts_by (if b then s.acts k ++ Left g ∷ [] else s.acts k)) [ true ↦ no_abcast (s.acts k) (Left g) refl | false ↦ refl ]);
+  delivered = λ k.
+      elim (goes k) as (λ b.
+      (if b then put_outside g (s.process k) else s.process k).delivered ≡ delivered_by (if b then s.acts k ++ Left g ∷ [] else s.acts k)) [
+        | true ↦ n.delivered k ∙ nothing_delivered (s.acts k) (Left g) refl
+        | false ↦ n.delivered k
+      ];
+  abcasts = λ k. n.abcasts k
+      ∙ (elim (goes k) as (λ b. abcasts_by (s.acts k) ≡ abcasts_by (if b then s.acts k ++ Left g ∷ [] else s.acts k)) [
+        | true ↦
+            no_abcast (s.acts k) (Left g) refl
+        | false ↦ refl
+      ]);
 }
 
-noted_passing : (s : State) → IsNoted s → (g : GroupNo) (skips : Bool) (v : ℕ) (members : Membership) (request : ℕ) (cut : CountList) → IsNoted (passing s g skips v members request cut)
+noted_passing : (s : State) → IsNoted s → (g : GroupNo) (skips : Bool) (v : ℕ) (members : Membership) (request : ℕ) (cut : CountList) →
+    IsNoted (passing s g skips v members request cut)
 noted_passing s n g skips v members request cut =
     let left : State = putting_out s g skips members in
     let parted : IsNoted left = noted_all_parted s n g (is_put_out s g skips members) in
-    noted_in_view (set_group left g (with_view s.here v members (s.group g))) (record { sent = parted.sent; delivered = parted.delivered; abcasts = parted.abcasts }) g v members request cut
+    noted_in_view (set_group left g (with_view s.here v members (s.group g)))
+    (record { sent = parted.sent; delivered = parted.delivered; abcasts = parted.abcasts }) g v members request cut
 
 noted_moves : IsInvariant history IsNoted
 noted_moves = record {
@@ -318,17 +356,20 @@ noted_acted s (event.Open d) n typed = elim (may_open history sessions_given s) 
   | false ↦ n
 ]
 noted_acted s (event.Command d k c) n typed = commanded_keeps history IsNoted all_noted s n k c
-noted_acted s (event.Gone d k) n typed = ended_keeps history IsNoted all_noted s n k (record { sent = n.sent; delivered = n.delivered; abcasts = n.abcasts })
+noted_acted s (event.Gone d k) n typed =
+    ended_keeps history IsNoted all_noted s n k (record { sent = n.sent; delivered = n.delivered; abcasts = n.abcasts })
 noted_acted s (event.Suspect d site) n typed = suspect_keeps history IsNoted all_noted s n site
 noted_acted s (event.Frame d from f) n typed = framed_keeps history IsNoted all_noted s n from f typed
-noted_acted s (event.Quota d name value) n typed = elim (is_in_range name value) as (λ b. IsNoted (if b then setting_quota s name value else s)) [
-  | true ↦ record { sent = n.sent; delivered = n.delivered; abcasts = n.abcasts }
-  | false ↦ n
-]
-noted_acted s (event.Take d k most) n typed = elim (not (is_gone (s.session k)) && is_taken most) as (λ b. IsNoted (if b then taking s k most else s)) [
-  | true ↦ record { sent = n.sent; delivered = n.delivered; abcasts = n.abcasts }
-  | false ↦ n
-]
+noted_acted s (event.Quota d name value) n typed =
+    elim (is_in_range name value) as (λ b. IsNoted (if b then setting_quota s name value else s)) [
+      | true ↦ record { sent = n.sent; delivered = n.delivered; abcasts = n.abcasts }
+      | false ↦ n
+    ]
+noted_acted s (event.Take d k most) n typed =
+    elim (not (is_gone (s.session k)) && is_taken most) as (λ b. IsNoted (if b then taking s k most else s)) [
+      | true ↦ record { sent = n.sent; delivered = n.delivered; abcasts = n.abcasts }
+      | false ↦ n
+    ]
 noted_acted s (event.Tick t) n typed = tick_keeps history IsNoted noted_moves s n t
 
 noted_let_go : (s : State) → IsNoted s → IsNoted (let_go s)
@@ -336,7 +377,9 @@ noted_let_go s n = record { sent = n.sent; delivered = n.delivered; abcasts = n.
 
 noted_first : (s : State) (k : ℕ) → IsNoted s → IsNoted (deliver_first k s)
 noted_first s k n = elim (find (is_ready_for s k) s.got) as (λ o. IsNoted (elim o [ Some m ↦ let_go (delivering s k m) | None ↦ s ])) [
-  | Some m ↦ noted_let_go (delivering s k m) (told_if_keeps history IsNoted all_noted (with_delivery s k m) (noted_delivery s n k m) k (told_of m.id m.body))
+  | Some m ↦
+      noted_let_go (delivering s k m)
+      (told_if_keeps history IsNoted all_noted (with_delivery s k m) (noted_delivery s n k m) k (told_of m.id m.body))
   | None ↦ n
 ]
 
@@ -344,7 +387,8 @@ noted_sending : (s : State) (g : GroupNo) (k : ℕ) (content : Body) → IsNoted
 noted_sending s g k content n =
     let m : Message = next_message s g k content in
     let taken : State = receiving (noting_sent s k m) m in
-    noted_fold (send_data history m.id) (λ t to h. send_data_keeps history IsNoted noted_moves m.id t h to) (history.others taken g) taken (noted_sent s n k m refl)
+    noted_fold (send_data history m.id) (λ t to h. send_data_keeps history IsNoted noted_moves m.id t h to) (history.others taken g)
+    taken (noted_sent s n k m refl)
 
 noted_set_order_by : (s : State) (g : GroupNo) (k : ℕ) → IsNoted s → IsNoted (set_order_by s g k)
 noted_set_order_by s g k n =
@@ -365,29 +409,39 @@ noted_complete s g p n =
     let entered : State = passing s g false v p.members p.request p.cut in
     let out : State = fold (tell_out history g v) entered (filter (is_put_out s g false p.members) (serials s)) in
     let told : IsNoted (fold (tell_view history g v p.members) out (local_members entered g)) =
-    noted_fold (tell_view history g v p.members) (λ t k m. told_keeps history IsNoted all_noted t m k (push.View g v p.members)) (local_members entered g) out
-    (noted_fold (tell_out history g v) (λ t k m. told_keeps history IsNoted all_noted t m k (push.Ejected g v)) (filter (is_put_out s g false p.members) (serials s)) entered
+    noted_fold (tell_view history g v p.members) (λ t k m. told_keeps history IsNoted all_noted t m k (push.View g v p.members))
+    (local_members entered g) out
+    (noted_fold (tell_out history g v) (λ t k m. told_keeps history IsNoted all_noted t m k (push.Ejected g v))
+    (filter (is_put_out s g false p.members) (serials s)) entered
     (noted_passing s n g false v p.members p.request p.cut)) in
     record { sent = told.sent; delivered = told.delivered; abcasts = told.abcasts }
 
 -- or what it lacks is wanted
 noted_go_on : (s : State) (g : GroupNo) → IsNoted s → IsNoted (go_on history resting s g)
 noted_go_on s g n = elim (s.group g).pending as (λ o. IsNoted (elim o [ Some p ↦ complete_or_want history resting s g p | None ↦ s ])) [
-  | Some p ↦ elim (has_delivered_cut s g p.cut) as (λ b. IsNoted (if b then let_go (complete history s g p) else fold (want_own history g) s (missing_in s g p.cut))) [
-    | true ↦ noted_let_go (complete history s g p) (noted_complete s g p n)
-    | false ↦ noted_fold (want_own history g) (λ t e m. owe_keeps history IsNoted noted_moves t m (own_want_key history t g e)) (missing_in s g p.cut) s n
-  ]
+  | Some p ↦
+      elim (has_delivered_cut s g p.cut)
+      as (λ b. IsNoted (if b then let_go (complete history s g p) else fold (want_own history g) s (missing_in s g p.cut))) [
+        | true ↦ noted_let_go (complete history s g p) (noted_complete s g p n)
+        | false ↦
+            noted_fold (want_own history g) (λ t e m. owe_keeps history IsNoted noted_moves t m (own_want_key history t g e))
+            (missing_in s g p.cut) s n
+      ]
   | None ↦ n
 ]
 
 pub acts_are_noted : ActsAreNoted
 acts_are_noted here config s opens = record { sent = λ k. refl; delivered = λ k. refl; abcasts = λ k. refl }
-acts_are_noted here config s (begins t p) = let n = acts_are_noted here config t p in record { sent = n.sent; delivered = n.delivered; abcasts = n.abcasts }
+acts_are_noted here config s (begins t p) =
+    let n = acts_are_noted here config t p in record { sent = n.sent; delivered = n.delivered; abcasts = n.abcasts }
 acts_are_noted here config s (acts t e typed p) = noted_acted t e (acts_are_noted here config t p) typed
 acts_are_noted here config s (lets_go t p) = noted_let_go t (acts_are_noted here config t p)
 acts_are_noted here config s (delivers t k p) = noted_first t k (acts_are_noted here config t p)
 acts_are_noted here config s (orders t g p) = noted_set_order t g (acts_are_noted here config t p)
 acts_are_noted here config s (goes_on t g listed p) = noted_go_on t g (acts_are_noted here config t p)
-acts_are_noted here config s (starts t g p) = start_keeps history IsNoted noted_moves all_noted.move_home t (acts_are_noted here config t p) g
-acts_are_noted here config s (wants t g p) = want_bodies_keeps history IsNoted noted_moves all_noted.move_home t (acts_are_noted here config t p) g
-acts_are_noted here config s (decides t g p) = decide_keeps history IsNoted noted_moves all_noted.move_home t (acts_are_noted here config t p) g
+acts_are_noted here config s (starts t g p) =
+    start_keeps history IsNoted noted_moves all_noted.move_home t (acts_are_noted here config t p) g
+acts_are_noted here config s (wants t g p) =
+    want_bodies_keeps history IsNoted noted_moves all_noted.move_home t (acts_are_noted here config t p) g
+acts_are_noted here config s (decides t g p) =
+    decide_keeps history IsNoted noted_moves all_noted.move_home t (acts_are_noted here config t p) g

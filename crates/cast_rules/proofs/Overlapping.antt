@@ -9,7 +9,8 @@ use Rattle.cast_message.specs.declared.site.SiteFrame.TheVariants as frame
 use Rattle.cast_message.specs.declared.client.CastKind.TheVariants as kind
 use Rattle.cast_message.specs.declared.client.Push.TheVariants as push
 use Rattle.cast_rules.specs.Run.{Ran, run_of}
-use Rattle.cast_rules.proofs.Words.{site, group, uid, at, members, config, opens, asks_join, comes, data_from, install, then_run, pushed_after, proc, p11, p21}
+use Rattle.cast_rules.proofs.Words.{site, group, uid, at, members, config, opens, asks_join, comes}
+use Rattle.cast_rules.proofs.Words.{data_from, install, then_run, pushed_after, proc, p11, p21}
 
 -- a causal message without payload, of view 2 of a group, whose time counts these in groups 1 and 2
 abbrev counting : ℕ → Proc → ℕ → List Entry → List Entry → Message

@@ -10,7 +10,8 @@ use Rattle.cast_rules.specs.State.{State}
 use Rattle.cast_rules.specs.History.{history}
 use Rattle.cast_rules.specs.Rules.Views.{no_members, change_view, on_out}
 use Rattle.cast_rules.specs.Run.{entries_for, Ran, run_in}
-use Rattle.cast_rules.proofs.Words.{site, group, proc, uid, members, alone, opens, asks_join, comes, data_from, install, p11, p21, in_second_view, then_run, pushed_after}
+use Rattle.cast_rules.proofs.Words.{site, group, proc, uid, members, alone, opens, asks_join, comes}
+use Rattle.cast_rules.proofs.Words.{data_from, install, p11, p21, in_second_view, then_run, pushed_after}
 
 -- The member has delivered a message of view 2. Told of view 4 it is put out; the message is kept no longer, and its Ack owed no more
 out : Ran
@@ -34,7 +35,9 @@ out_owed = refl
 
 -- it joins again, and is in view 5
 back : Ran
-back = run_in 1 (record { answers = []; sent = []; pushed = out.pushed; state = out.state }) (asks_join 1 9 1 ∷ comes 9 (install 1 5 (p11 ∷ []) p11 2) ∷ [])
+back =
+    run_in 1 (record { answers = []; sent = []; pushed = out.pushed; state = out.state })
+    (asks_join 1 9 1 ∷ comes 9 (install 1 5 (p11 ∷ []) p11 2) ∷ [])
 
 back_pushes : pushed_after 5 back ≡ push.Reply 9 None ∷ push.View (group 1) 5 (members (p11 ∷ []) p11) ∷ []
 unfolding back out

@@ -11,7 +11,8 @@ use Rattle.cast_message.specs.declared.client.Push.TheVariants as push
 use Rattle.cast_events.specs.declared.event.Event.{Event}
 use Rattle.cast_order.specs.Order.{known_order}
 use Rattle.cast_rules.specs.Run.{Ran, run_of}
-use Rattle.cast_rules.proofs.Words.{site, group, uid, at, alone, config, opens, asks_join, casts, casts_as, comes, data_from, install, then_run, pushed_after, proc, p11, p21}
+use Rattle.cast_rules.proofs.Words.{site, group, uid, at, alone, config, opens, asks_join, casts, casts_as}
+use Rattle.cast_rules.proofs.Words.{comes, data_from, install, then_run, pushed_after, proc, p11, p21}
 
 abbrev p31 : Proc
 p31 = proc 3 1
@@ -55,7 +56,8 @@ unfolding known_order placed c first second
 at_holder = then_run (placed 1) (data_from 2 first ∷ data_from 3 second ∷ data_from 2 c ∷ [])
 
 at_holder_pushes : pushed_after 3 at_holder ≡
-    push.Deliver (uid 1 3 p21 1) kind.Causal [] ∷ push.Deliver (uid 1 3 p21 2) kind.Atomic [] ∷ push.Deliver (uid 1 3 p31 1) kind.Atomic [] ∷ []
+    push.Deliver (uid 1 3 p21 1) kind.Causal [] ∷ push.Deliver (uid 1 3 p21 2) kind.Atomic []
+    ∷ push.Deliver (uid 1 3 p31 1) kind.Atomic [] ∷ []
 unfolding known_order at_holder placed c first second
 at_holder_pushes = refl
 
@@ -100,7 +102,11 @@ place =
     }
 
 after_own : Message
-after_own = record { id = uid 1 3 p21 2; times = at 1 3 ((p11, 1) ∷ (p21, 2) ∷ (p31, 1) ∷ []) ∷ at 2 2 ((p11, 1) ∷ []) ∷ []; body = body.Causal [] }
+after_own = record {
+  id = uid 1 3 p21 2;
+  times = at 1 3 ((p11, 1) ∷ (p21, 2) ∷ (p31, 1) ∷ []) ∷ at 2 2 ((p11, 1) ∷ []) ∷ [];
+  body = body.Causal [];
+}
 
 own_waits : Ran
 unfolding known_order placed later place

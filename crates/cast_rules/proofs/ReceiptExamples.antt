@@ -10,7 +10,8 @@ use Rattle.cast_events.specs.declared.config.DomainConfig.{DomainConfig}
 use Rattle.cast_events.specs.declared.event.Event.{Event}
 use Rattle.cast_events.specs.declared.event.Event.TheVariants as event
 use Rattle.cast_rules.specs.Run.{Ran, run_of}
-use Rattle.cast_rules.proofs.Words.{site, group, uid, at, alone, config, opens, asks_join, casts, comes, data_from, install, then_run, pushed_after, p11, p21}
+use Rattle.cast_rules.proofs.Words.{site, group, uid, at, alone, config, opens, asks_join, casts}
+use Rattle.cast_rules.proofs.Words.{comes, data_from, install, then_run, pushed_after, p11, p21}
 
 -- 1.1 is in view 2 of group 1 with 2.1, the home is site 9, and one message may be kept
 holds_one : DomainConfig
@@ -34,7 +35,8 @@ unfolding narrow holds_one
 two_casts = then_run narrow (data_from 2 (alone 1 2 p21 1) ∷ casts 1 8 1 [] ∷ comes 2 (frame.Stable (uid 1 2 p21 1)) ∷ casts 1 9 1 [] ∷ [])
 
 two_casts_pushes : pushed_after 3 two_casts ≡
-    push.Deliver (uid 1 2 p21 1) kind.Causal [] ∷ push.Reply 8 (Some HeldFull) ∷ push.Reply 9 None ∷ push.Deliver (uid 1 2 p11 1) kind.Causal [] ∷ []
+    push.Deliver (uid 1 2 p21 1) kind.Causal [] ∷ push.Reply 8 (Some HeldFull) ∷ push.Reply 9 None
+    ∷ push.Deliver (uid 1 2 p11 1) kind.Causal [] ∷ []
 unfolding two_casts narrow holds_one
 two_casts_pushes = refl
 
@@ -81,7 +83,8 @@ no_answer : Ran
 unfolding narrow holds_one
 no_answer = then_run narrow (casts 1 8 1 [] ∷ casts 1 9 1 [] ∷ [])
 
-no_answer_pushes : pushed_after 3 no_answer ≡ push.Reply 8 None ∷ push.Deliver (uid 1 2 p11 1) kind.Causal [] ∷ push.Reply 9 (Some HeldFull) ∷ []
+no_answer_pushes : pushed_after 3 no_answer
+    ≡ push.Reply 8 None ∷ push.Deliver (uid 1 2 p11 1) kind.Causal [] ∷ push.Reply 9 (Some HeldFull) ∷ []
 unfolding no_answer narrow holds_one
 no_answer_pushes = refl
 

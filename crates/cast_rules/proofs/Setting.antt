@@ -28,7 +28,9 @@ may_set_order s g k =
     && may_raise (s.process k).time g (local s k)))))
 
 -- six tests, one after another
-six_tests : (m w o e h y : Bool) (f : Placement → State) (q : Placement) (s : State) → (if m && (w && o) then option_map_or (λ p. if y then f p else s) (if e && h then Some q else None) s else s) ≡ (if m && (w && (o && (e && (h && y)))) then f q else s)
+six_tests : (m w o e h y : Bool) (f : Placement → State) (q : Placement) (s : State) →
+    (if m && (w && o) then option_map_or (λ p. if y then f p else s) (if e && h then Some q else None) s
+    else s) ≡ (if m && (w && (o && (e && (h && y)))) then f q else s)
 six_tests false w o e h y f q s = refl
 six_tests true false o e h y f q s = refl
 six_tests true true false e h y f q s = refl
@@ -37,7 +39,9 @@ six_tests true true true true false y f q s = refl
 six_tests true true true true true true f q s = refl
 six_tests true true true true true false f q s = refl
 
-pub set_order_is : (s : State) (g : GroupNo) (k : ℕ) → set_order_by s g k ≡ (if may_set_order s g k then let_go (sending s g k (body.Order (places_of s g k))) else s)
+pub set_order_is : (s : State) (g : GroupNo) (k : ℕ) →
+    set_order_by s g k ≡ (if may_set_order s g k then let_go (sending s g k (body.Order (places_of s g k))) else s)
 set_order_is s g k =
-    six_tests (is_member ((s.process k).standing g)) (not (s.group g).frozen) (may_order history s) (not (is_empty (unlisted_ids s g k))) (has_place (order_told s g)) (may_raise (s.process k).time g (local s k))
+    six_tests (is_member ((s.process k).standing g)) (not (s.group g).frozen) (may_order history s) (not (is_empty (unlisted_ids s g k)))
+    (has_place (order_told s g)) (may_raise (s.process k).time g (local s k))
     (λ q. let_go (sending s g k (body.Order q))) (places_of s g k) s

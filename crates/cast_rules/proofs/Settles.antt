@@ -1,5 +1,6 @@
 -- Deliveries come to an end.
-use Rattle.std.proofs.Common.{◌≡◌, ℕ, ◌<◌, ◌≤◌, zero, suc, true, false, not, [], ◌∷◌, ◌++◌, length, Option, Some, None, refl, sym, ap, subst, ◌∙◌, arith}
+use Rattle.std.proofs.Common.{◌≡◌, ℕ, ◌<◌, ◌≤◌, zero, suc, true, false, not, [], ◌∷◌, ◌++◌}
+use Rattle.std.proofs.Common.{length, Option, Some, None, refl, sym, ap, subst, ◌∙◌, arith}
 use Rattle.std.specs.Prelude.{◌==◌, if◌then◌else◌}
 use Rattle.std.specs.List.{list_any, find}
 use Rattle.std.proofs.lemmas.Bool.{and_parts, not-true, eq-eqb}
@@ -32,10 +33,12 @@ pub record Delivers (k : ℕ) (m : Message) (s : State) (t : State) : Type 0 whe
   pub delivered : (j : ℕ) → (t.process j).delivered ≡ (if k == j then (s.process k).delivered ++ m.id ∷ [] else (s.process j).delivered)
 
 -- what each process has delivered after a delivery
-pub delivered_at : (s : State) (k : ℕ) (m : Message) (j : ℕ) → ((with_delivery s k m).process j).delivered ≡ (if k == j then (s.process k).delivered ++ m.id ∷ [] else (s.process j).delivered)
+pub delivered_at : (s : State) (k : ℕ) (m : Message) (j : ℕ) →
+    ((with_delivery s k m).process j).delivered ≡ (if k == j then (s.process k).delivered ++ m.id ∷ [] else (s.process j).delivered)
 delivered_at s k m j =
     let p : Process = record (s.process k) { time = join (s.process k).time m.times; delivered = (s.process k).delivered ++ m.id ∷ [] } in
-    elim (k == j) as (λ b. (if b then p else s.process j).delivered ≡ (if b then p.delivered else (s.process j).delivered)) [ true ↦ refl | false ↦ refl ]
+    elim (k == j)
+    as (λ b. (if b then p else s.process j).delivered ≡ (if b then p.delivered else (s.process j).delivered)) [ true ↦ refl | false ↦ refl ]
 
 -- the program is told, or nothing is told
 alike_told : (s : State) (k : ℕ) (o : Option Push) → Alike s (tell_if history s k o)
@@ -54,10 +57,20 @@ alike_delivering s k m =
 pub delivers : (s : State) (k : ℕ) (m : Message) → Delivers k m s (delivering_one s k m)
 delivers s k m =
     let a : Alike (with_delivery s k m) (delivering_one s k m) = alike_delivering s k m in
-    record { here = a.here; config = a.config; used = a.used; group = a.group; home = a.home; got = a.got; abcasts = a.abcasts; delivered = λ j. a.delivered j ∙ delivered_at s k m j }
+    record {
+      here = a.here;
+      config = a.config;
+      used = a.used;
+      group = a.group;
+      home = a.home;
+      got = a.got;
+      abcasts = a.abcasts;
+      delivered = λ j. a.delivered j ∙ delivered_at s k m j;
+    }
 
 -- what is ready is causally ready
-pub ready_causally : (s : State) (k : ℕ) (m : Message) → is_ready_for s k m ≡ true → is_causally_ready s.config.groups (gate_of s) (s.process k) m ≡ true
+pub ready_causally : (s : State) (k : ℕ) (m : Message) → is_ready_for s k m ≡ true →
+    is_causally_ready s.config.groups (gate_of s) (s.process k) m ≡ true
 ready_causally s k m e = (and_parts (is_causally_ready s.config.groups (gate_of s) (s.process k) m) _ e).0
 
 -- and so it was not delivered
@@ -75,12 +88,15 @@ pub delivered_none : (s : State) (k : ℕ) → find (is_ready_for s k) s.got ≡
 delivered_none s k e = ap (λ (o : Option Message). elim o [ Some m ↦ delivering_one s k m | None ↦ s ]) e
 
 -- fewer are left
-pub delivered_less : (s : State) (k : ℕ) (m : Message) → find (is_ready_for s k) s.got ≡ Some m → left_count ((delivering_one s k m).process k).delivered (delivering_one s k m).got < left_count (s.process k).delivered s.got
+pub delivered_less : (s : State) (k : ℕ) (m : Message) → find (is_ready_for s k) s.got ≡ Some m →
+    left_count ((delivering_one s k m).process k).delivered (delivering_one s k m).got < left_count (s.process k).delivered s.got
 delivered_less s k m e =
     let d : Delivers k m s (delivering_one s k m) = delivers s k m in
     let t : State = delivering_one s k m in
-    let same : (t.process k).delivered ≡ (s.process k).delivered ++ m.id ∷ [] = d.delivered k ∙ ap (λ b. if b then (s.process k).delivered ++ m.id ∷ [] else (s.process k).delivered) (eq-eqb k k refl) in
-    subst (λ n. n < left_count (s.process k).delivered s.got) (sym (ap (λ ids. left_count ids t.got) same ∙ ap (left_count ((s.process k).delivered ++ m.id ∷ [])) d.got))
+    let same : (t.process k).delivered ≡ (s.process k).delivered ++ m.id ∷ [] =
+    d.delivered k ∙ ap (λ b. if b then (s.process k).delivered ++ m.id ∷ [] else (s.process k).delivered) (eq-eqb k k refl) in
+    subst (λ n. n < left_count (s.process k).delivered s.got)
+    (sym (ap (λ ids. left_count ids t.got) same ∙ ap (left_count ((s.process k).delivered ++ m.id ∷ [])) d.got))
     (left_found (is_ready_for s k) (s.process k).delivered s.got m (ready_new s k) e)
 
 abbrev NoneReady : ℕ → State → Type 0
@@ -93,9 +109,14 @@ settled_in zero s k enough =
       | Some m ↦ λ e. let less = delivered_less s k m e in absurd (omega arith)
     ] refl
 settled_in (suc n) s k enough =
-    elim (find (is_ready_for s k) s.got) as (λ o. find (is_ready_for s k) s.got ≡ o → NoneReady k (iterate n (deliver_first k) (deliver_first k s))) [
-      | None ↦ λ e. subst (NoneReady k) (sym (ap (iterate n (deliver_first k)) (delivered_none s k e) ∙ iterate_still n (deliver_first k) s (delivered_none s k e))) e
-      | Some m ↦ λ e. let less = delivered_less s k m e in subst (λ t. NoneReady k (iterate n (deliver_first k) t)) (sym (delivered_first s k m e)) (settled_in n (delivering_one s k m) k (omega arith))
+    elim (find (is_ready_for s k) s.got)
+    as (λ o. find (is_ready_for s k) s.got ≡ o → NoneReady k (iterate n (deliver_first k) (deliver_first k s))) [
+      | None ↦ λ e.
+          subst (NoneReady k)
+          (sym (ap (iterate n (deliver_first k)) (delivered_none s k e) ∙ iterate_still n (deliver_first k) s (delivered_none s k e))) e
+      | Some m ↦ λ e.
+          let less = delivered_less s k m e in subst (λ t. NoneReady k (iterate n (deliver_first k) t)) (sym (delivered_first s k m e))
+          (settled_in n (delivering_one s k m) k (omega arith))
     ] refl
 
 pub settles_one : SettlesOne

@@ -19,7 +19,8 @@ all_at t (y ∷ xs) zero x all at = subst (λ z. t z ≡ true) (same_Some y x at
 all_at t (y ∷ xs) (suc i) x all at = all_at t xs i x (and_parts (t y) (list_all t xs) all).1 at
 
 -- functions that agree on all items that pass a test
-pub map_agree : {X Y : Type 0} (f g : X → Y) (t : X → Bool) (xs : List X) → list_all t xs ≡ true → ((x : X) → t x ≡ true → f x ≡ g x) → map f xs ≡ map g xs
+pub map_agree : {X Y : Type 0} (f g : X → Y) (t : X → Bool) (xs : List X) → list_all t xs ≡ true → ((x : X) → t x ≡ true → f x ≡ g x) →
+    map f xs ≡ map g xs
 map_agree f g t [] all same = refl
 map_agree f g t (x ∷ xs) all same =
     let parts = and_parts (t x) (list_all t xs) all in
@@ -37,13 +38,15 @@ below_apart_back g h below = false_from_ne_true (group_eq h g) (λ same.
     false≢true (sym (ap is_lt (tied_itself group_total g)) ∙ ap (λ k. is_lt (group_cmp g k)) (sym (same_group h g same)) ∙ below))
 
 -- in a rising list a group stands at one place: what changes there is what changes at the group
-pub update_mapped : {Y : Type 0} (f g : GroupNo → Y) (u : Y → Y) (gs : List GroupNo) (i : ℕ) (k : GroupNo) → is_rising group_cmp gs ≡ true → slice_get gs i ≡ Some k → u (f k) ≡ g k → ((h : GroupNo) → group_eq k h ≡ false → f h ≡ g h) → update (map f gs) i u ≡ map g gs
+pub update_mapped : {Y : Type 0} (f g : GroupNo → Y) (u : Y → Y) (gs : List GroupNo) (i : ℕ) (k : GroupNo) → is_rising group_cmp gs ≡ true →
+    slice_get gs i ≡ Some k → u (f k) ≡ g k → ((h : GroupNo) → group_eq k h ≡ false → f h ≡ g h) → update (map f gs) i u ≡ map g gs
 update_mapped f g u [] i k rising at own other = absurd (none-some k at)
 update_mapped f g u (x ∷ gs) zero k rising at own other =
     let parts = and_parts (list_all (λ y. is_lt (group_cmp x y)) gs) (is_rising group_cmp gs) rising in
     let is : x ≡ k = same_Some x k at in
     let here : u (f x) ≡ g x = subst (λ z. u (f z) ≡ g z) (sym is) own in
-    let later : map f gs ≡ map g gs = map_agree f g (λ y. is_lt (group_cmp x y)) gs parts.0 (λ y below. other y (ap (λ z. group_eq z y) (sym is) ∙ below_apart x y below)) in
+    let later : map f gs ≡ map g gs =
+    map_agree f g (λ y. is_lt (group_cmp x y)) gs parts.0 (λ y below. other y (ap (λ z. group_eq z y) (sym is) ∙ below_apart x y below)) in
     λ j. here j ∷ later j
 update_mapped f g u (x ∷ gs) (suc i) k rising at own other =
     let parts = and_parts (list_all (λ y. is_lt (group_cmp x y)) gs) (is_rising group_cmp gs) rising in

@@ -1,5 +1,6 @@
 -- What has nothing left to be done stays as it is.
-use Rattle.std.proofs.Common.{◌≡◌, ℕ, zero, suc, Bool, true, false, not, List, [], ◌∷◌, length, Option, Some, None, refl, sym, ap, subst, ◌∙◌, inl, inr}
+use Rattle.std.proofs.Common.{◌≡◌, ℕ, zero, suc, Bool, true, false, not, List, [], ◌∷◌}
+use Rattle.std.proofs.Common.{length, Option, Some, None, refl, sym, ap, subst, ◌∙◌, inl, inr}
 use Rattle.std.specs.Prelude.{◌&&◌, ◌||◌, if◌then◌else◌}
 use Rattle.std.specs.List.{fold, find, list_all, list_any}
 use Rattle.std.proofs.lemmas.Bool.{and_parts, or_left, or_right, not-true, false≢true}
@@ -80,27 +81,33 @@ module _ (s : State) (g : GroupNo) (rests : IsGroupAtRest s g) where
   none_listed : set_order s g ≡ s
   none_listed = still_over (λ t k. set_order_by t g k) (holders s g) s (λ k there.
       let t : State = let_go (sending s g k (body.Order (places_of s g k))) in
-      set_order_is s g k ∙ ap (λ b. if b then t else s) (sym (may_set_is s g k) ∙ not-true (lists_some s g k) (in_all (λ j. not (lists_some s g j)) (holders s g) rests.listed k there)))
+      set_order_is s g k ∙ ap (λ b. if b then t else s)
+      (sym (may_set_is s g k) ∙ not-true (lists_some s g k) (in_all (λ j. not (lists_some s g j)) (holders s g) rests.listed k there)))
 
   none_completed : go_on history resting s g ≡ s
-  none_completed = elim (s.group g).pending as (λ o. (s.group g).pending ≡ o → elim o as (λ _. State) [ Some p ↦ complete_or_want history resting s g p | None ↦ s ] ≡ s) [
-    | Some p ↦ λ is.
-        ap (λ b. if b then let_go (complete history s g p) else fold (want_own history g) s (missing_in s g p.cut)) (rests.waits p is)
-        ∙ still_over (want_own history g) (missing_in s g p.cut) s (λ e at.
-        owed_stays s (own_want_key history s g e) (in_all (λ x. is_owed s.owed (own_want_key history s g x)) (missing_in s g p.cut) (rests.wanted p is) e at))
-    | None ↦ λ _. refl
-  ] refl
+  none_completed =
+      elim (s.group g).pending
+      as (λ o. (s.group g).pending ≡ o → elim o as (λ _. State) [ Some p ↦ complete_or_want history resting s g p | None ↦ s ] ≡ s) [
+        | Some p ↦ λ is.
+            ap (λ b. if b then let_go (complete history s g p) else fold (want_own history g) s (missing_in s g p.cut)) (rests.waits p is)
+            ∙ still_over (want_own history g) (missing_in s g p.cut) s (λ e at.
+            owed_stays s (own_want_key history s g e)
+            (in_all (λ x. is_owed s.owed (own_want_key history s g x)) (missing_in s g p.cut) (rests.wanted p is) e at))
+        | None ↦ λ _. refl
+      ] refl
 
   none_led : is_home history s ≡ true → lead_group history s g ≡ s
   none_led home =
       let moved_on : HomeMove → State = λ move. set_home s g (apply_move move (s.home g)) in
       let first : start history s g ≡ s =
-      ap (λ b. if b then fold (owe_of_home history Prepare g) (moved_on Started) (awaited_of ((moved_on Started).home g).phase) else s) (rests.started home) in
+      ap (λ b. if b then fold (owe_of_home history Prepare g) (moved_on Started) (awaited_of ((moved_on Started).home g).phase) else s)
+      (rests.started home) in
       let second : want_bodies history s g ≡ s =
       still_over (want history g) (wants history s g) s (λ w at.
       owed_stays s (want_key g w) (in_all (λ x. is_owed s.owed (want_key g x)) (wants history s g) (rests.lacked home) w at)) in
       let third : decide history s g ≡ s =
-      ap (λ b. if b then fold (owe_of_home history Install g) (moved_on Decided) (waiting_of ((moved_on Decided).home g).phase) else s) (rests.decided home) in
+      ap (λ b. if b then fold (owe_of_home history Install g) (moved_on Decided) (waiting_of ((moved_on Decided).home g).phase) else s)
+      (rests.decided home) in
       ap (λ x. decide history (want_bodies history x g) g) first ∙ ap (λ x. decide history x g) second ∙ third
 
 -- A pass changes nothing
@@ -108,9 +115,11 @@ pub quiet_stays : QuietStays
 quiet_stays s rests =
     let each : (g : GroupNo) → In g s.config.groups → IsGroupAtRest s g = λ g at. rests.groups g (among_groups g s.config.groups at) in
     let first : settle s ≡ s =
-    still_over deliver_all (serials s) s (λ k at. none_delivered s k (in_all (λ j. not (list_any (is_ready_for s j) s.got)) (serials s) rests.ready k at)) in
+    still_over deliver_all (serials s)
+    s (λ k at. none_delivered s k (in_all (λ j. not (list_any (is_ready_for s j) s.got)) (serials s) rests.ready k at)) in
     let second : set_orders s ≡ s = still_over set_order s.config.groups s (λ g at. none_listed s g (each g at)) in
-    let third : go_on_all history resting s ≡ s = still_over (go_on history resting) s.config.groups s (λ g at. none_completed s g (each g at)) in
+    let third : go_on_all history resting s ≡ s =
+    still_over (go_on history resting) s.config.groups s (λ g at. none_completed s g (each g at)) in
     let fourth : lead history s ≡ s =
     elim (is_home history s) as (λ b. is_home history s ≡ b → (if b then fold (lead_group history) s s.config.groups else s) ≡ s) [
       | true ↦ λ home. still_over (lead_group history) s.config.groups s (λ g at. none_led s g (each g at) home)
@@ -123,7 +132,8 @@ quiet_stays s rests =
 
 -- What is computed
 
-of_home : (home started decided lacked : Bool) → (not home || (not started && (not decided && lacked))) ≡ true → home ≡ true → (started ≡ false) × (decided ≡ false) × (lacked ≡ true)
+of_home : (home started decided lacked : Bool) → (not home || (not started && (not decided && lacked))) ≡ true → home ≡ true →
+    (started ≡ false) × (decided ≡ false) × (lacked ≡ true)
 of_home false started decided lacked all home = absurd (false≢true home)
 of_home true true decided lacked all home = absurd (false≢true all)
 of_home true false true lacked all home = absurd (false≢true all)
@@ -139,10 +149,14 @@ group_computed s g is =
     let a = and_parts (list_all (λ k. not (lists_some s g k)) (holders s g)) _ is in
     let b = and_parts (waiting (s.group g).pending) _ a.1 in
     let pending : (p : Pending) → (s.group g).pending ≡ Some p → waiting (Some p) ≡ true = λ p at. sym (ap waiting at) ∙ b.0 in
-    let parts : (p : Pending) → (s.group g).pending ≡ Some p → (not (has_delivered_cut s g p.cut) ≡ true) × (list_all (λ e. is_owed s.owed (own_want_key history s g e)) (missing_in s g p.cut) ≡ true) =
+    let parts : (p : Pending) → (s.group g).pending ≡ Some p → (not (has_delivered_cut s g p.cut) ≡ true)
+    × (list_all (λ e. is_owed s.owed (own_want_key history s g e)) (missing_in s g p.cut) ≡ true) =
     λ p at. and_parts (not (has_delivered_cut s g p.cut)) _ (pending p at) in
-    let led : is_home history s ≡ true → (may_start (s.home g) ≡ false) × (may_decide g (s.home g) ≡ false) × (list_all (λ w. is_owed s.owed (want_key g w)) (wants history s g) ≡ true) =
-    of_home (is_home history s) (may_start (s.home g)) (may_decide g (s.home g)) (list_all (λ w. is_owed s.owed (want_key g w)) (wants history s g)) b.1 in
+    let led : is_home history s ≡ true → (may_start (s.home g) ≡ false)
+    × (may_decide g (s.home g) ≡ false)
+    × (list_all (λ w. is_owed s.owed (want_key g w)) (wants history s g) ≡ true) =
+    of_home (is_home history s) (may_start (s.home g)) (may_decide g (s.home g))
+    (list_all (λ w. is_owed s.owed (want_key g w)) (wants history s g)) b.1 in
     record {
       listed = a.0;
       waits = λ p at. not-true (has_delivered_cut s g p.cut) (parts p at).0;

@@ -12,7 +12,8 @@ use Rattle.cast_quota.specs.declared.quotas.Quotas.{Quotas}
 use Rattle.cast_quota.specs.declared.quotas.QuotaName.TheVariants.{Sessions, Held, Outbox}
 use Rattle.cast_quota.specs.Quotas.{usual}
 use Rattle.cast_rules.specs.Run.{Ran, run_of, entries_for}
-use Rattle.cast_rules.proofs.Words.{site, group, proc, uid, members, alone, config, opens, asks_join, casts, is_gone, takes, sets, comes, data_from, install, in_second_view, then_run, pushed_after, p11, p21}
+use Rattle.cast_rules.proofs.Words.{site, group, proc, uid, members, alone, config, opens, asks_join, casts, is_gone, takes}
+use Rattle.cast_rules.proofs.Words.{sets, comes, data_from, install, in_second_view, then_run, pushed_after, p11, p21}
 
 -- a domain of this site alone, which may use so much
 abbrev allowed : Quotas → DomainConfig
@@ -66,7 +67,8 @@ lagging_sent : lagging.sent ≡ (site 2, frame.Ack (uid 1 2 p21 1)) ∷ (site 9,
 unfolding lagging
 lagging_sent = refl
 
--- one session is allowed: a second one is refused until the first is gone, and then has the next serial; a quota out of its range is refused
+-- one session is allowed: a second one is refused until the first is gone, and then has the next serial; a quota out of its range is
+-- refused
 one_session : Ran
 one_session = run_of 2 (site 1) (allowed (record usual { sessions = 1 }))
     (opens ∷ opens ∷ is_gone 1 ∷ opens ∷ sets Held 0 ∷ sets Held 256 ∷ [])
@@ -92,7 +94,8 @@ out_of_range_answers = refl
 
 -- a lower quota closes nobody, and is what the next test asks; a higher one lets a cast in that was refused
 lower : Ran
-lower = then_run in_second_view (sets Held 1 ∷ casts 1 8 1 [] ∷ casts 1 9 1 [] ∷ sets Held 2 ∷ casts 1 10 1 [] ∷ sets Sessions 1 ∷ opens ∷ [])
+lower =
+    then_run in_second_view (sets Held 1 ∷ casts 1 8 1 [] ∷ casts 1 9 1 [] ∷ sets Held 2 ∷ casts 1 10 1 [] ∷ sets Sessions 1 ∷ opens ∷ [])
 
 lower_pushed : pushed_after 3 lower ≡
     push.Reply 8 None ∷ push.Deliver (uid 1 2 p11 1) kind.Causal [] ∷ push.Reply 9 (Some HeldFull)

@@ -35,7 +35,8 @@ tells_if : (s x y : State) (b : Bool) → Tells s x → Tells s y → Tells s (i
 tells_if s x y true p q = p
 tells_if s x y false p q = q
 
-tells_fold : {X : Type 0} (f : State → X → State) → ((s : State) (x : X) → Tells s (f s x)) → (xs : List X) (s : State) → Tells s (fold f s xs)
+tells_fold : {X : Type 0} (f : State → X → State) → ((s : State) (x : X) → Tells s (f s x)) → (xs : List X) (s : State) →
+    Tells s (fold f s xs)
 tells_fold f h [] s = tells_self s
 tells_fold f h (x ∷ xs) s = tells_then s (f s x) (fold f (f s x) xs) (h s x) (tells_fold f h xs (f s x))
 
@@ -45,13 +46,17 @@ tells_same s t a = record { kept = a.kept; members = λ k g is. ap (λ (p : Proc
 tells_outside : (s : State) (k : ℕ) (g : GroupNo) → Tells s (outside s k g)
 tells_outside s k g = record {
   kept = refl;
-  members = λ j h. elim (k == j) as (λ b. k == j ≡ b → is_member ((if b then record (s.process k) { standing = set_at group_eq (s.process k).standing g Outside } else s.process j).standing h) ≡ true → is_member ((s.process j).standing h) ≡ true) [
-    | true ↦ λ same is. ap (λ i. is_member ((s.process i).standing h)) (sym (eqb-true k j same)) ∙ left h (group_eq g h) is
-    | false ↦ λ _ is. is
-  ] refl;
+  members = λ j h.
+      elim (k == j) as (λ b. k == j ≡ b →
+      is_member ((if b then record (s.process k) { standing = set_at group_eq (s.process k).standing g Outside } else s.process j).standing
+      h) ≡ true → is_member ((s.process j).standing h) ≡ true) [
+        | true ↦ λ same is. ap (λ i. is_member ((s.process i).standing h)) (sym (eqb-true k j same)) ∙ left h (group_eq g h) is
+        | false ↦ λ _ is. is
+      ] refl;
 }
   where
-    left : (h : GroupNo) (b : Bool) → is_member (if b then Outside else (s.process k).standing h) ≡ true → is_member ((s.process k).standing h) ≡ true
+    left : (h : GroupNo) (b : Bool) → is_member (if b then Outside else (s.process k).standing h) ≡ true →
+        is_member ((s.process k).standing h) ≡ true
     left h true is = absurd (false≢true is)
     left h false is = is
 
@@ -60,7 +65,8 @@ tells_leave_group s k g =
     let next : State = outside s k g in
     let a : Tells s next = tells_outside s k g in
     tells_if s next (request history next g change.Leave (local s k)) ((s.group g).asked == MAX_NUMBER) a
-    (tells_then s next (request history next g change.Leave (local s k)) a (tells_same next (request history next g change.Leave (local s k)) (same_request next g change.Leave (local s k))))
+    (tells_then s next (request history next g change.Leave (local s k))
+    a (tells_same next (request history next g change.Leave (local s k)) (same_request next g change.Leave (local s k))))
 
 tells_leave_each : (k : ℕ) (s : State) (g : GroupNo) → Tells s (leave_each history k s g)
 tells_leave_each k s g =
@@ -83,7 +89,8 @@ tells_close_session s k refusal =
 tells_told : (s : State) (k : ℕ) (p : Push) → Tells s (tell history s k p)
 tells_told s k p =
     tells_if s (tell_open history s k p) s (is_open (s.session k))
-    (tells_if s (close_session history s k Slow) (pushing s k p) (is_filled s k) (tells_close_session s k Slow) (tells_same s (pushing s k p) (same_pushing s k p)))
+    (tells_if s (close_session history s k Slow) (pushing s k p) (is_filled s k) (tells_close_session s k Slow)
+    (tells_same s (pushing s k p) (same_pushing s k p)))
     (tells_self s)
 
 pub tells_told_if : (s : State) (k : ℕ) (o : Option Push) → Tells s (tell_if history s k o)

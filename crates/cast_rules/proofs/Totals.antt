@@ -1,5 +1,6 @@
 -- Sums over lists, and what is left of a list of messages.
-use Rattle.std.proofs.Common.{◌≡◌, ℕ, ◌+◌, ◌<◌, ◌≤◌, zero, suc, Bool, true, false, not, cond, List, [], ◌∷◌, ◌++◌, length, Some, None, refl, sym, ap, subst, ◌∙◌, ◌⊎◌, inl, inr, arith}
+use Rattle.std.proofs.Common.{◌≡◌, ℕ, ◌+◌, ◌<◌, ◌≤◌, zero, suc, Bool, true, false, not, cond, List, [], ◌∷◌}
+use Rattle.std.proofs.Common.{◌++◌, length, Some, None, refl, sym, ap, subst, ◌∙◌, ◌⊎◌, inl, inr, arith}
 use Rattle.std.specs.Prelude.{take}
 use Rattle.std.specs.List.{list_any, find}
 use Rattle.std.proofs.lemmas.Bool.{cases_Bool, true≢false, or_left, or_right}
@@ -49,13 +50,20 @@ pub among_push : (u v : Uid) (ids : List Uid) → list_any (uid_eq v) ids ≡ tr
 among_push u v ids h = list_any-append (uid_eq v) ids (u ∷ []) ∙ or_left _ _ h
 
 pub among_last : (u : Uid) (ids : List Uid) → list_any (uid_eq u) (ids ++ u ∷ []) ≡ true
-among_last u ids = list_any-append (uid_eq u) ids (u ∷ []) ∙ or_right (list_any (uid_eq u) ids) _ (or_left (uid_eq u u) false (uid_itself u))
+among_last u ids =
+    list_any-append (uid_eq u) ids (u ∷ []) ∙ or_right (list_any (uid_eq u) ids) _ (or_left (uid_eq u u) false (uid_itself u))
 
 pub left_push : (u : Uid) (ids : List Uid) (got : List Message) → left_count (ids ++ u ∷ []) got ≤ left_count ids got
 left_push u ids [] = omega arith
-left_push u ids (m ∷ got) = omega (arith, left_push u ids got, one_mono (not (list_any (uid_eq m.id) (ids ++ u ∷ []))) (not (list_any (uid_eq m.id) ids)) (not_mono _ _ (among_push u m.id ids)))
+left_push u ids (m ∷ got) = omega (
+  arith,
+  left_push u ids got,
+  one_mono (not (list_any (uid_eq m.id) (ids ++ u ∷ []))) (not (list_any (uid_eq m.id) ids)) (not_mono _ _ (among_push u m.id ids)),
+)
 
-pub left_found : (t : Message → Bool) (ids : List Uid) (got : List Message) (m : Message) → ((x : Message) → t x ≡ true → list_any (uid_eq x.id) ids ≡ false) → find t got ≡ Some m → left_count (ids ++ m.id ∷ []) got < left_count ids got
+pub left_found : (t : Message → Bool) (ids : List Uid) (got : List Message) (m : Message) →
+    ((x : Message) → t x ≡ true → list_any (uid_eq x.id) ids ≡ false) → find t got ≡ Some m →
+    left_count (ids ++ m.id ∷ []) got < left_count ids got
 left_found t ids [] m says found = absurd (no_message m found)
   where
     no_message : (m : Message) → None ≡ Some m → ⊥
@@ -65,11 +73,17 @@ left_found t ids (x ∷ got) m says found = elim (cases_Bool (t x)) [
       let same : Some x ≡ Some m = ap (λ b. cond b (Some x) (find t got)) (sym pass) ∙ found in
       let is : x ≡ m = cc in
       let was : ◌≡◌ {A = ℕ} (one_if (not (list_any (uid_eq x.id) ids))) 1 = ap (λ b. one_if (not b)) (says x pass) in
-      let now : ◌≡◌ {A = ℕ} (one_if (not (list_any (uid_eq x.id) (ids ++ m.id ∷ [])))) 0 = ap (λ b. one_if (not b)) (subst (λ y. list_any (uid_eq y.id) (ids ++ m.id ∷ []) ≡ true) (sym is) (among_last m.id ids)) in
+      let now : ◌≡◌ {A = ℕ} (one_if (not (list_any (uid_eq x.id) (ids ++ m.id ∷ [])))) 0 =
+      ap (λ b. one_if (not b)) (subst (λ y. list_any (uid_eq y.id) (ids ++ m.id ∷ []) ≡ true) (sym is) (among_last m.id ids)) in
       omega (arith, was, now, left_push m.id ids got)
   | inr fail ↦
       let later = left_found t ids got m says (ap (λ b. cond b (Some x) (find t got)) (sym fail) ∙ found) in
-      omega (arith, later, one_mono (not (list_any (uid_eq x.id) (ids ++ m.id ∷ []))) (not (list_any (uid_eq x.id) ids)) (not_mono _ _ (among_push m.id x.id ids)))
+      omega (
+        arith,
+        later,
+        one_mono (not (list_any (uid_eq x.id) (ids ++ m.id ∷ []))) (not (list_any (uid_eq x.id) ids))
+            (not_mono _ _ (among_push m.id x.id ids)),
+      )
 ]
 
 pub left_le : (ids : List Uid) (got : List Message) → left_count ids got ≤ length got

@@ -21,4 +21,6 @@ RunsAs s events o = IsRun s events o.answers o.sent o.pushed o.end
 
 -- the same events lead from the same state to the same
 abbrev pub RunIsOne : Type 0
-RunIsOne = (s : State) (events : List Event) (a b : Outcome) → RunsAs s events a → RunsAs s events b → a ≡ b
+RunIsOne =
+    (s : State) (events : List Event) (a b : Outcome) → RunsAs s events a
+    → RunsAs s events b → a ≡ b

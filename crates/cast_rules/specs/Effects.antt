@@ -13,7 +13,8 @@ use Rattle.cast_rules.specs.Rules.Rest.{deliver}
 abbrev pub next_message : State → GroupNo → ℕ → Body → Message
 next_message s g k content = message_sent history s k g g content
 
--- the message is stamped, received here, and sent to each other site of the view until that has acknowledged it
+-- the message is stamped, received here, and sent to each other site of the view until that has
+-- acknowledged it
 abbrev pub sending_message : State → ℕ → Message → State
 sending_message = send_own history
 

@@ -1,5 +1,6 @@
 -- The rest after an event ends: what each change of a pass lowers, and the laws that follow.
-use Rattle.std.specs.Prelude.{◌≡◌, ℕ, ◌+◌, ◌*◌, ◌<◌, ◌⊎◌, Bool, not, ◌&&◌, if◌then◌else◌, List, [], ◌∷◌, length, filter, Some, None}
+use Rattle.std.specs.Prelude.{◌≡◌, ℕ, ◌+◌, ◌*◌, ◌<◌, ◌⊎◌, Bool, not, ◌&&◌}
+use Rattle.std.specs.Prelude.{if◌then◌else◌, List, [], ◌∷◌, length, filter, Some, None}
 use Rattle.std.specs.List.{list_any, find}
 use Rattle.cast_types.specs.declared.names.GroupNo.{GroupNo}
 use Rattle.cast_types.specs.declared.names.Uid.{Uid}
@@ -39,22 +40,26 @@ left_count ids (m ∷ got) = one_if (not (list_any (uid_eq m.id) ids)) + left_co
 abbrev pub undelivered_count : State → ℕ
 undelivered_count s = total (λ k. left_count (s.process k).delivered s.got) (serials s)
 
--- how many more starts and decisions a group's home can come to at the most: by its phase, by whether no site is suspected (calm), and by
--- whether nothing is to change (none). A decision leaves no site suspected, and joins only where one was
+-- how many more starts and decisions a group's home can come to at the most: by its phase, by
+-- whether no site is suspected (calm), and by whether nothing is to change (none). A decision
+-- leaves no site suspected, and joins only where one was
 abbrev pub rank_of : Phase → Bool → Bool → ℕ
 rank_of Idle calm none = if none then 0 else if calm then 2 else 4
 rank_of (Gathering awaited reports bodies) calm none = if calm then 1 else 3
 rank_of (Installing waiting decision bodies) calm none = 0
 
 abbrev pub rank : Home → ℕ
-rank h = rank_of h.phase (is_empty h.suspected) (is_empty h.joins && (is_empty h.leavings && is_empty h.suspected))
+rank h =
+    rank_of h.phase (is_empty h.suspected)
+    (is_empty h.joins && (is_empty h.leavings && is_empty h.suspected))
 
 abbrev pub ranks : State → ℕ
 ranks s = total (λ g. rank (s.home g)) s.config.groups
 
 -- an ABCAST of a group's view that a process of this site has not delivered
 abbrev pub is_to_come : State → GroupNo → ℕ → Message → Bool
-is_to_come s g k m = is_of_view s g m.id && (is_atomic (kind_of m.body) && not (has_delivered (s.process k) m.id))
+is_to_come s g k m =
+    is_of_view s g m.id && (is_atomic (kind_of m.body) && not (has_delivered (s.process k) m.id))
 
 -- how many ABCASTs a process of this site has still to list, delivered or not
 abbrev pub to_list_by : State → GroupNo → ℕ → ℕ
@@ -67,7 +72,8 @@ to_list_in s g = total (to_list_by s g) (serials s)
 abbrev pub to_list : State → ℕ
 to_list s = total (to_list_in s) s.config.groups
 
--- what is to be done at the most: a set-order message lists an ABCAST, and is one more message for each process
+-- what is to be done at the most: a set-order message lists an ABCAST, and is one more message for
+-- each process
 abbrev pub to_do : State → ℕ
 to_do s = undelivered_count s + ranks s + (s.used + 1) * to_list s
 
@@ -75,11 +81,14 @@ to_do s = undelivered_count s + ranks s + (s.used + 1) * to_list s
 abbrev pub home_unowed : State → GroupNo → ℕ
 home_unowed s g = total (λ w. one_if (not (is_owed s.owed (want_key g w)))) (wants history s g)
 
--- and how many that the site is to owe at the most, for what the cut of an Install that waits covers
+-- and how many that the site is to owe at the most, for what the cut of an Install that waits
+-- covers
 abbrev pub site_unowed : State → GroupNo → ℕ
 site_unowed s g =
     elim (s.group g).pending [
-      | Some p ↦ total (λ e. one_if (not (is_owed s.owed (own_want_key history s g e)))) (covered_entries p.cut)
+      | Some p ↦
+          total (λ e. one_if (not (is_owed s.owed (own_want_key history s g e))))
+          (covered_entries p.cut)
       | None ↦ 0
     ]
 
@@ -121,10 +130,12 @@ RestIsOne = (s t u : State) → RestsAt s t → RestsAt s u → t ≡ u
 
 -- nothing is ready for a process that has delivered all that it can
 abbrev pub SettlesOne : Type 0
-SettlesOne = (s : State) (k : ℕ) → find (is_ready_for (deliver_all s k) k) (deliver_all s k).got ≡ None
+SettlesOne =
+    (s : State) (k : ℕ) → find (is_ready_for (deliver_all s k) k) (deliver_all s k).got ≡ None
 
 -- however many turns were taken: where nothing is ready, that was all
 abbrev pub TurnsAreEnough : Type 0
 TurnsAreEnough =
     (s : State) (k : ℕ) (n : ℕ) →
-    find (is_ready_for (iterate n (deliver_first k) s) k) (iterate n (deliver_first k) s).got ≡ None → iterate n (deliver_first k) s ≡ deliver_all s k
+    find (is_ready_for (iterate n (deliver_first k) s) k) (iterate n (deliver_first k) s).got
+    ≡ None → iterate n (deliver_first k) s ≡ deliver_all s k

@@ -26,7 +26,8 @@ freezing s g = set_group s g (frozen_side (s.group g))
 abbrev pub pending_install : State → GroupNo → Pending → Tail → State
 pending_install s g p tail =
     record (set_group s g (with_pending (s.group g) p)) {
-      closed = set_at group_eq s.closed g (closed_order (is_within p.cut) tail.start tail.ids (order_told s g));
+      closed = set_at group_eq s.closed g
+          (closed_order (is_within p.cut) tail.start tail.ids (order_told s g));
     }
 
 -- a process that is outside a group
@@ -36,7 +37,8 @@ put_outside g p = record p { standing = set_at group_eq p.standing g Outside }
 -- a member is put out that the next view does not name, and any member where a view was skipped
 abbrev pub is_put_out : State → GroupNo → Bool → Membership → ℕ → Bool
 is_put_out s g skips members k =
-    is_member ((s.process k).standing g) && (skips || not (is_among proc_eq (local s k) members.list))
+    is_member ((s.process k).standing g)
+    && (skips || not (is_among proc_eq (local s k) members.list))
 
 abbrev pub all_parted : State → GroupNo → (ℕ → Bool) → State
 all_parted s g goes =
@@ -56,13 +58,18 @@ enters s g members request k =
 
 -- a process in a view
 abbrev pub in_view : GroupNo → ℕ → Process → Process
-in_view g n p = record p { time = entering p.time g n; standing = set_at group_eq p.standing g Member }
+in_view g n p = record p {
+  time = entering p.time g n;
+  standing = set_at group_eq p.standing g Member;
+}
 
 abbrev pub all_in_view : State → GroupNo → ℕ → Membership → ℕ → CountList → State
 all_in_view s g n members request cut =
     record s {
-      process = λ k. if enters s g members request k then in_view g n (s.process k) else s.process k;
-      acts = λ k. if enters s g members request k then s.acts k ++ Entered g n cut ∷ [] else s.acts k;
+      process =
+          λ k. if enters s g members request k then in_view g n (s.process k) else s.process k;
+      acts =
+          λ k. if enters s g members request k then s.acts k ++ Entered g n cut ∷ [] else s.acts k;
     }
 
 -- a view is complete: members and joining processes in it enter it, all at once
@@ -72,4 +79,5 @@ completing s g n members request cut =
 
 -- the site passes to the next view of a group
 abbrev pub passing : State → GroupNo → Bool → ℕ → Membership → ℕ → CountList → State
-passing s g skips n members request cut = completing (putting_out s g skips members) g n members request cut
+passing s g skips n members request cut =
+    completing (putting_out s g skips members) g n members request cut

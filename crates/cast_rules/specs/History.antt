@@ -7,9 +7,14 @@ use Rattle.cast_events.specs.Session.{is_open, is_gone}
 use Rattle.cast_timer.specs.Owed.{is_owed, due_at}
 use Rattle.cast_view.specs.MemberSide.{with_request, with_answer}
 use Rattle.cast_view.specs.Home.{apply_move}
-use Rattle.cast_rules.specs.State.{State, serials, is_group, set_group, set_home, set_standing, emit, is_filled, pushing, local_members, receiving, noting_sent, awaits_own, is_received, held_count, message_of, others_of, is_stable, upto, noting_ack, noting_stable, releasing_ended, outside, closing, going, counting_cast}
+use Rattle.cast_rules.specs.State.{State, serials, is_group, set_group, set_home, set_standing}
+use Rattle.cast_rules.specs.State.{emit, is_filled, pushing, local_members, receiving}
+use Rattle.cast_rules.specs.State.{noting_sent, awaits_own, is_received, held_count, message_of}
+use Rattle.cast_rules.specs.State.{others_of, is_stable, upto, noting_ack, noting_stable}
+use Rattle.cast_rules.specs.State.{releasing_ended, outside, closing, going, counting_cast}
 use Rattle.cast_rules.specs.Order.{holds, place_to_pass}
-use Rattle.cast_rules.specs.Owing.{noting_owed, noting_resent, paying, paying_upto, paying_view, at_moment}
+use Rattle.cast_rules.specs.Owing.{noting_owed, noting_resent, paying}
+use Rattle.cast_rules.specs.Owing.{paying_upto, paying_view, at_moment}
 use Rattle.cast_rules.specs.Entering.{freezing, pending_install, is_put_out, passing}
 use Rattle.cast_rules.specs.Reports.{report_in}
 use Rattle.cast_rules.specs.Rules.Interface.{Site}

@@ -31,22 +31,27 @@ delivered_by (Left g ∷ acts) = delivered_by acts
 abbrev pub abcasts_by : List Act → List Uid
 abcasts_by [] = []
 abcasts_by (Sent m ∷ acts) = abcasts_by acts
-abcasts_by (Delivered m ∷ acts) = if is_atomic (kind_of m.body) then m.id ∷ abcasts_by acts else abcasts_by acts
+abcasts_by (Delivered m ∷ acts) =
+    if is_atomic (kind_of m.body) then m.id ∷ abcasts_by acts else abcasts_by acts
 abcasts_by (Entered g view cut ∷ acts) = abcasts_by acts
 abcasts_by (Left g ∷ acts) = abcasts_by acts
 
 -- the items of one list stand in another, in their order
 abbrev pub AreWithin : {A : Type 0} → List A → List A → Type 0
 AreWithin xs [] = xs ≡ []
-AreWithin {A} xs (y ∷ ys) = ((rest : List A) × (xs ≡ y ∷ rest) × AreWithin rest ys) ⊎ AreWithin xs ys
+AreWithin {A} xs (y ∷ ys) =
+    ((rest : List A) × (xs ≡ y ∷ rest) × AreWithin rest ys) ⊎ AreWithin xs ys
 
--- what each process sent was received here, in that order: beside it stand under its name only messages that a home forwarded here, which
--- the process did not send; and it delivered what it is said to have delivered
+-- what each process sent was received here, in that order: beside it stand under its name only
+-- messages that a home forwarded here, which the process did not send; and it delivered what it is
+-- said to have delivered
 pub record IsNoted (s : State) : Type 0 where
-  pub sent : (k : ℕ) → AreWithin (sent_by (s.acts k)) (filter (λ m. proc_eq m.id.proc (local s k)) s.got)
+  pub sent : (k : ℕ)
+      → AreWithin (sent_by (s.acts k)) (filter (λ m. proc_eq m.id.proc (local s k)) s.got)
   pub delivered : (k : ℕ) → (s.process k).delivered ≡ delivered_by (s.acts k)
   pub abcasts : (k : ℕ) → s.abcasts k ≡ abcasts_by (s.acts k)
 
 -- so it is in each state that a history passes
 abbrev pub ActsAreNoted : Type 0
-ActsAreNoted = (here : SiteNo) (config : DomainConfig) (s : State) → IsPassed here config s → IsNoted s
+ActsAreNoted =
+    (here : SiteNo) (config : DomainConfig) (s : State) → IsPassed here config s → IsNoted s

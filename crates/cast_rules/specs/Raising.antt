@@ -38,7 +38,8 @@ pub record IsTimeOf (groups : List GroupNo) (t : ClockList) : Type 0 where
   pub valid : is_time t ≡ true
   pub named : list_all (λ c. is_among group_eq c.0 groups && nat_lt 0 c.1.view) t ≡ true
 
--- a message is of a view that its group has reached; while that is the group's view, its process is a member of it
+-- a message is of a view that its group has reached; while that is the group's view, its process is
+-- a member of it
 pub record IsFromMember (group : MemberSide) (u : Uid) : Type 0 where
   pub reached : u.view ≤ group.number
   pub member : u.view ≡ group.number → is_among proc_eq u.proc (members_of group) ≡ true
@@ -54,61 +55,77 @@ pub record IsAmongMembers (group : MemberSide) (p : Proc) (counts : CountList) :
   pub itself : is_among proc_eq p (members_of group) ≡ true
   pub counted : list_all (λ e. is_among proc_eq e.0 (members_of group)) counts ≡ true
 
--- what holds of each history, beside what is lawful: its groups are at most 32, all times are of these, messages that were
--- received and delivered are from members, and a member counts messages of members alone; and a serial that was not given
--- has no open session, and stands outside each group
+-- what holds of each history, beside what is lawful: its groups are at most 32, all times are of
+-- these, messages that were received and delivered are from members, and a member counts messages
+-- of members alone; and a serial that was not given has no open session, and stands outside each
+-- group
 pub record CountsMembers (s : State) : Type 0 where
   pub few : length s.config.groups ≤ MAX_GROUPS
   pub times : (k : ℕ) → IsTimeOf s.config.groups (s.process k).time
   pub stamps : (m : Message) → Contains s.got m → IsTimeOf s.config.groups m.times
   pub received : (m : Message) → Contains s.got m → IsFromMember (s.group m.id.group) m.id
-  pub delivered : (k : ℕ) (u : Uid) → has_delivered (s.process k) u ≡ true → IsFromMember (s.group u.group) u
+  pub delivered : (k : ℕ) (u : Uid) → has_delivered (s.process k) u ≡ true →
+      IsFromMember (s.group u.group) u
   pub views : (g : GroupNo) → IsView (s.group g)
   pub members : (k : ℕ) (g : GroupNo) → is_member ((s.process k).standing g) ≡ true →
       IsAmongMembers (s.group g) (local s k) (clock_of (s.process k).time g).counts
-  pub placed : (k : ℕ) (g : GroupNo) → is_outside ((s.process k).standing g) ≡ false → was_given s.used k ≡ true
+  pub placed : (k : ℕ) (g : GroupNo) → is_outside ((s.process k).standing g) ≡ false →
+      was_given s.used k ≡ true
   pub opened : (k : ℕ) → is_open (s.session k) ≡ true → was_given s.used k ≡ true
 
 -- each member's count may be raised in its group, unless it is the last one
 abbrev pub CanRaise : State → Type 0
 CanRaise s = (k : ℕ) (g : GroupNo) → is_member ((s.process k).standing g) ≡ true →
-    may_raise (s.process k).time g (local s k) ≡ nat_lt (count_in (s.process k).time g (local s k)) MAX_NUMBER
+    may_raise (s.process k).time g (local s k)
+    ≡ nat_lt (count_in (s.process k).time g (local s k)) MAX_NUMBER
 
 -- the states that a history passes, from the first one on, within its steps and between them
 pub data IsPassed (here : SiteNo) (config : DomainConfig) : State → Type 0 where
   opens : IsPassed here config (opening here config)
   begins : (s : State) → IsPassed here config s → IsPassed here config (before_event s)
-  acts : (s : State) (e : Event) → IsTyped e → IsPassed here config s → IsPassed here config (act_of_event s e)
+  acts : (s : State) (e : Event) → IsTyped e → IsPassed here config s →
+      IsPassed here config (act_of_event s e)
   lets_go : (s : State) → IsPassed here config s → IsPassed here config (let_go s)
   delivers : (s : State) (k : ℕ) → IsPassed here config s → IsPassed here config (deliver_first k s)
   orders : (s : State) (g : GroupNo) → IsPassed here config s → IsPassed here config (set_order s g)
-  goes_on : (s : State) (g : GroupNo) → is_group s g ≡ true → IsPassed here config s → IsPassed here config (go_on history resting s g)
-  starts : (s : State) (g : GroupNo) → IsPassed here config s → IsPassed here config (start history s g)
-  wants : (s : State) (g : GroupNo) → IsPassed here config s → IsPassed here config (want_bodies history s g)
-  decides : (s : State) (g : GroupNo) → IsPassed here config s → IsPassed here config (decide history s g)
+  goes_on : (s : State) (g : GroupNo) → is_group s g ≡ true → IsPassed here config s →
+      IsPassed here config (go_on history resting s g)
+  starts : (s : State) (g : GroupNo) → IsPassed here config s →
+      IsPassed here config (start history s g)
+  wants : (s : State) (g : GroupNo) → IsPassed here config s →
+      IsPassed here config (want_bodies history s g)
+  decides : (s : State) (g : GroupNo) → IsPassed here config s →
+      IsPassed here config (decide history s g)
 
--- whatever events come to a domain of at most 32 groups, after them each member's count may be raised, unless it is the
--- last one
+-- whatever events come to a domain of at most 32 groups, after them each member's count may be
+-- raised, unless it is the last one
 abbrev pub CountsCanBeRaised : Type 0
 CountsCanBeRaised =
-    (here : SiteNo) (config : DomainConfig) (events : List Event) (answers : List Taken) (sent : List (SiteNo × SiteFrame)) (pushed : List (ℕ × Push)) (s : State) →
-    is_rising group_cmp config.groups ≡ true → length config.groups ≤ MAX_GROUPS → AllByRecursion IsTyped events →
+    (here : SiteNo) (config : DomainConfig) (events : List Event) (answers : List Taken)
+    (sent : List (SiteNo × SiteFrame)) (pushed : List (ℕ × Push)) (s : State) →
+    is_rising group_cmp config.groups ≡ true → length config.groups ≤ MAX_GROUPS →
+    AllByRecursion IsTyped events →
     IsRun (opening here config) events answers sent pushed s → CanRaise s
 
--- and so it may in each state that the history passes, as where a cast or a set-order message is to be sent
+-- and so it may in each state that the history passes, as where a cast or a set-order message is to
+-- be sent
 abbrev pub CountsCanBeRaisedWithin : Type 0
 CountsCanBeRaisedWithin =
     (here : SiteNo) (config : DomainConfig) (s : State) →
-    is_rising group_cmp config.groups ≡ true → length config.groups ≤ MAX_GROUPS → IsPassed here config s → CanRaise s
+    is_rising group_cmp config.groups ≡ true → length config.groups ≤ MAX_GROUPS →
+    IsPassed here config s → CanRaise s
 
 -- in each of these states members alone are counted: that is why
 abbrev pub MembersAreCounted : Type 0
 MembersAreCounted =
     (here : SiteNo) (config : DomainConfig) (s : State) →
-    is_rising group_cmp config.groups ≡ true → length config.groups ≤ MAX_GROUPS → IsPassed here config s → IsLawful s × CountsMembers s
+    is_rising group_cmp config.groups ≡ true → length config.groups ≤ MAX_GROUPS →
+    IsPassed here config s → IsLawful s × CountsMembers s
 
 -- what a run leads to is a state that the history passes
 abbrev pub RunsArePassed : Type 0
 RunsArePassed =
-    (here : SiteNo) (config : DomainConfig) (events : List Event) (answers : List Taken) (sent : List (SiteNo × SiteFrame)) (pushed : List (ℕ × Push)) (s : State) →
-    AllByRecursion IsTyped events → IsRun (opening here config) events answers sent pushed s → IsPassed here config s
+    (here : SiteNo) (config : DomainConfig) (events : List Event) (answers : List Taken)
+    (sent : List (SiteNo × SiteFrame)) (pushed : List (ℕ × Push)) (s : State) →
+    AllByRecursion IsTyped events → IsRun (opening here config) events answers sent pushed s →
+    IsPassed here config s

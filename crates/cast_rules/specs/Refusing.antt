@@ -25,11 +25,15 @@ attempt s k (Pass tag g to) = pass_token history s k g to
 
 -- an event that is refused leaves the state as it was
 abbrev pub RefusedLeaves : Type 0
-RefusedLeaves = (s : State) (e : Event) (refusal : Refusal) → answer_of_event s e ≡ Refused refusal → act_of_event s e ≡ s
+RefusedLeaves =
+    (s : State) (e : Event) (refusal : Refusal) → answer_of_event s e ≡ Refused refusal →
+    act_of_event s e ≡ s
 
--- and a request that is refused, of an open session, leads to its reply alone, with what a full outbox makes of that
+-- and a request that is refused, of an open session, leads to its reply alone, with what a full
+-- outbox makes of that
 abbrev pub RefusedReplies : Type 0
 RefusedReplies =
     (s : State) (d : DomainNo) (k : ℕ) (request : Request) (refusal : Refusal) →
     is_open (s.session k) ≡ true → (attempt s k request).1 ≡ Some refusal →
-    act_of_event s (event.Command d k (command.Request request)) ≡ tell history s k (reply_to request (Some refusal))
+    act_of_event s (event.Command d k (command.Request request))
+    ≡ tell history s k (reply_to request (Some refusal))

@@ -38,6 +38,7 @@ set_orders = order.set_orders history resting
 abbrev pub pass : State → State
 pass = rest.pass history resting
 
--- from s the state comes to rest at t: some number of passes leads there, and one more changes nothing
+-- from s the state comes to rest at t: some number of passes leads there, and one more changes
+-- nothing
 abbrev pub RestsAt : State → State → Type 0
 RestsAt s t = ComesToRest pass s t

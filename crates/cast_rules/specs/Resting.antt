@@ -12,13 +12,21 @@ use Rattle.cast_rules.specs.Turns.{is_ready_for}
 use Rattle.cast_rules.specs.Reports.{has_delivered_cut, missing_in}
 use Rattle.cast_rules.specs.Rules.Interface.{Resting}
 
--- a process of this site lists the first of the ABCASTs that it has to list, at the places after the order told
+-- a process of this site lists the first of the ABCASTs that it has to list, at the places after
+-- the order told
 abbrev pub places_of : State → GroupNo → ℕ → Placement
-places_of s g k = record { first = place_after (order_told s g); ids = ids_to_list (unlisted_ids s g k); holder = None }
+places_of s g k = record {
+  first = place_after (order_told s g);
+  ids = ids_to_list (unlisted_ids s g k);
+  holder = None;
+}
 
 -- where there are some, and a place for them
 abbrev pub next_places : State → GroupNo → ℕ → Option Placement
-next_places s g k = if not (is_empty (unlisted_ids s g k)) && has_place (order_told s g) then Some (places_of s g k) else None
+next_places s g k =
+    if not (is_empty (unlisted_ids s g k)) && has_place (order_told s g)
+    then Some (places_of s g k)
+    else None
 
 -- it delivers no message twice
 abbrev pub resting : Resting State GroupNo

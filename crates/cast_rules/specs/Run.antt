@@ -19,19 +19,25 @@ before_event s = record s { frames = []; deliveries = []; pushes = [] }
 abbrev pub after_event : State → Event → State
 after_event s e = let_go (act_of_event (before_event s) e)
 
--- an event takes s to t, with an answer. The frames sent, the deliveries and the entries pushed stand in t
+-- an event takes s to t, with an answer. The frames sent, the deliveries and the entries pushed
+-- stand in t
 pub record IsStep (s : State) (e : Event) (answer : Taken) (t : State) : Type 0 where
   pub answers : answer ≡ answer_of_event (before_event s) e
   pub rests : RestsAt (after_event s e) t
 
--- events take s to t, with an answer to each, with these frames sent, and with these entries pushed to sessions
-abbrev pub IsRun : State → List Event → List Taken → List (SiteNo × SiteFrame) → List (ℕ × Push) → State → Type 0
+-- events take s to t, with an answer to each, with these frames sent, and with these entries pushed
+-- to sessions
+abbrev pub IsRun : State → List Event → List Taken → List (SiteNo × SiteFrame) → List (ℕ × Push)
+    → State → Type 0
 IsRun s [] [] sent pushed t = (sent ≡ []) × (pushed ≡ []) × (t ≡ s)
 IsRun s [] (a ∷ answers) sent pushed t = ⊥
 IsRun s (e ∷ events) [] sent pushed t = ⊥
 IsRun s (e ∷ events) (a ∷ answers) sent pushed t =
     (u : State) × (later : List (SiteNo × SiteFrame)) × (more : List (ℕ × Push))
-    × IsStep s e a u × (sent ≡ u.frames ++ later) × (pushed ≡ u.pushes ++ more) × IsRun u events answers later more t
+    × IsStep s e a u
+    × (sent ≡ u.frames ++ later)
+    × (pushed ≡ u.pushes ++ more)
+    × IsRun u events answers later more t
 
 -- the entries that were pushed to the session of a serial, in order
 abbrev pub entries_for : List (ℕ × Push) → ℕ → List Push
@@ -64,4 +70,5 @@ run_in n r [] = r
 run_in n r (e ∷ events) = run_in n (ran_on n r e) events
 
 abbrev pub run_of : ℕ → SiteNo → DomainConfig → List Event → Ran
-run_of n here config events = run_in n (record { answers = []; sent = []; pushed = []; state = opening here config }) events
+run_of n here config events =
+    run_in n (record { answers = []; sent = []; pushed = []; state = opening here config }) events

@@ -1,7 +1,9 @@
 -- What a history keeps: sessions, messages, acknowledgements; and changes of it.
 -- It is the state of one domain at one site, with its whole history, and what its parts say
 -- together.
-use Rattle.std.specs.Prelude.{ℕ, ◌+◌, min, Bool, not, ◌&&◌, ◌||◌, ◌==◌, nat_lt, nat_le, if◌then◌else◌, List, [], ◌∷◌, ◌++◌, length, filter, Option, Some, None}
+use Rattle.std.specs.Prelude.{ℕ, ◌+◌, min, Bool, not, ◌&&◌, ◌||◌, ◌==◌}
+use Rattle.std.specs.Prelude.{nat_lt, nat_le, if◌then◌else◌, List, [], ◌∷◌}
+use Rattle.std.specs.Prelude.{◌++◌, length, filter, Option, Some, None}
 use Rattle.std.specs.List.{find, list_any, list_all, range_with_len}
 use Rattle.cast_types.specs.declared.names.SiteNo.{SiteNo}
 use Rattle.cast_types.specs.declared.names.GroupNo.{GroupNo}
@@ -24,7 +26,8 @@ use Rattle.cast_rules.specs.Acts.{Act}
 use Rattle.cast_rules.specs.Acts.Act.{Sent, Delivered, Left}
 use Rattle.cast_message.specs.declared.client.Push.{Push}
 use Rattle.cast_message.specs.declared.client.Push.TheVariants as push
-use Rattle.cast_events.specs.Session.{Session, no_session, is_open, is_gone, is_full, pushed_to, tell_end, taken_from}
+use Rattle.cast_events.specs.Session.{Session, no_session, is_open, is_gone}
+use Rattle.cast_events.specs.Session.{is_full, pushed_to, tell_end, taken_from}
 use Rattle.cast_quota.specs.declared.quotas.Quotas.{Quotas}
 use Rattle.cast_quota.specs.declared.quotas.QuotaName.{QuotaName}
 use Rattle.cast_quota.specs.Quotas.{with_quota}
@@ -57,14 +60,16 @@ pub record State : Type 0 where
   -- every message ever received, in order, and those of them that were not let go
   pub got : List Message
   pub kept : List Message
-  -- which site acknowledged which message of a local process, and what other sites told to be stable
+  -- which site acknowledged which message of a local process, and what other sites told to be
+  -- stable
   pub acks : List Acked
   pub told : List Uid
   -- the frames that are sent again until they are answered
   pub owed : List Owed
   -- how many casts of programs were accepted
   pub casts : ℕ
-  -- of the event at hand: the frames sent, the deliveries, and the entries pushed, each with the serial of its session
+  -- of the event at hand: the frames sent, the deliveries, and the entries pushed, each with the
+  -- serial of its session
   pub frames : List (SiteNo × SiteFrame)
   pub deliveries : List (Proc × Uid)
   pub pushes : List (ℕ × Push)
@@ -138,7 +143,8 @@ noting_act s k a = record s { acts = set_at (λ i j. i == j) s.acts k (s.acts k 
 
 -- what processes did, once one is outside a group: where it was a member, it left
 abbrev pub acts_outside : State → ℕ → GroupNo → ℕ → List Act
-acts_outside s k g = if is_member ((s.process k).standing g) then (noting_act s k (Left g)).acts else s.acts
+acts_outside s k g =
+    if is_member ((s.process k).standing g) then (noting_act s k (Left g)).acts else s.acts
 
 -- a process is outside a group
 abbrev pub outside : State → ℕ → GroupNo → State
@@ -168,7 +174,9 @@ pushing s k p = if is_open (s.session k) then with_push s k (pushed_to (s.sessio
 -- an open session is closed, and its program is told why
 abbrev pub closing : State → ℕ → Refusal → State
 closing s k refusal =
-    if is_open (s.session k) then with_push s k (tell_end refusal (s.session k)) (push.Closed refusal) else s
+    if is_open (s.session k)
+    then with_push s k (tell_end refusal (s.session k)) (push.Closed refusal)
+    else s
 
 -- the program of a session is gone, and so is its outbox
 abbrev pub going : State → ℕ → State
@@ -202,18 +210,22 @@ receiving s m = record s { got = s.got ++ m ∷ []; kept = s.kept ++ m ∷ [] }
 
 -- a process has sent a message, and has its time
 abbrev pub noting_sent : State → ℕ → Message → State
-noting_sent s k m = noting_act (set_process s k (record (s.process k) { time = m.times })) k (Sent m)
+noting_sent s k m =
+    noting_act (set_process s k (record (s.process k) { time = m.times })) k (Sent m)
 
 -- the ABCASTs that processes delivered, once one has delivered a message
 abbrev pub abcasts_with : State → ℕ → Message → ℕ → List Uid
 abcasts_with s k m =
-    if is_atomic (kind_of m.body) then set_at (λ a b. a == b) s.abcasts k (s.abcasts k ++ m.id ∷ []) else s.abcasts
+    if is_atomic (kind_of m.body) then set_at (λ a b. a == b) s.abcasts k (s.abcasts k ++ m.id ∷ [])
+    else s.abcasts
 
 -- a process has delivered a message
 abbrev pub with_delivery : State → ℕ → Message → State
 with_delivery s k m =
     let p : Process = s.process k in
-    let now : State = set_process s k (record p { time = join p.time m.times; delivered = p.delivered ++ m.id ∷ [] }) in
+    let now : State =
+    set_process s k
+    (record p { time = join p.time m.times; delivered = p.delivered ++ m.id ∷ [] }) in
     record (noting_act now k (Delivered m)) {
       abcasts = abcasts_with s k m;
       deliveries = s.deliveries ++ (local s k, m.id) ∷ [];
@@ -284,5 +296,8 @@ gate_of s g = gate_for (s.group g)
 abbrev pub awaits_own : State → ℕ → Bool
 awaits_own s k =
     list_any
-    (λ m. is_atomic (kind_of m.body) && (proc_eq m.id.proc (local s k) && ((m.id.view == (s.group m.id.group).number) && awaits (s.process k) m.id)))
+    (λ m. is_atomic (kind_of m.body)
+    && (proc_eq m.id.proc (local s k)
+    && ((m.id.view == (s.group m.id.group).number)
+    && awaits (s.process k) m.id)))
     s.got

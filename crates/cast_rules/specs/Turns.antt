@@ -13,17 +13,21 @@ use Rattle.cast_rules.specs.Order.{order_of, order_by, unsettled_ids, has_place,
 use Rattle.cast_rules.specs.Rules.Room.{may_order}
 use Rattle.cast_rules.specs.History.{history}
 
--- who holds the token may deliver one more ABCAST: fewer than 512 are unsettled, and there is a place for it
+-- who holds the token may deliver one more ABCAST: fewer than 512 are unsettled, and there is a
+-- place for it
 abbrev pub has_room_for_order : State → GroupNo → ℕ → Bool
 has_room_for_order s g k =
-    may_order history s && (nat_lt (length (unsettled_ids s g k)) MAX_UNSETTLED && has_place (order_by s g k))
+    may_order history s
+    && (nat_lt (length (unsettled_ids s g k)) MAX_UNSETTLED
+    && has_place (order_by s g k))
 
--- who holds the token gives ABCASTs their places as it delivers them; any other process, and whoever holds that of a frozen group, delivers
--- the one whose place is next
+-- who holds the token gives ABCASTs their places as it delivers them; any other process, and
+-- whoever holds that of a frozen group, delivers the one whose place is next
 abbrev pub turn_of : State → ℕ → GroupNo → Turn
 turn_of s k g =
     if sets_order s g k then Holding (has_room_for_order s g k)
-    else Following (next_of (λ e. has_delivered (s.process k) (uid_in g (s.group g).number e)) (order_of s g))
+    else Following
+    (next_of (λ e. has_delivered (s.process k) (uid_in g (s.group g).number e)) (order_of s g))
 
 abbrev pub is_ready_for : State → ℕ → Message → Bool
 is_ready_for s k m = is_ready s.config.groups (gate_of s) (turn_of s k) (s.process k) m

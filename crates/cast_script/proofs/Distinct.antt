@@ -29,38 +29,45 @@ not_from : (b : Bool) → b ≡ false → not b ≡ true
 not_from b e = ap not e
 
 -- a number among domains and those behind them is among neither
-apart : (n : DomainNo) (before behind : List DomainConfig) → is_configured n (before ++ behind) ≡ false → (is_configured n before ≡ false) × (is_configured n behind ≡ false)
+apart : (n : DomainNo) (before behind : List DomainConfig) → is_configured n (before ++ behind) ≡ false →
+    (is_configured n before ≡ false) × (is_configured n behind ≡ false)
 apart n [] behind none = (refl, none)
 apart n (c ∷ before) behind none =
     let parts = or_parts (eqb c.domain.0 n.0) (is_configured n (before ++ behind)) none in
     let rest = apart n before behind parts.1 in
     (or_from (eqb c.domain.0 n.0) (is_configured n before) parts.0 rest.0, rest.1)
 
-together : (n : DomainNo) (before behind : List DomainConfig) → is_configured n before ≡ false → is_configured n behind ≡ false → is_configured n (before ++ behind) ≡ false
+together : (n : DomainNo) (before behind : List DomainConfig) → is_configured n before ≡ false → is_configured n behind ≡ false →
+    is_configured n (before ++ behind) ≡ false
 together n [] behind none rest = rest
 together n (c ∷ before) behind none rest =
     let parts = or_parts (eqb c.domain.0 n.0) (is_configured n before) none in
     or_from (eqb c.domain.0 n.0) (is_configured n (before ++ behind)) parts.0 (together n before behind parts.1 rest)
 
 -- one more domain, of another number
-pub distinct_more : (before : List DomainConfig) (d : DomainConfig) → are_distinct before ≡ true → is_configured d.domain before ≡ false → are_distinct (before ++ d ∷ []) ≡ true
+pub distinct_more : (before : List DomainConfig) (d : DomainConfig) → are_distinct before ≡ true → is_configured d.domain before ≡ false →
+    are_distinct (before ++ d ∷ []) ≡ true
 distinct_more [] d distinct new = refl
 distinct_more (c ∷ before) d distinct new =
     let parts = and_parts (not (is_configured c.domain before)) (are_distinct before) distinct in
     let apart_from = or_parts (eqb c.domain.0 d.domain.0) (is_configured d.domain before) new in
-    let single : is_configured c.domain (d ∷ []) ≡ false = or_from (eqb d.domain.0 c.domain.0) false (other c.domain.0 d.domain.0 apart_from.0) refl in
-    let first : is_configured c.domain (before ++ d ∷ []) ≡ false = together c.domain before (d ∷ []) (not_true (is_configured c.domain before) parts.0) single in
+    let single : is_configured c.domain (d ∷ []) ≡ false =
+    or_from (eqb d.domain.0 c.domain.0) false (other c.domain.0 d.domain.0 apart_from.0) refl in
+    let first : is_configured c.domain (before ++ d ∷ []) ≡ false =
+    together c.domain before (d ∷ []) (not_true (is_configured c.domain before) parts.0) single in
     and_from (not (is_configured c.domain (before ++ d ∷ []))) (are_distinct (before ++ d ∷ []))
     (not_from (is_configured c.domain (before ++ d ∷ [])) first) (distinct_more before d parts.1 apart_from.1)
 
 -- of different numbers one is not among those before it
-pub distinct_new : (before : List DomainConfig) (d : DomainConfig) (behind : List DomainConfig) → are_distinct (before ++ d ∷ behind) ≡ true → is_configured d.domain before ≡ false
+pub distinct_new : (before : List DomainConfig) (d : DomainConfig) (behind : List DomainConfig) →
+    are_distinct (before ++ d ∷ behind) ≡ true → is_configured d.domain before ≡ false
 distinct_new [] d behind distinct = refl
 distinct_new (c ∷ before) d behind distinct =
     let parts = and_parts (not (is_configured c.domain (before ++ d ∷ behind))) (are_distinct (before ++ d ∷ behind)) distinct in
     let none = apart c.domain before (d ∷ behind) (not_true (is_configured c.domain (before ++ d ∷ behind)) parts.0) in
     let first = or_parts (eqb d.domain.0 c.domain.0) (is_configured c.domain behind) none.1 in
-    or_from (eqb c.domain.0 d.domain.0) (is_configured d.domain before) (other d.domain.0 c.domain.0 first.0) (distinct_new before d behind parts.1)
+    or_from (eqb c.domain.0 d.domain.0) (is_configured d.domain before) (other d.domain.0 c.domain.0 first.0)
+    (distinct_new before d behind parts.1)
 
 -- ---- groups that rise
 

@@ -2,7 +2,8 @@
 use Rattle.std.proofs.Common.{◌≡◌, ◌≢◌, ℕ, List, Ok, Err, refl}
 use Rattle.cast_script.specs.declared.words.Reason.TheVariants.{UnknownWord}
 use Rattle.cast_script.specs.declared.lines.Head.{Head}
-use Rattle.cast_script.specs.declared.lines.Head.TheVariants.{Site, Domain, Open, Join, Leave, Cast, Abcast, Pass, Bad, Gone, Frame, Suspect, Quota, Take, Tick}
+use Rattle.cast_script.specs.declared.lines.Head.TheVariants.{Site, Domain, Open, Join, Leave, Cast, Abcast}
+use Rattle.cast_script.specs.declared.lines.Head.TheVariants.{Pass, Bad, Gone, Frame, Suspect, Quota, Take, Tick}
 use Rattle.cast_script.specs.Lines.{head_text}
 use Rattle.cast_script.specs.LineReadings.{head_of, heads}
 use Rattle.cast_script.proofs.Named.{among_is, none_among}

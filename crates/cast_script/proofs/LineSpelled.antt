@@ -3,7 +3,8 @@
 -- line spells) and one ending in `_again` (the words that spell it are read as it). A line is its
 -- first word, which names the kind, and parts; each part has such a pair in `Parts`, so each line
 -- joins those of its parts, and what tells kinds of lines apart is their first word.
-use Rattle.std.proofs.Common.{◌≡◌, ◌≢◌, ◌<◌, ℕ, false, eqb, ltb, List, [], ◌∷◌, ◌++◌, length, take, drop, map, codes, Result, Ok, Err, inl, inr, refl, sym, ap, subst, ◌∙◌, arith}
+use Rattle.std.proofs.Common.{◌≡◌, ◌≢◌, ◌<◌, ℕ, false, eqb, ltb, List, [], ◌∷◌, ◌++◌, length, take, drop}
+use Rattle.std.proofs.Common.{map, codes, Result, Ok, Err, inl, inr, refl, sym, ap, subst, ◌∙◌, arith}
 use Rattle.std.specs.Fmt.{decimal}
 use Rattle.std.proofs.lemmas.Bool.{lt-ltb, ltb-true}
 use Rattle.std.proofs.lemmas.List.{drop-drop, take-append-drop}
@@ -29,17 +30,23 @@ use Rattle.cast_events.specs.declared.event.Event.TheVariants as event
 use Rattle.cast_script.specs.declared.words.Reason.{Reason}
 use Rattle.cast_script.specs.declared.words.Reason.TheVariants.{Order, WrongCount}
 use Rattle.cast_script.specs.declared.lines.Head.{Head}
-use Rattle.cast_script.specs.declared.lines.Head.TheVariants.{Site, Domain, Open, Join, Leave, Cast, Abcast, Pass, Bad, Gone, Frame, Suspect, Quota, Take, Tick}
+use Rattle.cast_script.specs.declared.lines.Head.TheVariants.{Site, Domain, Open, Join, Leave, Cast, Abcast}
+use Rattle.cast_script.specs.declared.lines.Head.TheVariants.{Pass, Bad, Gone, Frame, Suspect, Quota, Take, Tick}
 use Rattle.cast_script.specs.declared.lines.DomainOrEvent.{DomainOrEvent}
 use Rattle.cast_script.specs.declared.lines.DomainOrEvent.TheVariants as said
 use Rattle.cast_script.specs.Lines.{IsDomainAt, SpellsDomain, SpellsEvent, SpellsSite, cast_text, head_text, AreNumbers}
 use Rattle.cast_script.specs.Words.{IsSite, SpellsBytes, is_configured, parts_at, place_texts, quota_texts}
-use Rattle.cast_script.specs.LineReadings.{bad_words, behind_first, cast_words, domain_or_event_behind, domain_parts, domain_words, event_behind, first_event, frame_words, frame_event, gone_words, head_of, join_words, leave_words, next_domain, open_words, pass_words, quota_event_words, request_parts, request_event, site_behind, site_words, suspect_words, take_words, tick_words}
-use Rattle.cast_script.specs.WordReadings.{◌>>=◌, bytes_of, domain_of, list_words, number_of, number_within, place_words, proc_of, quota_name_of, quota_words, group_of, site_of}
+use Rattle.cast_script.specs.LineReadings.{bad_words, behind_first, cast_words, domain_or_event_behind, domain_parts, domain_words}
+use Rattle.cast_script.specs.LineReadings.{event_behind, first_event, frame_words, frame_event, gone_words, head_of, join_words}
+use Rattle.cast_script.specs.LineReadings.{leave_words, next_domain, open_words, pass_words, quota_event_words, request_parts}
+use Rattle.cast_script.specs.LineReadings.{request_event, site_behind, site_words, suspect_words, take_words, tick_words}
+use Rattle.cast_script.specs.WordReadings.{◌>>=◌, bytes_of, domain_of, list_words, number_of, number_within}
+use Rattle.cast_script.specs.WordReadings.{place_words, proc_of, quota_name_of, quota_words, group_of, site_of}
 use Rattle.cast_script.proofs.Results.{bind_ok, made_ok, ok_is, pass_ok}
 use Rattle.cast_script.proofs.Numbers.{limited_is, limited_again, number_is, number_again}
 use Rattle.cast_script.proofs.Heads.{head_is, head_again}
-use Rattle.cast_script.proofs.Parts.{bytes_is, bytes_again, domain_is, domain_again, lists_is, lists_again, place_is, place_again, quota_name_is, quota_name_again, quotas_is, quotas_again, site_is, site_again, group_is, group_again}
+use Rattle.cast_script.proofs.Parts.{bytes_is, bytes_again, domain_is, domain_again, lists_is, lists_again, place_is, place_again}
+use Rattle.cast_script.proofs.Parts.{quota_name_is, quota_name_again, quotas_is, quotas_again, site_is, site_again, group_is, group_again}
 use Rattle.cast_script.proofs.Processes.{proc_is, proc_again}
 use Rattle.cast_types.specs.declared.names.GroupNo.{GroupNo}
 use Rattle.cast_script.specs.declared.events.RequestParts.{RequestParts}
@@ -73,10 +80,16 @@ parts_is d k t g p e =
       numbers = record { domain = a.1; serial = omega (arith, b.1.1); tag = omega (arith, c.1.1); group = f.1 };
     })
 
-pub parts_again : (d : DomainNo) (k t : ℕ) (g : GroupNo) → AreNumbers d k t g → request_parts (decimal d.0) (decimal k) (decimal t) (decimal g.0) ≡ Ok (record { domain = d; serial = k; tag = t; group = g })
+pub parts_again : (d : DomainNo) (k t : ℕ) (g : GroupNo) → AreNumbers d k t g
+    → request_parts (decimal d.0) (decimal k) (decimal t) (decimal g.0) ≡ Ok (record { domain = d; serial = k; tag = t; group = g })
 unfolding request_parts
 parts_again d k t g are =
-    rw (domain_again d are.domain, limited_again 0 4294967295 k (omega arith, omega (arith, are.serial)) (omega arith), limited_again 0 4294967295 t (omega arith, omega (arith, are.tag)) (omega arith), group_again g are.group) refl
+    rw (
+      domain_again d are.domain,
+      limited_again 0 4294967295 k (omega arith, omega (arith, are.serial)) (omega arith),
+      limited_again 0 4294967295 t (omega arith, omega (arith, are.tag)) (omega arith),
+      group_again g are.group,
+    ) refl
 
 -- ---- the `site` line
 
@@ -108,7 +121,8 @@ pub record SpellsNext (own : SiteNo) (before : List DomainConfig) (ws : List (Li
   pub spelled : SpellsDomain own ws d
   pub new : is_configured d.domain before ≡ false
 
-domain_parts_are : (own : SiteNo) (before : List DomainConfig) (ws : List (List ℕ)) (d : DomainConfig) → domain_parts own before ws ≡ Ok d → SpellsNext own before (codes "domain" ∷ ws) d
+domain_parts_are : (own : SiteNo) (before : List DomainConfig) (ws : List (List ℕ)) (d : DomainConfig) → domain_parts own before ws ≡ Ok d
+    → SpellsNext own before (codes "domain" ∷ ws) d
 unfolding domain_parts
 domain_parts_are own before ws d e =
     let place = bind_ok (place_words before (take 3 ws)) _ d e in
@@ -143,19 +157,23 @@ domain_parts_are own before ws d e =
       new = p.2;
     })
 
-domain_words_are : (own : SiteNo) (before : List DomainConfig) (ws : List (List ℕ)) (d : DomainConfig) → domain_words own before ws ≡ Ok d → SpellsNext own before (codes "domain" ∷ ws) d
+domain_words_are : (own : SiteNo) (before : List DomainConfig) (ws : List (List ℕ)) (d : DomainConfig) → domain_words own before ws ≡ Ok d
+    → SpellsNext own before (codes "domain" ∷ ws) d
 unfolding domain_words
 domain_words_are own before ws d e =
     domain_parts_are own before ws d (pass_ok (eqb (length ws) 12) WrongCount (domain_parts own before ws) d e).1
 
-next_domain_is : (own : SiteNo) (before : List DomainConfig) (ws : List (List ℕ)) (d : DomainConfig) → next_domain own before ws ≡ Ok d → SpellsNext own before (codes "domain" ∷ ws) d × (length before < 16)
+next_domain_is : (own : SiteNo) (before : List DomainConfig) (ws : List (List ℕ)) (d : DomainConfig) → next_domain own before ws ≡ Ok d
+    → SpellsNext own before (codes "domain" ∷ ws) d × (length before < 16)
 unfolding next_domain
 next_domain_is own before ws d e =
     let passed = pass_ok (ltb (length before) 16) Order (domain_words own before ws) d e in
     (domain_words_are own before ws d passed.1, ltb-true (length before) 16 passed.0)
 
-domain_words_again : (own : SiteNo) (before : List DomainConfig) (s g : List ℕ) (d : DomainConfig) → is_configured d.domain before ≡ false → parts_at 44 s ≡ map (λ x. decimal x.0) d.sites → parts_at 44 g ≡ map (λ x. decimal x.0) d.groups → IsDomainAt own d
-    → domain_words own before (place_texts d.domain d.home ++ ((codes "sites" ∷ s ∷ codes "groups" ∷ g ∷ []) ++ quota_texts d.quotas)) ≡ Ok d
+domain_words_again : (own : SiteNo) (before : List DomainConfig) (s g : List ℕ) (d : DomainConfig) → is_configured d.domain before ≡ false
+    → parts_at 44 s ≡ map (λ x. decimal x.0) d.sites → parts_at 44 g ≡ map (λ x. decimal x.0) d.groups → IsDomainAt own d
+    → domain_words own before (place_texts d.domain d.home ++ ((codes "sites" ∷ s ∷ codes "groups" ∷ g ∷ []) ++ quota_texts d.quotas))
+    ≡ Ok d
 unfolding domain_words domain_parts
 domain_words_again own before s g d new sites groups at =
     let home : IsSite d.home = All-contains IsSite d.sites d.home (All-from_recursion IsSite d.sites at.are_sites) at.has_home in
@@ -166,7 +184,8 @@ domain_words_again own before s g d new sites groups at =
     let quotas = quotas_again d.quotas at.within in
     rw (place, lists, quotas) refl
 
-pub domain_again_behind : (own : SiteNo) (before : List DomainConfig) (ws : List (List ℕ)) (d : DomainConfig) → SpellsDomain own ws d → is_configured d.domain before ≡ false → length before < 16 → behind_first (domain_or_event_behind own before) ws ≡ Ok (said.Domain d)
+pub domain_again_behind : (own : SiteNo) (before : List DomainConfig) (ws : List (List ℕ)) (d : DomainConfig) → SpellsDomain own ws d
+    → is_configured d.domain before ≡ false → length before < 16 → behind_first (domain_or_event_behind own before) ws ≡ Ok (said.Domain d)
 unfolding behind_first domain_or_event_behind next_domain
 domain_again_behind own before ws d (lists, words, (s, g, is, sites, groups), at) new few =
     rw (words, head_again Domain, is, lt-ltb (length before) 16 few, domain_words_again own before s g d new sites groups at) refl
@@ -184,7 +203,8 @@ open_is ws e h = absurd cc
 join_is : (ws : List (List ℕ)) (e : Event) → join_words ws ≡ Ok e → SpellsEvent (codes "join" ∷ ws) e
 unfolding join_words
 join_is (d ∷ k ∷ t ∷ g ∷ []) e h =
-    made_ok (request_parts d k t g) (λ p. request_event p (request.Join p.tag p.group)) (SpellsEvent (codes "join" ∷ d ∷ k ∷ t ∷ g ∷ [])) e h (λ p read.
+    made_ok (request_parts d k t g) (λ p. request_event p (request.Join p.tag p.group)) (SpellsEvent (codes "join" ∷ d ∷ k ∷ t ∷ g ∷ []))
+    e h (λ p read.
     let are = parts_is d k t g p read in
     (cc (are.domain, are.serial, are.tag, are.group), are.numbers))
 join_is ws e h = absurd cc
@@ -192,7 +212,8 @@ join_is ws e h = absurd cc
 leave_is : (ws : List (List ℕ)) (e : Event) → leave_words ws ≡ Ok e → SpellsEvent (codes "leave" ∷ ws) e
 unfolding leave_words
 leave_is (d ∷ k ∷ t ∷ g ∷ []) e h =
-    made_ok (request_parts d k t g) (λ p. request_event p (request.Leave p.tag p.group)) (SpellsEvent (codes "leave" ∷ d ∷ k ∷ t ∷ g ∷ [])) e h (λ p read.
+    made_ok (request_parts d k t g) (λ p. request_event p (request.Leave p.tag p.group)) (SpellsEvent (codes "leave" ∷ d ∷ k ∷ t ∷ g ∷ []))
+    e h (λ p read.
     let are = parts_is d k t g p read in
     (cc (are.domain, are.serial, are.tag, are.group), are.numbers))
 leave_is ws e h = absurd cc
@@ -202,7 +223,8 @@ unfolding cast_words
 cast_is how (d ∷ k ∷ t ∷ g ∷ x ∷ []) e h =
     let p = bind_ok (request_parts d k t g) _ e h in
     let are = parts_is d k t g p.0 p.1 in
-    made_ok (bytes_of x) (λ bytes. request_event p.0 (request.Cast p.0.tag p.0.group how bytes)) (SpellsEvent (cast_text how ∷ d ∷ k ∷ t ∷ g ∷ x ∷ [])) e p.2 (λ bytes read.
+    made_ok (bytes_of x) (λ bytes. request_event p.0 (request.Cast p.0.tag p.0.group how bytes))
+    (SpellsEvent (cast_text how ∷ d ∷ k ∷ t ∷ g ∷ x ∷ [])) e p.2 (λ bytes read.
     (x, cc (are.domain, are.serial, are.tag, are.group), are.numbers, bytes_is x bytes read))
 cast_is how ws e h = absurd cc
 
@@ -211,7 +233,8 @@ unfolding pass_words
 pass_is (d ∷ k ∷ t ∷ g ∷ x ∷ []) e h =
     let p = bind_ok (request_parts d k t g) _ e h in
     let are = parts_is d k t g p.0 p.1 in
-    made_ok (proc_of x) (λ to. request_event p.0 (request.Pass p.0.tag p.0.group to)) (SpellsEvent (codes "pass" ∷ d ∷ k ∷ t ∷ g ∷ x ∷ [])) e p.2 (λ to read.
+    made_ok (proc_of x) (λ to. request_event p.0 (request.Pass p.0.tag p.0.group to)) (SpellsEvent (codes "pass" ∷ d ∷ k ∷ t ∷ g ∷ x ∷ []))
+    e p.2 (λ to read.
     let is = proc_is x to read in
     (cc (are.domain, are.serial, are.tag, are.group, is.0), are.numbers, is.1))
 pass_is ws e h = absurd cc
@@ -236,7 +259,8 @@ gone_is (w ∷ k ∷ []) e h =
     (cc (is.0, serial.0), is.1, omega (arith, serial.1.1)))
 gone_is ws e h = absurd cc
 
-framed_is : (r : Result (DomainNo × SiteNo × SiteFrame) FrameFault) (e : Event) → frame_event r ≡ Ok e → (x : DomainNo × SiteNo × SiteFrame) × (r ≡ Ok x) × (event.Frame x.0 x.1 x.2 ≡ e)
+framed_is : (r : Result (DomainNo × SiteNo × SiteFrame) FrameFault) (e : Event) → frame_event r ≡ Ok e
+    → (x : DomainNo × SiteNo × SiteFrame) × (r ≡ Ok x) × (event.Frame x.0 x.1 x.2 ≡ e)
 framed_is (Ok x) e h = (x, refl, ok_is Reason (event.Frame x.0 x.1 x.2) e h)
 framed_is (Err f) e h = absurd cc
 
@@ -271,7 +295,8 @@ quota_is (w ∷ v ∷ n ∷ []) e h =
     let name = bind_ok (quota_name_of v) _ e d.2 in
     let is = domain_is w d.0 d.1 in
     let named = quota_name_is v name.0 name.1 in
-    made_ok (number_within 0 4294967295 n) (λ m. event.Quota d.0 name.0 m) (SpellsEvent (codes "quota" ∷ w ∷ v ∷ n ∷ [])) e name.2 (λ m read.
+    made_ok (number_within 0 4294967295 n) (λ m. event.Quota d.0 name.0 m) (SpellsEvent (codes "quota" ∷ w ∷ v ∷ n ∷ []))
+    e name.2 (λ m read.
     let value = limited_is 0 4294967295 n m read in
     (cc (is.0, named, value.0), is.1, omega (arith, value.1.1)))
 quota_is ws e h = absurd cc
@@ -283,7 +308,8 @@ take_is (w ∷ k ∷ n ∷ []) e h =
     let serial = bind_ok (number_within 0 4294967295 k) _ e d.2 in
     let is = domain_is w d.0 d.1 in
     let one = limited_is 0 4294967295 k serial.0 serial.1 in
-    made_ok (number_within 0 4294967295 n) (λ m. event.Take d.0 serial.0 m) (SpellsEvent (codes "take" ∷ w ∷ k ∷ n ∷ [])) e serial.2 (λ m read.
+    made_ok (number_within 0 4294967295 n) (λ m. event.Take d.0 serial.0 m) (SpellsEvent (codes "take" ∷ w ∷ k ∷ n ∷ []))
+    e serial.2 (λ m read.
     let most = limited_is 0 4294967295 n m read in
     (cc (is.0, one.0, most.0), is.1, omega (arith, one.1.1), omega (arith, most.1.1)))
 take_is ws e h = absurd cc
@@ -321,7 +347,8 @@ event_line_is (first ∷ ws) e h =
     let head = bind_ok (head_of first) _ e h in
     subst (λ w. SpellsEvent (w ∷ ws) e) (sym (head_is first head.0 head.1)) (event_behind_is head.0 ws e head.2)
 
-request_again : (d : DomainNo) (k : ℕ) (ws : List (List ℕ)) (r : Request) → SpellsEvent ws (event.Command d k (command.Request r)) → behind_first event_behind ws ≡ Ok (event.Command d k (command.Request r))
+request_again : (d : DomainNo) (k : ℕ) (ws : List (List ℕ)) (r : Request) → SpellsEvent ws (event.Command d k (command.Request r))
+    → behind_first event_behind ws ≡ Ok (event.Command d k (command.Request r))
 unfolding behind_first event_behind join_words leave_words cast_words pass_words
 request_again d k ws (request.Join t g) (words, are) = rw (words, head_again Join, parts_again d k t g are) refl
 request_again d k ws (request.Leave t g) (words, are) = rw (words, head_again Leave, parts_again d k t g are) refl
@@ -344,9 +371,21 @@ event_line_again ws (event.Frame d s f) (hex, words, spells, is) =
     rw (words, head_again Frame, bytes_again hex (spelled_site d s f) spells, frame_again d s f is) refl
 event_line_again ws (event.Suspect d s) (words, is, named) = rw (words, head_again Suspect, domain_again d is, site_again s named) refl
 event_line_again ws (event.Quota d name n) (words, is, small) =
-    rw (words, head_again Quota, domain_again d is, quota_name_again name, limited_again 0 4294967295 n (omega arith, omega (arith, small)) (omega arith)) refl
+    rw (
+      words,
+      head_again Quota,
+      domain_again d is,
+      quota_name_again name,
+      limited_again 0 4294967295 n (omega arith, omega (arith, small)) (omega arith),
+    ) refl
 event_line_again ws (event.Take d k n) (words, is, serial, most) =
-    rw (words, head_again Take, domain_again d is, limited_again 0 4294967295 k (omega arith, omega (arith, serial)) (omega arith), limited_again 0 4294967295 n (omega arith, omega (arith, most)) (omega arith)) refl
+    rw (
+      words,
+      head_again Take,
+      domain_again d is,
+      limited_again 0 4294967295 k (omega arith, omega (arith, serial)) (omega arith),
+      limited_again 0 4294967295 n (omega arith, omega (arith, most)) (omega arith),
+    ) refl
 event_line_again ws (event.Tick n) (words, small) = rw (words, head_again Tick, number_again n small) refl
 
 -- ---- a line behind the `site` line and these domains
@@ -357,27 +396,34 @@ IsNext own before ws (said.Domain d) = SpellsNext own before ws d × (length bef
 IsNext own before ws (said.Event e) = SpellsEvent ws e × (before ≢ [])
 
 -- a line that begins with no `domain` is that of the first event
-pub other_behind : (own : SiteNo) (before : List DomainConfig) (h : Head) (ws : List (List ℕ)) → h ≢ Domain → domain_or_event_behind own before h ws ≡ (first_event before h ws >>= λ e. Ok (said.Event e))
+pub other_behind : (own : SiteNo) (before : List DomainConfig) (h : Head) (ws : List (List ℕ)) → h ≢ Domain
+    → domain_or_event_behind own before h ws ≡ (first_event before h ws >>= λ e. Ok (said.Event e))
 unfolding domain_or_event_behind
 other_behind own before Domain ws other = absurd (other refl)
 other_behind own before h ws other = refl
 
-first_event_is : (before : List DomainConfig) (h : Head) (ws : List (List ℕ)) (e : Event) → first_event before h ws ≡ Ok e → SpellsEvent (head_text h ∷ ws) e × (before ≢ [])
+first_event_is : (before : List DomainConfig) (h : Head) (ws : List (List ℕ)) (e : Event) → first_event before h ws ≡ Ok e
+    → SpellsEvent (head_text h ∷ ws) e × (before ≢ [])
 unfolding first_event
 first_event_is [] h ws e read = absurd cc
 first_event_is (d ∷ ds) h ws e read = (event_behind_is h ws e read, λ none. cc)
 
-first_is : (own : SiteNo) (before : List DomainConfig) (h : Head) (ws : List (List ℕ)) (x : DomainOrEvent) → h ≢ Domain → domain_or_event_behind own before h ws ≡ Ok x → IsNext own before (head_text h ∷ ws) x
+first_is : (own : SiteNo) (before : List DomainConfig) (h : Head) (ws : List (List ℕ)) (x : DomainOrEvent) → h ≢ Domain
+    → domain_or_event_behind own before h ws ≡ Ok x → IsNext own before (head_text h ∷ ws) x
 first_is own before h ws x other read =
-    made_ok (first_event before h ws) (λ e. said.Event e) (IsNext own before (head_text h ∷ ws)) x (sym (other_behind own before h ws other) ∙ read) (λ e is. first_event_is before h ws e is)
+    made_ok (first_event before h ws) (λ e. said.Event e) (IsNext own before (head_text h ∷ ws))
+    x (sym (other_behind own before h ws other) ∙ read) (λ e is. first_event_is before h ws e is)
 
-next_is : (own : SiteNo) (before : List DomainConfig) (h : Head) (ws : List (List ℕ)) (x : DomainOrEvent) → domain_or_event_behind own before h ws ≡ Ok x → IsNext own before (head_text h ∷ ws) x
+next_is : (own : SiteNo) (before : List DomainConfig) (h : Head) (ws : List (List ℕ)) (x : DomainOrEvent)
+    → domain_or_event_behind own before h ws ≡ Ok x → IsNext own before (head_text h ∷ ws) x
 unfolding domain_or_event_behind
 next_is own before Domain ws x read =
-    made_ok (next_domain own before ws) (λ d. said.Domain d) (IsNext own before (codes "domain" ∷ ws)) x read (λ d is. next_domain_is own before ws d is)
+    made_ok (next_domain own before ws) (λ d. said.Domain d) (IsNext own before (codes "domain" ∷ ws))
+    x read (λ d is. next_domain_is own before ws d is)
 next_is own before h ws x read = first_is own before h ws x (λ same. cc) read
 
-pub domain_or_event_is : (own : SiteNo) (before : List DomainConfig) (ws : List (List ℕ)) (x : DomainOrEvent) → behind_first (domain_or_event_behind own before) ws ≡ Ok x → IsNext own before ws x
+pub domain_or_event_is : (own : SiteNo) (before : List DomainConfig) (ws : List (List ℕ)) (x : DomainOrEvent)
+    → behind_first (domain_or_event_behind own before) ws ≡ Ok x → IsNext own before ws x
 unfolding behind_first
 domain_or_event_is own before [] x read = absurd cc
 domain_or_event_is own before (first ∷ ws) x read =
@@ -390,16 +436,19 @@ unfolding event_behind
 not_domain Domain ws e read = absurd cc
 not_domain h ws e read = λ same. cc
 
-first_again : (own : SiteNo) (d : DomainConfig) (before : List DomainConfig) (h : Head) (ws : List (List ℕ)) (e : Event) → event_behind h ws ≡ Ok e → domain_or_event_behind own (d ∷ before) h ws ≡ Ok (said.Event e)
+first_again : (own : SiteNo) (d : DomainConfig) (before : List DomainConfig) (h : Head) (ws : List (List ℕ)) (e : Event)
+    → event_behind h ws ≡ Ok e → domain_or_event_behind own (d ∷ before) h ws ≡ Ok (said.Event e)
 unfolding first_event
 first_again own d before h ws e read = other_behind own (d ∷ before) h ws (not_domain h ws e read) ∙ rw read refl
 
-first_behind : (own : SiteNo) (d : DomainConfig) (before : List DomainConfig) (ws : List (List ℕ)) (e : Event) → behind_first event_behind ws ≡ Ok e → behind_first (domain_or_event_behind own (d ∷ before)) ws ≡ Ok (said.Event e)
+first_behind : (own : SiteNo) (d : DomainConfig) (before : List DomainConfig) (ws : List (List ℕ)) (e : Event)
+    → behind_first event_behind ws ≡ Ok e → behind_first (domain_or_event_behind own (d ∷ before)) ws ≡ Ok (said.Event e)
 unfolding behind_first
 first_behind own d before [] e read = absurd cc
 first_behind own d before (first ∷ ws) e read =
     let head = bind_ok (head_of first) _ e read in
     rw head.1 (first_again own d before head.0 ws e head.2)
 
-pub event_again_behind : (own : SiteNo) (d : DomainConfig) (before : List DomainConfig) (ws : List (List ℕ)) (e : Event) → SpellsEvent ws e → behind_first (domain_or_event_behind own (d ∷ before)) ws ≡ Ok (said.Event e)
+pub event_again_behind : (own : SiteNo) (d : DomainConfig) (before : List DomainConfig) (ws : List (List ℕ)) (e : Event) → SpellsEvent ws e
+    → behind_first (domain_or_event_behind own (d ∷ before)) ws ≡ Ok (said.Event e)
 event_again_behind own d before ws e spells = first_behind own d before ws e (event_line_again ws e spells)

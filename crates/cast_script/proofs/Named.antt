@@ -17,7 +17,8 @@ among_is text (y ∷ xs) word x e =
       | inr other ↦ among_is text xs word x (sym (cond-false (bytes_eq word (text y)) (Ok y) (named_among text xs word) other) ∙ e)
     ]
 
-pub none_among : {A : Type 0} (text : A → List ℕ) (xs : List A) (word : List ℕ) → ((x : A) → word ≢ text x) → named_among text xs word ≡ Err UnknownWord
+pub none_among : {A : Type 0} (text : A → List ℕ) (xs : List A) (word : List ℕ) → ((x : A) → word ≢ text x) →
+    named_among text xs word ≡ Err UnknownWord
 none_among text [] word none = refl
 none_among text (y ∷ xs) word none =
     elim (cases_Bool (bytes_eq word (text y))) [

@@ -1,11 +1,14 @@
 -- Numbers as words of a script: digits with no sign and no leading zero are what `decimal` writes of their value.
-use Rattle.std.proofs.Common.{◌≡◌, ◌≢◌, ℕ, zero, suc, ◌<◌, ◌≤◌, ◌^◌, true, ltb, leb, ◌&&◌, bytes_eq, List, length, get_or, Result, Ok, Err, ◌⊎◌, inl, inr, refl, sym, ap, subst, ◌∙◌, arith}
+use Rattle.std.proofs.Common.{◌≡◌, ◌≢◌, ℕ, zero, suc, ◌<◌, ◌≤◌, ◌^◌, true, ltb, leb, ◌&&◌, bytes_eq, List}
+use Rattle.std.proofs.Common.{length, get_or, Result, Ok, Err, ◌⊎◌, inl, inr, refl, sym, ap, subst, ◌∙◌, arith}
 use Rattle.std.specs.Fmt.{decimal}
-use Rattle.std.proofs.lemmas.Bool.{and_from, and_left, and_parts, and_right, cases_Bool, cases_lt, cond-false, le-leb, leb-true, lt-leb, lt-ltb, ltb-true}
+use Rattle.std.proofs.lemmas.Bool.{and_from, and_left, and_parts, and_right, cases_Bool, cases_lt}
+use Rattle.std.proofs.lemmas.Bool.{cond-false, le-leb, leb-true, lt-leb, lt-ltb, ltb-true}
 use Rattle.std.proofs.lemmas.Slice.Eq.{bytes_eq-Decides}
 use Rattle.std.specs.Str.Parse.{AllDigits, digits_value, ParsesUnsigned}
 use Rattle.std.proofs.lemmas.Str.Parse.{IsNumeralModel, numerals_by_value, tells_digits, parse_plain, not_in_digits}
-use Rattle.std.proofs.lemmas.Fmt.{decimal-digits_value, digits_value-decimal, parse-decimal, decimal_nonempty, digits_decimal, first_decimal, decimal_digit}
+use Rattle.std.proofs.lemmas.Fmt.{decimal-digits_value, digits_value-decimal, parse-decimal}
+use Rattle.std.proofs.lemmas.Fmt.{decimal_nonempty, digits_decimal, first_decimal, decimal_digit}
 use Rattle.cast_script.specs.Words.{IsBetween}
 use Rattle.cast_script.specs.WordReadings.{◌>>=◌, number_of, number_within, spelled_number, within}
 use Rattle.cast_script.specs.declared.words.Reason.{Reason}
@@ -16,9 +19,11 @@ own : IsNumeralModel (AllDigits 10) (digits_value 10)
 own = numerals_by_value (AllDigits 10) tells_digits
 
 -- a number that was read is written as it stood
-pub number_read : (bs : List ℕ) (n : ℕ) → ParsesUnsigned {E = ℕ} 64 10 bs (Ok n) → get_or bs 0 0 ≢ 43 → (get_or bs 0 0 ≡ 48 → length bs ≤ 1) → bs ≡ decimal n
+pub number_read : (bs : List ℕ) (n : ℕ) → ParsesUnsigned {E = ℕ} 64 10 bs (Ok n) → get_or bs 0 0 ≢ 43 →
+    (get_or bs 0 0 ≡ 48 → length bs ≤ 1) → bs ≡ decimal n
 number_read bs n h sign single =
-    let facts : (AllDigits 10 bs × (0 < length bs) × (digits_value 10 bs < 2 ^ 64)) × (n ≡ digits_value 10 bs) = parse_plain own {E = ℕ} 64 bs (Ok n) h sign in
+    let facts : (AllDigits 10 bs × (0 < length bs) × (digits_value 10 bs < 2 ^ 64)) × (n ≡ digits_value 10 bs) =
+    parse_plain own {E = ℕ} 64 bs (Ok n) h sign in
     let longer : 0 < length bs = facts.0.1 in
     let small : digits_value 10 bs < 2 ^ 64 = facts.0.2 in
     let written : decimal (digits_value 10 bs) ≡ bs =
@@ -68,7 +73,8 @@ spelled_read bs v n e =
 spelled_again : (n : ℕ) → n < 2 ^ 64 → spelled_number (decimal n) n ≡ Ok n
 unfolding spelled_number
 spelled_again n small =
-    let test : (ltb n (2 ^ 64) && bytes_eq (decimal n) (decimal n)) ≡ true = and_from _ _ (lt-ltb n (2 ^ 64) small) ((bytes_eq-Decides (decimal n) (decimal n)).1 refl) in
+    let test : (ltb n (2 ^ 64) && bytes_eq (decimal n) (decimal n)) ≡ true =
+    and_from _ _ (lt-ltb n (2 ^ 64) small) ((bytes_eq-Decides (decimal n) (decimal n)).1 refl) in
     rw test refl
 
 spelled_not : (bs : List ℕ) (v : ℕ) → ((n : ℕ) → n < 2 ^ 64 → bs ≢ decimal n) → spelled_number bs v ≡ Err BadNumber
@@ -124,17 +130,20 @@ narrower_ok : (top least most n : ℕ) (r : Result ℕ Reason) → (r >>= within
 narrower_ok top least most n (Ok m) e = ap (within least most) (within_is 0 top m n e).0
 narrower_ok top least most n (Err d) e = absurd cc
 
-pub narrowed_ok : (top least most : ℕ) (bs : List ℕ) (n : ℕ) → number_within 0 top bs ≡ Ok n → number_within least most bs ≡ within least most n
+pub narrowed_ok : (top least most : ℕ) (bs : List ℕ) (n : ℕ) → number_within 0 top bs ≡ Ok n →
+    number_within least most bs ≡ within least most n
 unfolding number_within
 narrowed_ok top least most bs n e = narrower_ok top least most n (number_of bs) e
 
 within_below : (low high n : ℕ) → n < low → within low high n ≡ Err BadNumber
 unfolding within
-within_below low high n below = cond-false (leb low n && leb n high) (Ok n) (Err BadNumber) (and_left (leb low n) (leb n high) (lt-leb low n below))
+within_below low high n below =
+    cond-false (leb low n && leb n high) (Ok n) (Err BadNumber) (and_left (leb low n) (leb n high) (lt-leb low n below))
 
 within_above : (low high n : ℕ) → high < n → within low high n ≡ Err BadNumber
 unfolding within
-within_above low high n above = cond-false (leb low n && leb n high) (Ok n) (Err BadNumber) (and_right (leb low n) (leb n high) (lt-leb n high above))
+within_above low high n above =
+    cond-false (leb low n && leb n high) (Ok n) (Err BadNumber) (and_right (leb low n) (leb n high) (lt-leb n high above))
 
 pub within_not : (low high n : ℕ) → (low ≤ n → n ≤ high → ⊥) → within low high n ≡ Err BadNumber
 within_not low high n out =
@@ -147,7 +156,8 @@ within_not low high n out =
           ]
     ]
 
-narrower_err : (top least most : ℕ) (d : Reason) (r : Result ℕ Reason) → most ≤ top → (r >>= within 0 top) ≡ Err d → (r >>= within least most) ≡ Err d
+narrower_err : (top least most : ℕ) (d : Reason) (r : Result ℕ Reason) → most ≤ top → (r >>= within 0 top) ≡ Err d →
+    (r >>= within least most) ≡ Err d
 narrower_err top least most d (Ok m) le e =
     elim (cases_lt top m) [
       | inl above ↦ within_above least most m (omega arith) ∙ (sym (within_above 0 top m above) ∙ e)
@@ -155,6 +165,7 @@ narrower_err top least most d (Ok m) le e =
     ]
 narrower_err top least most d (Err b) le e = e
 
-pub narrowed_err : (top least most : ℕ) (bs : List ℕ) (d : Reason) → most ≤ top → number_within 0 top bs ≡ Err d → number_within least most bs ≡ Err d
+pub narrowed_err : (top least most : ℕ) (bs : List ℕ) (d : Reason) → most ≤ top → number_within 0 top bs ≡ Err d →
+    number_within least most bs ≡ Err d
 unfolding number_within
 narrowed_err top least most bs d le e = narrower_err top least most d (number_of bs) le e

@@ -1,5 +1,6 @@
 -- A word that is read as a process names it, and the word that names a process is read as it.
-use Rattle.std.proofs.Common.{◌≡◌, ℕ, ◌+◌, ◌<◌, ◌^◌, true, ltb, List, [], ◌∷◌, ◌++◌, length, get_or, drop, Ok, refl, sym, ap, subst, ◌∙◌, append_assoc, arith}
+use Rattle.std.proofs.Common.{◌≡◌, ℕ, ◌+◌, ◌<◌, ◌^◌, true, ltb, List, [], ◌∷◌, ◌++◌, length}
+use Rattle.std.proofs.Common.{get_or, drop, Ok, refl, sym, ap, subst, ◌∙◌, append_assoc, arith}
 use Rattle.std.specs.Fmt.{decimal}
 use Rattle.std.specs.List.{position_or_len, before_first, after_first}
 use Rattle.std.proofs.Math.Seq.{get_or-append_seam}
@@ -18,13 +19,15 @@ use Rattle.cast_script.proofs.Parts.{site_is, site_again}
 pub proc_is : (w : List ℕ) (p : Proc) → proc_of w ≡ Ok p → (w ≡ proc_text p) × IsProc p
 unfolding proc_of site_and_serial
 proc_is w p e =
-    let dotted = pass_ok (ltb (position_or_len is_dot w) (length w)) BadNumber (site_and_serial (before_first is_dot w) (after_first is_dot w)) p e in
+    let dotted =
+    pass_ok (ltb (position_or_len is_dot w) (length w)) BadNumber (site_and_serial (before_first is_dot w) (after_first is_dot w)) p e in
     let site = bind_ok (site_of (before_first is_dot w)) _ p dotted.1 in
     let serial = bind_ok (number_within 1 4294967295 (after_first is_dot w)) _ p site.2 in
     let s = site_is (before_first is_dot w) site.0 site.1 in
     let n = limited_is 1 4294967295 (after_first is_dot w) serial.0 serial.1 in
     let inside : position_or_len is_dot w < length w = ltb-true (position_or_len is_dot w) (length w) dotted.0 in
-    let dot : get_or w (position_or_len is_dot w) 0 ≡ 46 = eqb-true (get_or w (position_or_len is_dot w) 0) 46 (passes_at_first is_dot w 0 inside) in
+    let dot : get_or w (position_or_len is_dot w) 0 ≡ 46 =
+    eqb-true (get_or w (position_or_len is_dot w) 0) 46 (passes_at_first is_dot w 0 inside) in
     let named : w ≡ decimal site.0.0 ++ (46 ∷ decimal serial.0) = cc (split_at_first is_dot w 0 inside, dot, s.0, n.0) in
     subst (λ q. (w ≡ proc_text q) × IsProc q) (ok_is Reason (record { site = site.0; serial = serial.0 }) p serial.2) (named, (s.1, n.1))
 
@@ -41,9 +44,13 @@ unfolding proc_of site_and_serial
 proc_again p is =
     let w : List ℕ = proc_text p in
     let at : position_or_len is_dot w ≡ length (decimal p.site.0) = first_dot p.site.0 (decimal p.serial) (omega (arith, is.0.1)) in
-    let inside : ltb (position_or_len is_dot w) (length w) ≡ true = lt-ltb (position_or_len is_dot w) (length w) (omega (arith, at, length-append (decimal p.site.0) (46 ∷ decimal p.serial))) in
-    let before : before_first is_dot w ≡ decimal p.site.0 = take_at (decimal p.site.0) (46 ∷ decimal p.serial) (position_or_len is_dot w) (sym at) in
-    let regrouped : w ≡ (decimal p.site.0 ++ (46 ∷ [])) ++ decimal p.serial = sym (append_assoc (decimal p.site.0) (46 ∷ []) (decimal p.serial)) in
+    let inside : ltb (position_or_len is_dot w) (length w) ≡ true =
+    lt-ltb (position_or_len is_dot w) (length w) (omega (arith, at, length-append (decimal p.site.0) (46 ∷ decimal p.serial))) in
+    let before : before_first is_dot w ≡ decimal p.site.0 =
+    take_at (decimal p.site.0) (46 ∷ decimal p.serial) (position_or_len is_dot w) (sym at) in
+    let regrouped : w ≡ (decimal p.site.0 ++ (46 ∷ [])) ++ decimal p.serial =
+    sym (append_assoc (decimal p.site.0) (46 ∷ []) (decimal p.serial)) in
     let behind : after_first is_dot w ≡ decimal p.serial =
-    ap (drop (position_or_len is_dot w + 1)) regrouped ∙ drop_at (decimal p.site.0 ++ (46 ∷ [])) (decimal p.serial) (position_or_len is_dot w + 1) (omega (arith, at, length-append (decimal p.site.0) (46 ∷ []))) in
+    ap (drop (position_or_len is_dot w + 1)) regrouped ∙ drop_at (decimal p.site.0 ++ (46 ∷ [])) (decimal p.serial)
+    (position_or_len is_dot w + 1) (omega (arith, at, length-append (decimal p.site.0) (46 ∷ []))) in
     rw (inside, before, behind, site_again p.site is.0, limited_again 1 4294967295 p.serial is.1 (omega arith)) refl

@@ -15,7 +15,8 @@ pub ok_is : {A : Type 0} (E : Type 0) (x y : A) → done E x ≡ done E y → x 
 ok_is E x y e = cc
 
 -- what holds of what a last step makes of a value
-pub made_ok : {A B : Type 0} (r : Result A Reason) (make : A → B) (P : B → Type 0) (y : B) → (r >>= λ x. Ok (make x)) ≡ Ok y → ((x : A) → r ≡ Ok x → P (make x)) → P y
+pub made_ok : {A B : Type 0} (r : Result A Reason) (make : A → B) (P : B → Type 0) (y : B) → (r >>= λ x. Ok (make x)) ≡ Ok y →
+    ((x : A) → r ≡ Ok x → P (make x)) → P y
 made_ok (Ok x) make P y e h = subst P (ok_is Reason (make x) y e) (h x refl)
 made_ok (Err d) make P y e h = absurd cc
 

@@ -1,5 +1,6 @@
 -- Lines with their numbers.
-use Rattle.std.proofs.Common.{◌≡◌, ℕ, ◌+◌, ◌-◌, cond, eqb, false, List, [], ◌∷◌, length, map, filter, Some, None, Result, Err, inl, inr, refl, ap, add-zero, arith, Ok}
+use Rattle.std.proofs.Common.{◌≡◌, ℕ, ◌+◌, ◌-◌, cond, eqb, false, List, [], ◌∷◌, length, map, filter}
+use Rattle.std.proofs.Common.{Some, None, Result, Err, inl, inr, refl, ap, add-zero, arith, Ok}
 use Rattle.std.specs.Borrow.{Bor}
 use Rattle.std.specs.List.{slice_get}
 use Rattle.std.proofs.lemmas.Bool.{cases_Bool}
@@ -33,7 +34,8 @@ used_texts n (line ∷ lines) =
     ]
 
 -- the number of the line behind the last is told by the last
-last_is : (n : ℕ) (line : Bor (List ℕ)) (lines : List (Bor (List ℕ))) (last : Bor (List ℕ)) → slice_get (line ∷ lines) (length lines) ≡ Some last
+last_is : (n : ℕ) (line : Bor (List ℕ)) (lines : List (Bor (List ℕ))) (last : Bor (List ℕ))
+    → slice_get (line ∷ lines) (length lines) ≡ Some last
     → end_after n (texts (line ∷ lines)) ≡ cond (eqb (length last.now) 0) (n + length lines) (n + length lines + 1)
 last_is n line [] last e =
     let same : line ≡ last = cc in
@@ -43,7 +45,8 @@ last_is n line (next ∷ lines) last e =
     rw (← same) (last_is (n + 1) next lines last e)
 
 -- nothing stands behind the last line feed
-pub end_empty : (lines : List (Bor (List ℕ))) (last : Bor (List ℕ)) → slice_get lines (length lines - 1) ≡ Some last → length last.now ≡ 0 → length lines ≡ end_after 1 (texts lines)
+pub end_empty : (lines : List (Bor (List ℕ))) (last : Bor (List ℕ)) → slice_get lines (length lines - 1) ≡ Some last → length last.now ≡ 0
+    → length lines ≡ end_after 1 (texts lines)
 end_empty [] last e none = absurd cc
 end_empty (line ∷ lines) last e none =
     let place : length (line ∷ lines) - 1 ≡ length lines = omega arith in
@@ -52,7 +55,8 @@ end_empty (line ∷ lines) last e none =
     rw (told, none) (omega arith)
 
 -- something does
-pub end_full : (lines : List (Bor (List ℕ))) (last : Bor (List ℕ)) → slice_get lines (length lines - 1) ≡ Some last → eqb (length last.now) 0 ≡ false → length lines + 1 ≡ end_after 1 (texts lines)
+pub end_full : (lines : List (Bor (List ℕ))) (last : Bor (List ℕ)) → slice_get lines (length lines - 1) ≡ Some last
+    → eqb (length last.now) 0 ≡ false → length lines + 1 ≡ end_after 1 (texts lines)
 end_full [] last e some = absurd cc
 end_full (line ∷ lines) last e some =
     let place : length (line ∷ lines) - 1 ≡ length lines = omega arith in
@@ -69,11 +73,13 @@ end_none (line ∷ lines) e =
 -- ---- faults of lines
 
 -- the fault of a line, with its number
-pub fault_gives : {A : Type 0} (n : ℕ) (f : LineFault) (read : Result A Reason) → Gives {X = A} (Err f) read → GivesAt {X = A} (Err (fault_at n f)) (at_line n read)
+pub fault_gives : {A : Type 0} (n : ℕ) (f : LineFault) (read : Result A Reason) → Gives {X = A} (Err f) read
+    → GivesAt {X = A} (Err (fault_at n f)) (at_line n read)
 fault_gives n (fault.Refused reason) read gives = ap (at_line n) gives
 fault_gives n fault.NoMemory read gives = tt
 
 -- a fault ends what is read of lines
-pub fault_ends : {A B : Type 0} (f : ScriptFault) (read : Result A (ℕ × Reason)) (total : Result B (ℕ × Reason)) → ((e : ℕ × Reason) → read ≡ Err e → total ≡ Err e) → GivesAt {X = A} (Err f) read → GivesAt {X = B} (Err f) total
+pub fault_ends : {A B : Type 0} (f : ScriptFault) (read : Result A (ℕ × Reason)) (total : Result B (ℕ × Reason))
+    → ((e : ℕ × Reason) → read ≡ Err e → total ≡ Err e) → GivesAt {X = A} (Err f) read → GivesAt {X = B} (Err f) total
 fault_ends (script.At n reason) read total ends given = ends (n, reason) given
 fault_ends script.NoMemory read total ends given = tt

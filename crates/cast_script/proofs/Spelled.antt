@@ -1,5 +1,6 @@
 -- What a text is read as, it spells, and what it spells is read of it.
-use Rattle.std.proofs.Common.{◌≡◌, ◌≢◌, ℕ, ◌<◌, ◌≤◌, true, List, [], ◌∷◌, ◌++◌, length, map, Result, Ok, Err, IfOk, refl, sym, ap, subst, ◌∙◌, append_assoc, length-append, arith}
+use Rattle.std.proofs.Common.{◌≡◌, ◌≢◌, ℕ, ◌<◌, ◌≤◌, true, List, [], ◌∷◌, ◌++◌, length, map, Result, Ok}
+use Rattle.std.proofs.Common.{Err, IfOk, refl, sym, ap, subst, ◌∙◌, append_assoc, length-append, arith}
 use Rattle.std.specs.List.{AllByRecursion, AllZip}
 use Rattle.std.proofs.lemmas.List.{append-nil}
 use Rattle.cast_types.specs.declared.names.SiteNo.{SiteNo}
@@ -13,14 +14,16 @@ use Rattle.cast_script.specs.declared.script.ScriptFault.{ScriptFault}
 use Rattle.cast_script.specs.Scripts.{HasDomains, SpellsParts, SpellsScript, are_distinct, used_lines_of}
 use Rattle.cast_script.specs.Lines.{IsDomainAt, SpellsEvent, SpellsSite, words_of}
 use Rattle.cast_script.specs.Words.{IsBetween, parts_at}
-use Rattle.cast_script.specs.Readings.{GivesAt, Numbered, at_line, domain_or_event_at, domains_on, event_at, events_from, events_on, no_events, script_of, site_at, site_on}
+use Rattle.cast_script.specs.Readings.{GivesAt, Numbered, at_line, domain_or_event_at, domains_on, event_at}
+use Rattle.cast_script.specs.Readings.{events_from, events_on, no_events, script_of, site_at, site_on}
 use Rattle.cast_script.specs.LineReadings.{domain_or_event, event_line, site_line}
 use Rattle.cast_script.specs.WordReadings.{each}
 use Rattle.cast_script.specs.Laws.{ReadIsSpelled, SpelledIsRead}
 use Rattle.cast_script.proofs.Results.{bind_ok, ok_is}
 use Rattle.cast_script.proofs.Distinct.{distinct_more, distinct_new}
 use Rattle.cast_script.proofs.ScriptLines.{line_ok, used_from, used_texts}
-use Rattle.cast_script.proofs.LineSpelled.{IsNext, site_line_is, site_line_again, domain_or_event_is, domain_again_behind, event_again_behind, event_line_is, event_line_again}
+use Rattle.cast_script.proofs.LineSpelled.{IsNext, site_line_is, site_line_again, domain_or_event_is}
+use Rattle.cast_script.proofs.LineSpelled.{domain_again_behind, event_again_behind, event_line_is, event_line_again}
 
 abbrev Spells : List Numbered → List Event → Type 0
 Spells lines events = AllZip (λ line e. SpellsEvent (words_of line) e) (map (λ l. l.1) lines) events
@@ -53,19 +56,29 @@ record AreParts (own : SiteNo) (before : List DomainConfig) (lines : List Number
   counted : IsBetween 1 16 (length s.config.domains)
   distinct : are_distinct s.config.domains ≡ true
 
-no_events_is : (end : ℕ) (own : SiteNo) (before : List DomainConfig) (s : Script) → length before ≤ 16 → are_distinct before ≡ true → no_events own end before ≡ Ok s → AreParts own before [] s
+no_events_is : (end : ℕ) (own : SiteNo) (before : List DomainConfig) (s : Script) → length before ≤ 16 → are_distinct before ≡ true →
+    no_events own end before ≡ Ok s → AreParts own before [] s
 unfolding no_events
 no_events_is end own [] s few distinct h = absurd cc
 no_events_is end own (d ∷ ds) s few distinct h =
     let made : Script = record { config = record { site = own; domains = d ∷ ds }; events = [] } in
     subst (AreParts own (d ∷ ds) []) (ok_is (ℕ × Reason) made s h)
-    (record { here = refl; more = []; domains = sym (append-nil (d ∷ ds)); spelled = tt; counted = (omega arith, few); distinct = distinct })
+    (record {
+      here = refl;
+      more = [];
+      domains = sym (append-nil (d ∷ ds));
+      spelled = tt;
+      counted = (omega arith, few);
+      distinct = distinct;
+    })
 
 some_length : (ds : List DomainConfig) → ds ≢ [] → 1 ≤ length ds
 some_length [] some = absurd (some refl)
 some_length (d ∷ ds) some = omega arith
 
-events_on_is : (own : SiteNo) (before : List DomainConfig) (l : Numbered) (lines : List Numbered) (e : Event) (s : Script) → length before ≤ 16 → are_distinct before ≡ true → SpellsEvent (words_of l.1) e → before ≢ [] → events_on own before e lines ≡ Ok s → AreParts own before (l ∷ lines) s
+events_on_is : (own : SiteNo) (before : List DomainConfig) (l : Numbered) (lines : List Numbered) (e : Event) (s : Script) →
+    length before ≤ 16 → are_distinct before ≡ true → SpellsEvent (words_of l.1) e → before ≢ [] → events_on own before e lines ≡ Ok s →
+    AreParts own before (l ∷ lines) s
 unfolding events_on
 events_on_is own before l lines e s few distinct spells some h =
     let events = bind_ok (events_from e lines) _ s h in
@@ -73,14 +86,22 @@ events_on_is own before l lines e s few distinct spells some h =
     let spelled = subst (Spells (l ∷ lines)) (ok_is (ℕ × Reason) (e ∷ rest.0) events.0 rest.2) (spells, events_are lines rest.0 rest.1) in
     let made : Script = record { config = record { site = own; domains = before }; events = events.0 } in
     subst (AreParts own before (l ∷ lines)) (ok_is (ℕ × Reason) made s events.2)
-    (record { here = refl; more = []; domains = sym (append-nil before); spelled = spelled; counted = (some_length before some, few); distinct = distinct })
+    (record {
+      here = refl;
+      more = [];
+      domains = sym (append-nil before);
+      spelled = spelled;
+      counted = (some_length before some, few);
+      distinct = distinct;
+    })
 
 -- what is read behind a line of this
 abbrev next_on : SiteNo → ℕ → List DomainConfig → List Numbered → DomainOrEvent → Result Script (ℕ × Reason)
 next_on own end before lines (said.Domain d) = domains_on own end (before ++ d ∷ []) lines
 next_on own end before lines (said.Event e) = events_on own before e lines
 
-domains_are : (end : ℕ) (own : SiteNo) (before : List DomainConfig) (lines : List Numbered) (s : Script) → length before ≤ 16 → are_distinct before ≡ true → domains_on own end before lines ≡ Ok s → AreParts own before lines s
+domains_are : (end : ℕ) (own : SiteNo) (before : List DomainConfig) (lines : List Numbered) (s : Script) → length before ≤ 16 →
+    are_distinct before ≡ true → domains_on own end before lines ≡ Ok s → AreParts own before lines s
 unfolding domains_on domain_or_event_at domain_or_event
 domains_are end own before [] s few distinct h = no_events_is end own before s few distinct h
 domains_are end own before (l ∷ lines) s few distinct h =
@@ -122,19 +143,24 @@ script_at own domains events = record { config = record { site = own; domains = 
 abbrev read_at : SiteNo → List DomainConfig → List Event → Result Script (ℕ × Reason)
 read_at own domains events = Ok (script_at own domains events)
 
-no_events_again : (end : ℕ) (own : SiteNo) (before : List DomainConfig) → 1 ≤ length before → no_events own end before ≡ read_at own before []
+no_events_again : (end : ℕ) (own : SiteNo) (before : List DomainConfig) → 1 ≤ length before →
+    no_events own end before ≡ read_at own before []
 unfolding no_events
 no_events_again end own [] some = absurd (omega arith)
 no_events_again end own (d ∷ ds) some = refl
 
 -- the line of the first event behind domains
-first_again : (end : ℕ) (own : SiteNo) (before : List DomainConfig) (l : Numbered) (lines : List Numbered) (e : Event) (events : List Event) → 1 ≤ length before → SpellsEvent (words_of l.1) e → Spells lines events → domains_on own end before (l ∷ lines) ≡ read_at own before (e ∷ events)
+first_again : (end : ℕ) (own : SiteNo) (before : List DomainConfig) (l : Numbered) (lines : List Numbered) (e : Event)
+    (events : List Event) → 1 ≤ length before → SpellsEvent (words_of l.1) e → Spells lines events →
+    domains_on own end before (l ∷ lines) ≡ read_at own before (e ∷ events)
 unfolding domains_on domain_or_event_at domain_or_event events_on
 first_again end own [] l lines e events some spells rest = absurd (omega arith)
 first_again end own (d ∷ before) l lines e events some spells rest =
     rw (event_again_behind own d before (words_of l.1) e spells, events_again lines events rest) refl
 
-domains_again : (end : ℕ) (own : SiteNo) (before : List DomainConfig) (lines : List Numbered) (more : List DomainConfig) (events : List Event) → SpellsParts own (texts_of lines) more events → IsBetween 1 16 (length (before ++ more)) → are_distinct (before ++ more) ≡ true → domains_on own end before lines ≡ read_at own (before ++ more) events
+domains_again : (end : ℕ) (own : SiteNo) (before : List DomainConfig) (lines : List Numbered) (more : List DomainConfig)
+    (events : List Event) → SpellsParts own (texts_of lines) more events → IsBetween 1 16 (length (before ++ more)) →
+    are_distinct (before ++ more) ≡ true → domains_on own end before lines ≡ read_at own (before ++ more) events
 unfolding domains_on domain_or_event_at domain_or_event
 domains_again end own before [] [] [] spells counted distinct =
     let same = append-nil before in
@@ -156,7 +182,8 @@ domains_again end own before (l ∷ lines) (d ∷ more) events spells counted di
     rw (domain_again_behind own before (words_of l.1) d spells.0 (distinct_new before d more distinct) few)
     (rest ∙ ap (λ ds. read_at own ds events) shift)
 
-script_again : (end : ℕ) (lines : List Numbered) (own : SiteNo) (domains : List DomainConfig) (events : List Event) → SpellsScript (texts_of lines) (script_at own domains events) → site_on end lines ≡ read_at own domains events
+script_again : (end : ℕ) (lines : List Numbered) (own : SiteNo) (domains : List DomainConfig) (events : List Event) →
+    SpellsScript (texts_of lines) (script_at own domains events) → site_on end lines ≡ read_at own domains events
 unfolding site_on site_at site_line
 script_again end [] own domains events spells = absurd spells
 script_again end (l ∷ lines) own domains events spells =
@@ -164,7 +191,8 @@ script_again end (l ∷ lines) own domains events spells =
 
 pub read_is_spelled : ReadIsSpelled
 unfolding script_of
-read_is_spelled text s h = subst (λ lines. SpellsScript lines s) (used_texts 1 (parts_at 10 text)) (script_is _ (used_from 1 (parts_at 10 text)) s h)
+read_is_spelled text s h =
+    subst (λ lines. SpellsScript lines s) (used_texts 1 (parts_at 10 text)) (script_is _ (used_from 1 (parts_at 10 text)) s h)
 
 pub spelled_is_read : SpelledIsRead
 unfolding script_of
@@ -173,7 +201,8 @@ spelled_is_read text s spells =
     (subst (λ lines. SpellsScript lines s) (sym (used_texts 1 (parts_at 10 text))) spells)
 
 -- the domains of a script are within their limits
-all_within : (own : SiteNo) (lines : List (List ℕ)) (ds : List DomainConfig) (events : List Event) → SpellsParts own lines ds events → AllByRecursion (IsDomainAt own) ds
+all_within : (own : SiteNo) (lines : List (List ℕ)) (ds : List DomainConfig) (events : List Event) → SpellsParts own lines ds events →
+    AllByRecursion (IsDomainAt own) ds
 all_within own lines [] events spells = tt
 all_within own [] (d ∷ ds) events spells = absurd spells
 all_within own (l ∷ lines) (d ∷ ds) events ((lists, words, spelled, at), rest) = (at, all_within own lines ds events rest)

@@ -6,8 +6,10 @@ use Rattle.cast_script.specs.Readings.{script_of}
 
 -- what a text is read as, its used lines spell
 abbrev pub ReadIsSpelled : Type 0
-ReadIsSpelled = (text : List ℕ) (s : Script) → script_of text ≡ Ok s → SpellsScript (used_lines_of text) s
+ReadIsSpelled =
+    (text : List ℕ) (s : Script) → script_of text ≡ Ok s → SpellsScript (used_lines_of text) s
 
 -- what the used lines of a text spell, it is read as: a fault comes only where they spell nothing
 abbrev pub SpelledIsRead : Type 0
-SpelledIsRead = (text : List ℕ) (s : Script) → SpellsScript (used_lines_of text) s → script_of text ≡ Ok s
+SpelledIsRead =
+    (text : List ℕ) (s : Script) → SpellsScript (used_lines_of text) s → script_of text ≡ Ok s

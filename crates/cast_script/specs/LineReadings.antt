@@ -1,5 +1,6 @@
 -- Reading a line, from its first word on: what it says, or the reason of its first fault.
-use Rattle.std.specs.Prelude.{ℕ, ◌==◌, nat_lt, if◌then◌else◌, List, [], ◌∷◌, length, take, drop, Result, Ok, Err}
+use Rattle.std.specs.Prelude.{ℕ, ◌==◌, nat_lt, if◌then◌else◌, List, []}
+use Rattle.std.specs.Prelude.{◌∷◌, length, take, drop, Result, Ok, Err}
 use Rattle.cast_types.specs.declared.names.DomainNo.{DomainNo}
 use Rattle.cast_types.specs.declared.names.SiteNo.{SiteNo}
 use Rattle.cast_message.specs.declared.client.CastKind.{CastKind}
@@ -14,23 +15,31 @@ use Rattle.cast_events.specs.declared.config.DomainConfig.{DomainConfig}
 use Rattle.cast_events.specs.declared.event.Event.{Event}
 use Rattle.cast_events.specs.declared.event.Event.TheVariants as event
 use Rattle.cast_script.specs.declared.words.Reason.{Reason}
-use Rattle.cast_script.specs.declared.words.Reason.TheVariants.{UnknownWord, WrongCount, BadFrame, Order}
+use Rattle.cast_script.specs.declared.words.Reason.TheVariants.{UnknownWord, WrongCount}
+use Rattle.cast_script.specs.declared.words.Reason.TheVariants.{BadFrame, Order}
 use Rattle.cast_script.specs.declared.lines.Head.{Head}
-use Rattle.cast_script.specs.declared.lines.Head.TheVariants.{Site, Domain, Open, Join, Leave, Cast, Abcast, Pass, Bad, Gone, Frame, Suspect, Quota, Take, Tick}
+use Rattle.cast_script.specs.declared.lines.Head.TheVariants.{Site, Domain, Open, Join, Leave}
+use Rattle.cast_script.specs.declared.lines.Head.TheVariants.{Cast, Abcast, Pass, Bad, Gone}
+use Rattle.cast_script.specs.declared.lines.Head.TheVariants.{Frame, Suspect, Quota, Take, Tick}
 use Rattle.cast_script.specs.declared.lines.DomainOrEvent.{DomainOrEvent}
 use Rattle.cast_script.specs.declared.lines.DomainOrEvent.TheVariants as said
 use Rattle.cast_script.specs.declared.events.RequestParts.{RequestParts}
 use Rattle.cast_script.specs.Lines.{head_text, words_of}
-use Rattle.cast_script.specs.WordReadings.{◌>>=◌, named_among, number_of, number_within, domain_of, site_of, group_of, proc_of, quota_name_of, bytes_of, place_words, list_words, quota_words}
+use Rattle.cast_script.specs.WordReadings.{◌>>=◌, named_among, number_of, number_within}
+use Rattle.cast_script.specs.WordReadings.{domain_of, site_of, group_of, proc_of, quota_name_of}
+use Rattle.cast_script.specs.WordReadings.{bytes_of, place_words, list_words, quota_words}
 
 abbrev pub heads : List Head
-heads = Site ∷ Domain ∷ Open ∷ Join ∷ Leave ∷ Cast ∷ Abcast ∷ Pass ∷ Bad ∷ Gone ∷ Frame ∷ Suspect ∷ Quota ∷ Take ∷ Tick ∷ []
+heads =
+    Site ∷ Domain ∷ Open ∷ Join ∷ Leave ∷ Cast ∷ Abcast ∷ Pass ∷ Bad ∷ Gone ∷ Frame ∷ Suspect
+    ∷ Quota ∷ Take ∷ Tick ∷ []
 
 -- what the first word of a line says that the line is about
 unfoldable pub head_of : List ℕ → Result Head Reason
 head_of word = named_among head_text heads word
 
-unfoldable pub behind_first : {A : Type 0} → (Head → List (List ℕ) → Result A Reason) → List (List ℕ) → Result A Reason
+unfoldable pub behind_first : {A : Type 0} → (Head → List (List ℕ) → Result A Reason)
+    → List (List ℕ) → Result A Reason
 behind_first behind [] = Err UnknownWord
 behind_first behind (first ∷ words) = do
   head ← head_of first
@@ -48,21 +57,32 @@ site_behind head words = Err Order
 unfoldable pub site_line : List ℕ → Result SiteNo Reason
 site_line line = behind_first site_behind (words_of line)
 
--- the twelve words of a domain at this site, where these domains stand before: three for its place, four for its lists, five
--- for its quotas
-unfoldable pub domain_parts : SiteNo → List DomainConfig → List (List ℕ) → Result DomainConfig Reason
+-- the twelve words of a domain at this site, where these domains stand before: three for its place,
+-- four for its lists, five for its quotas
+unfoldable pub domain_parts : SiteNo → List DomainConfig → List (List ℕ)
+    → Result DomainConfig Reason
 domain_parts own before words = do
   place ← place_words before (take 3 words)
   lists ← list_words place.1 own (take 4 (drop 3 words))
   quotas ← quota_words (drop 7 words)
-  Ok (record { domain = place.0; home = place.1; sites = lists.0; groups = lists.1; quotas = quotas })
+  Ok
+      (record {
+        domain = place.0;
+        home = place.1;
+        sites = lists.0;
+        groups = lists.1;
+        quotas = quotas;
+      })
 
-unfoldable pub domain_words : SiteNo → List DomainConfig → List (List ℕ) → Result DomainConfig Reason
-domain_words own before words = if length words == 12 then domain_parts own before words else Err WrongCount
+unfoldable pub domain_words : SiteNo → List DomainConfig → List (List ℕ)
+    → Result DomainConfig Reason
+domain_words own before words =
+    if length words == 12 then domain_parts own before words else Err WrongCount
 
 -- one more domain behind these, of which there are to be at most 16
 unfoldable pub next_domain : SiteNo → List DomainConfig → List (List ℕ) → Result DomainConfig Reason
-next_domain own before words = if nat_lt (length before) 16 then domain_words own before words else Err Order
+next_domain own before words =
+    if nat_lt (length before) 16 then domain_words own before words else Err Order
 
 -- `D K TAG G`
 unfoldable pub request_parts : List ℕ → List ℕ → List ℕ → List ℕ → Result RequestParts Reason
@@ -199,7 +219,8 @@ unfoldable pub first_event : List DomainConfig → Head → List (List ℕ) → 
 first_event [] head words = Err Order
 first_event (d ∷ ds) head words = event_behind head words
 
-unfoldable pub domain_or_event_behind : SiteNo → List DomainConfig → Head → List (List ℕ) → Result DomainOrEvent Reason
+unfoldable pub domain_or_event_behind : SiteNo → List DomainConfig → Head → List (List ℕ)
+    → Result DomainOrEvent Reason
 domain_or_event_behind own before Domain words = do
   d ← next_domain own before words
   Ok (said.Domain d)

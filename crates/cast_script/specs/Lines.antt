@@ -15,9 +15,14 @@ use Rattle.cast_events.specs.declared.event.Event.TheVariants as event
 use Rattle.cast_types.specs.declared.names.SiteNo.{SiteNo}
 use Rattle.cast_types.specs.declared.names.GroupNo.{GroupNo}
 use Rattle.cast_script.specs.declared.lines.Head.{Head}
-use Rattle.cast_script.specs.declared.lines.Head.TheVariants.{Site, Domain, Open, Join, Leave, Cast, Abcast, Pass, Bad, Gone, Frame, Suspect, Quota, Take, Tick}
+use Rattle.cast_script.specs.declared.lines.Head.TheVariants.{Site, Domain, Open, Join, Leave}
+use Rattle.cast_script.specs.declared.lines.Head.TheVariants.{Cast, Abcast, Pass, Bad, Gone}
+use Rattle.cast_script.specs.declared.lines.Head.TheVariants.{Frame, Suspect, Quota, Take, Tick}
 use Rattle.cast_events.specs.declared.config.DomainConfig.{DomainConfig}
-use Rattle.cast_script.specs.Words.{sites_rise, groups_rise, IsBetween, IsDomain, IsSite, IsGroup, IsNumber, IsProc, AreWithinLimits, parts_at, proc_text, SpellsBytes, place_texts, SpellsLists, quota_name_text, quota_texts}
+use Rattle.cast_script.specs.Words.{sites_rise, groups_rise, IsBetween, IsDomain}
+use Rattle.cast_script.specs.Words.{IsSite, IsGroup, IsNumber, IsProc, AreWithinLimits}
+use Rattle.cast_script.specs.Words.{parts_at, proc_text, SpellsBytes, place_texts}
+use Rattle.cast_script.specs.Words.{SpellsLists, quota_name_text, quota_texts}
 
 -- a domain within its limits, at this site
 pub record IsDomainAt (own : SiteNo) (d : DomainConfig) : Type 0 where
@@ -94,7 +99,8 @@ SpellsRequest d serial ws (request.Cast tag group how payload) =
     × AreNumbers d serial tag group
     × SpellsBytes hex payload
 SpellsRequest d serial ws (request.Pass tag group to) =
-    (ws ≡ codes "pass" ∷ (request_texts d serial tag group ++ proc_text to ∷ [])) × AreNumbers d serial tag group × IsProc to
+    (ws ≡ codes "pass" ∷ (request_texts d serial tag group ++ proc_text to ∷ []))
+    × AreNumbers d serial tag group × IsProc to
 
 -- the words of a line spell an event
 abbrev pub SpellsEvent : List (List ℕ) → Event → Type 0
@@ -102,12 +108,19 @@ SpellsEvent ws (event.Open d) = (ws ≡ codes "open" ∷ decimal d.0 ∷ []) × 
 SpellsEvent ws (event.Command d serial (command.Request r)) = SpellsRequest d serial ws r
 SpellsEvent ws (event.Command d serial command.Bad) =
     (ws ≡ codes "bad" ∷ decimal d.0 ∷ decimal serial ∷ []) × IsDomain d × IsNumber serial
-SpellsEvent ws (event.Gone d serial) = (ws ≡ codes "gone" ∷ decimal d.0 ∷ decimal serial ∷ []) × IsDomain d × IsNumber serial
+SpellsEvent ws (event.Gone d serial) =
+    (ws ≡ codes "gone" ∷ decimal d.0 ∷ decimal serial ∷ []) × IsDomain d × IsNumber serial
 SpellsEvent ws (event.Frame d s f) =
-    (hex : List ℕ) × (ws ≡ codes "frame" ∷ hex ∷ []) × SpellsBytes hex (spelled_site d s f) × IsSpelled d s f
-SpellsEvent ws (event.Suspect d site) = (ws ≡ codes "suspect" ∷ decimal d.0 ∷ decimal site.0 ∷ []) × IsDomain d × IsSite site
+    (hex : List ℕ)
+    × (ws ≡ codes "frame" ∷ hex ∷ [])
+    × SpellsBytes hex (spelled_site d s f)
+    × IsSpelled d s f
+SpellsEvent ws (event.Suspect d site) =
+    (ws ≡ codes "suspect" ∷ decimal d.0 ∷ decimal site.0 ∷ []) × IsDomain d × IsSite site
 SpellsEvent ws (event.Quota d name value) =
-    (ws ≡ codes "quota" ∷ decimal d.0 ∷ quota_name_text name ∷ decimal value ∷ []) × IsDomain d × IsNumber value
+    (ws ≡ codes "quota" ∷ decimal d.0 ∷ quota_name_text name ∷ decimal value ∷ []) × IsDomain d
+    × IsNumber value
 SpellsEvent ws (event.Take d serial most) =
-    (ws ≡ codes "take" ∷ decimal d.0 ∷ decimal serial ∷ decimal most ∷ []) × IsDomain d × IsNumber serial × IsNumber most
+    (ws ≡ codes "take" ∷ decimal d.0 ∷ decimal serial ∷ decimal most ∷ []) × IsDomain d
+    × IsNumber serial × IsNumber most
 SpellsEvent ws (event.Tick now) = (ws ≡ codes "tick" ∷ decimal now ∷ []) × (now < 2 ^ 64)

@@ -1,5 +1,6 @@
 -- Reading a script from its bytes: what it says, or the line of its first fault with the reason.
-use Rattle.std.specs.Prelude.{◌≡◌, ℕ, ◌+◌, ◌==◌, if◌then◌else◌, List, [], ◌∷◌, ◌++◌, length, filter, Result, Ok, Err}
+use Rattle.std.specs.Prelude.{◌≡◌, ℕ, ◌+◌, ◌==◌, if◌then◌else◌, List, []}
+use Rattle.std.specs.Prelude.{◌∷◌, ◌++◌, length, filter, Result, Ok, Err}
 use Rattle.cast_types.specs.declared.names.SiteNo.{SiteNo}
 use Rattle.cast_events.specs.declared.config.DomainConfig.{DomainConfig}
 use Rattle.cast_events.specs.declared.event.Event.{Event}
@@ -18,7 +19,8 @@ use Rattle.cast_script.specs.Words.{parts_at}
 use Rattle.cast_script.specs.WordReadings.{◌>>=◌, each}
 use Rattle.cast_script.specs.LineReadings.{site_line, domain_or_event, event_line}
 
--- what a function returned of lines is what reading gives, unless memory ran out; a fault has the number of its line
+-- what a function returned of lines is what reading gives, unless memory ran out; a fault has the
+-- number of its line
 abbrev pub GivesAt : {X : Type 0} → Result X ScriptFault → Result X (ℕ × Reason) → Type 0
 GivesAt (Ok x) read = read ≡ Ok x
 GivesAt (Err (script.At line reason)) read = read ≡ Err (line, reason)
@@ -59,7 +61,8 @@ at_line n (Err reason) = Err (n, reason)
 unfoldable pub site_at : Numbered → Result SiteNo (ℕ × Reason)
 site_at l = at_line l.0 (site_line l.1)
 
-unfoldable pub domain_or_event_at : SiteNo → List DomainConfig → Numbered → Result DomainOrEvent (ℕ × Reason)
+unfoldable pub domain_or_event_at : SiteNo → List DomainConfig → Numbered
+    → Result DomainOrEvent (ℕ × Reason)
 domain_or_event_at own before l = at_line l.0 (domain_or_event own before l.1)
 
 unfoldable pub event_at : Numbered → Result Event (ℕ × Reason)
@@ -68,7 +71,8 @@ event_at l = at_line l.0 (event_line l.1)
 -- a script of these domains with no events; there is to be a domain
 unfoldable pub no_events : SiteNo → ℕ → List DomainConfig → Result Script (ℕ × Reason)
 no_events site end [] = Err (end, Order)
-no_events site end (d ∷ ds) = Ok (record { config = record { site = site; domains = d ∷ ds }; events = [] })
+no_events site end (d ∷ ds) =
+    Ok (record { config = record { site = site; domains = d ∷ ds }; events = [] })
 
 -- the first event, and those of the lines behind its own
 abbrev pub events_from : Event → List Numbered → Result (List Event) (ℕ × Reason)
@@ -77,13 +81,15 @@ events_from first lines = do
   Ok (first ∷ events)
 
 -- a script of these domains, of which this is the first event
-unfoldable pub events_on : SiteNo → List DomainConfig → Event → List Numbered → Result Script (ℕ × Reason)
+unfoldable pub events_on : SiteNo → List DomainConfig → Event → List Numbered
+    → Result Script (ℕ × Reason)
 events_on site domains first lines = do
   events ← events_from first lines
   Ok (record { config = record { site = site; domains = domains }; events = events })
 
 -- the domains behind these, and then the events
-unfoldable pub domains_on : SiteNo → ℕ → List DomainConfig → List Numbered → Result Script (ℕ × Reason)
+unfoldable pub domains_on : SiteNo → ℕ → List DomainConfig → List Numbered
+    → Result Script (ℕ × Reason)
 domains_on site end before [] = no_events site end before
 domains_on site end before (line ∷ lines) = do
   next ← domain_or_event_at site before line
@@ -99,6 +105,7 @@ site_on end (line ∷ lines) = do
   site ← site_at line
   domains_on site end [] lines
 
--- the script that a text is, or the number of the first line with a fault, from 1 on, and the reason
+-- the script that a text is, or the number of the first line with a fault, from 1 on, and the
+-- reason
 unfoldable pub script_of : List ℕ → Result Script (ℕ × Reason)
 script_of text = site_on (end_after 1 (parts_at 10 text)) (used_of (parts_at 10 text))

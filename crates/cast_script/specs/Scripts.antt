@@ -1,5 +1,6 @@
 -- What a script may say of a daemon.
-use Rattle.std.specs.Prelude.{ℕ, Bool, true, false, not, ◌&&◌, ◌==◌, filter, List, [], ◌∷◌, length, IsTrue}
+use Rattle.std.specs.Prelude.{ℕ, Bool, true, false, not, ◌&&◌, ◌==◌}
+use Rattle.std.specs.Prelude.{filter, List, [], ◌∷◌, length, IsTrue}
 use Rattle.std.specs.List.{AllByRecursion, AllZip, list_all}
 use Rattle.cast_types.specs.declared.names.SiteNo.{SiteNo}
 use Rattle.cast_types.specs.Names.{group_cmp}
@@ -37,12 +38,14 @@ used_lines_of text = filter is_used (parts_at 10 text)
 
 -- these lines spell domains at a site, one line for each, and then events, one line for each
 abbrev pub SpellsParts : SiteNo → List (List ℕ) → List DomainConfig → List Event → Type 0
-SpellsParts own lines [] events = AllZip (λ line event. SpellsEvent (words_of line) event) lines events
+SpellsParts own lines [] events =
+    AllZip (λ line event. SpellsEvent (words_of line) event) lines events
 SpellsParts own [] (d ∷ ds) events = ⊥
-SpellsParts own (line ∷ lines) (d ∷ ds) events = SpellsDomain own (words_of line) d × SpellsParts own lines ds events
+SpellsParts own (line ∷ lines) (d ∷ ds) events =
+    SpellsDomain own (words_of line) d × SpellsParts own lines ds events
 
--- these lines spell a script: one for its site, one for each domain, of which there are 1 to 16 whose numbers are all
--- different, and one for each event
+-- these lines spell a script: one for its site, one for each domain, of which there are 1 to 16
+-- whose numbers are all different, and one for each event
 abbrev pub SpellsScript : List (List ℕ) → Script → Type 0
 SpellsScript [] s = ⊥
 SpellsScript (first ∷ lines) s =

@@ -1,5 +1,6 @@
 -- Reading words: what they say, or the reason of their first fault.
-use Rattle.std.specs.Prelude.{◌≡◌, ℕ, ◌^◌, Bool, ◌&&◌, ◌||◌, ◌==◌, nat_lt, nat_le, bytes_eq, if◌then◌else◌, List, [], ◌∷◌, length, codes, Result, Ok, Err}
+use Rattle.std.specs.Prelude.{◌≡◌, ℕ, ◌^◌, Bool, ◌&&◌, ◌||◌, ◌==◌, nat_lt, nat_le, bytes_eq}
+use Rattle.std.specs.Prelude.{if◌then◌else◌, List, [], ◌∷◌, length, codes, Result, Ok, Err}
 use Rattle.std.specs.List.{list_any, position_or_len, before_first, after_first}
 use Rattle.std.specs.Fmt.{decimal}
 use Rattle.std.specs.Str.Parse.{digits_value}
@@ -15,10 +16,12 @@ use Rattle.cast_quota.specs.declared.quotas.QuotaName.{QuotaName}
 use Rattle.cast_quota.specs.declared.quotas.QuotaName.TheVariants as name
 use Rattle.cast_events.specs.declared.config.DomainConfig.{DomainConfig}
 use Rattle.cast_script.specs.declared.words.Reason.{Reason}
-use Rattle.cast_script.specs.declared.words.Reason.TheVariants.{UnknownWord, WrongCount, BadNumber, BadHex, Order}
+use Rattle.cast_script.specs.declared.words.Reason.TheVariants.{UnknownWord, WrongCount}
+use Rattle.cast_script.specs.declared.words.Reason.TheVariants.{BadNumber, BadHex, Order}
 use Rattle.cast_script.specs.declared.words.LineFault.{LineFault}
 use Rattle.cast_script.specs.declared.words.LineFault.TheVariants as fault
-use Rattle.cast_script.specs.Words.{groups_rise, is_configured, parts_at, quota_name_text, sites_rise}
+use Rattle.cast_script.specs.Words.{groups_rise, is_configured, parts_at}
+use Rattle.cast_script.specs.Words.{quota_name_text, sites_rise}
 
 infixl 10 ◌>>=◌
 abbrev pub ◌>>=◌ : {A B E : Type 0} → Result A E → (A → Result B E) → Result B E
@@ -46,7 +49,8 @@ each read (x ∷ xs) = do
 
 -- n, where the word is its digits
 unfoldable pub spelled_number : List ℕ → ℕ → Result ℕ Reason
-spelled_number word n = if nat_lt n (2 ^ 64) && bytes_eq word (decimal n) then Ok n else Err BadNumber
+spelled_number word n =
+    if nat_lt n (2 ^ 64) && bytes_eq word (decimal n) then Ok n else Err BadNumber
 
 -- a number below 2 ^ 64
 unfoldable pub number_of : List ℕ → Result ℕ Reason
@@ -95,14 +99,17 @@ site_and_serial site serial = do
 -- a process: its site before the first dot, and its serial there behind it
 unfoldable pub proc_of : List ℕ → Result Proc Reason
 proc_of word =
-    if nat_lt (position_or_len is_dot word) (length word) then site_and_serial (before_first is_dot word) (after_first is_dot word)
+    if nat_lt (position_or_len is_dot word) (length word)
+    then site_and_serial (before_first is_dot word) (after_first is_dot word)
     else Err BadNumber
 
 -- at most 16 sites, which rise, the home and the own site among them
 unfoldable pub checked_sites : SiteNo → SiteNo → List SiteNo → Result (List SiteNo) Reason
 checked_sites home own sites =
     if nat_lt 16 (length sites) then Err BadNumber
-    else if sites_rise sites && list_any (λ s. site_eq s home) sites && list_any (λ s. site_eq s own) sites then Ok sites
+    else if sites_rise sites
+    && list_any (λ s. site_eq s home) sites
+    && list_any (λ s. site_eq s own) sites then Ok sites
     else Err Order
 
 unfoldable pub sites_of : SiteNo → SiteNo → List ℕ → Result (List SiteNo) Reason
@@ -159,7 +166,8 @@ place_words before (domain ∷ home_is ∷ home ∷ []) = do
 place_words before words = Err WrongCount
 
 -- `sites S,.. groups G,..`
-unfoldable pub list_words : SiteNo → SiteNo → List (List ℕ) → Result (List SiteNo × List GroupNo) Reason
+unfoldable pub list_words : SiteNo → SiteNo → List (List ℕ)
+    → Result (List SiteNo × List GroupNo) Reason
 list_words home own (sites_are ∷ sites ∷ groups_are ∷ groups ∷ []) = do
   first ← fixed_of (codes "sites") sites_are
   ss ← sites_of home own sites

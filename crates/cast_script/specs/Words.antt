@@ -1,5 +1,6 @@
 -- What words of a script spell.
-use Rattle.std.specs.Prelude.{◌≡◌, ◌≢◌, ◌<◌, ◌≤◌, ◌^◌, ◌⊎◌, ℕ, Bool, true, ◌&&◌, ◌==◌, nat_lt, List, [], ◌∷◌, ◌++◌, map, codes, Ok}
+use Rattle.std.specs.Prelude.{◌≡◌, ◌≢◌, ◌<◌, ◌≤◌, ◌^◌, ◌⊎◌, ℕ, Bool, true, ◌&&◌}
+use Rattle.std.specs.Prelude.{◌==◌, nat_lt, List, [], ◌∷◌, ◌++◌, map, codes, Ok}
 use Rattle.std.specs.Borrow.{Bor}
 use Rattle.std.specs.List.{list_any, slice_split}
 use Rattle.std.specs.Fmt.{decimal}
@@ -47,7 +48,8 @@ IsGroup g = IsBetween 1 65535 g.0
 abbrev pub IsProc : Proc → Type 0
 IsProc p = IsSite p.site × IsBetween 1 4294967295 p.serial
 
--- the serial of a session, the tag of a request, the value of a quota, or how many entries are taken
+-- the serial of a session, the tag of a request, the value of a quota, or how many entries are
+-- taken
 abbrev pub IsNumber : ℕ → Type 0
 IsNumber n = n < 2 ^ 32
 
@@ -68,7 +70,8 @@ texts ws = map (λ w. w.now) ws
 
 -- hexadecimal digits of either case spell bytes, and `-` spells none
 abbrev pub SpellsBytes : List ℕ → List ℕ → Type 0
-SpellsBytes word bytes = ((word ≡ codes "-") × (bytes ≡ [])) ⊎ ((word ≢ []) × (decode_of word ≡ Ok bytes))
+SpellsBytes word bytes =
+    ((word ≡ codes "-") × (bytes ≡ [])) ⊎ ((word ≢ []) × (decode_of word ≡ Ok bytes))
 
 -- the word that names a process, as `2.1`: its site and its serial there
 abbrev pub proc_text : Proc → List ℕ

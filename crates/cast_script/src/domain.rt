@@ -1,6 +1,7 @@
 ghost use Rattle.std.specs.Prelude.{◌≡◌};
 ghost use Rattle.cast_script.specs.Words.{is_configured as is_among, texts};
-ghost use Rattle.cast_script.specs.WordReadings.{Gives, groups_of, list_words, new_domain_of, place_words, quota_words, sites_of};
+ghost use Rattle.cast_script.specs.WordReadings.{Gives, groups_of, list_words, new_domain_of};
+ghost use Rattle.cast_script.specs.WordReadings.{place_words, quota_words, sites_of};
 
 use crate::words::{
     LineFault, Reason, domain_word, fixed_word, group_list, groups_rise, number_between, site_list,
@@ -11,8 +12,8 @@ use cast_types::limits::{MAX_GROUPS, MAX_SITES};
 use cast_types::{DomainNo, GroupNo, List, SiteNo};
 use std::alloc::Global;
 
-/// `D home S`, where these domains stand before. `Order` where one of them has the number, which is told before what
-/// stands behind it.
+/// `D home S`, where these domains stand before. `Order` where one of them has the number, which is
+/// told before what stands behind it.
 #[tactic(auto, unfolding(crate::specs::WordReadings::place_words))]
 pub fn place_words(words: &[&str], before: &[DomainConfig]) -> Result<(DomainNo, SiteNo), Reason>
     ensures { result ≡ place_words before.now (texts words.now) }

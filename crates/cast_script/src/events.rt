@@ -1,7 +1,10 @@
 ghost use Rattle.std.specs.Prelude.{◌≡◌};
 ghost use Rattle.cast_script.specs.Words.{texts};
 ghost use Rattle.cast_script.specs.WordReadings.{Gives};
-ghost use Rattle.cast_script.specs.LineReadings.{bad_words, cast_words, frame_words, gone_words, join_words, leave_words, open_words, pass_words, quota_event_words, request_parts, request_event, suspect_words, take_words, tick_words};
+ghost use Rattle.cast_script.specs.LineReadings.{bad_words, cast_words, frame_words, gone_words};
+ghost use Rattle.cast_script.specs.LineReadings.{join_words, leave_words, open_words, pass_words};
+ghost use Rattle.cast_script.specs.LineReadings.{quota_event_words, request_parts, request_event};
+ghost use Rattle.cast_script.specs.LineReadings.{suspect_words, take_words, tick_words};
 
 use crate::words::{
     LineFault, Reason, bytes_word, domain_word, group_word, long_number, number, proc_word,

@@ -2,7 +2,9 @@ ghost use Rattle.std.specs.Prelude.{◌≡◌, IfOk};
 ghost use Rattle.cast_script.specs.Words.{texts};
 ghost use Rattle.cast_script.specs.WordReadings.{Gives};
 ghost use Rattle.cast_script.specs.Lines.{words_of};
-ghost use Rattle.cast_script.specs.LineReadings.{domain_or_event, domain_words, event_behind, event_line, first_event, head_of, next_domain, site_line, site_words};
+ghost use Rattle.cast_script.specs.LineReadings.{domain_or_event, domain_words, event_behind};
+ghost use Rattle.cast_script.specs.LineReadings.{event_line, first_event, head_of};
+ghost use Rattle.cast_script.specs.LineReadings.{next_domain, site_line, site_words};
 
 use crate::domain::{list_words, place_words, quota_words};
 use crate::events::{
@@ -97,7 +99,8 @@ fn site(words: &[&str]) -> Result<SiteNo, Reason>
     site_word(site)
 }
 
-// `domain D home S sites S,.. groups G,.. quotas SESSIONS HELD OUTBOX RESEND`, from the second word on, behind these domains.
+// `domain D home S sites S,.. groups G,.. quotas SESSIONS HELD OUTBOX
+// RESEND`, from the second word on, behind these domains.
 #[tactic(auto, unfolding(crate::specs::LineReadings::domain_words, crate::specs::LineReadings::domain_parts))]
 fn domain_words(
     alloc: Global,
@@ -122,11 +125,12 @@ fn domain_words(
     })
 }
 
-/// A line behind the `site` line, where these domains and no event stand before: one more domain, or the first event.
+/// A line behind the `site` line, where these domains and no event stand before: one more domain,
+/// or the first event.
 ///
-/// The fault is the first of the line: its first word, its place, the count of its words, and then its words from left to
-/// right. `Order` is told at the place of a 17th domain and of an event before any domain, and at the word that is a number
-/// used before.
+/// The fault is the first of the line: its first word, its place, the count of its words, and then
+/// its words from left to right. `Order` is told at the place of a 17th domain and of an event
+/// before any domain, and at the word that is a number used before.
 #[tactic(auto, unfolding(crate::specs::LineReadings::domain_or_event, crate::specs::LineReadings::behind_first, crate::specs::LineReadings::domain_or_event_behind))]
 pub fn domain_or_event(
     alloc: Global,

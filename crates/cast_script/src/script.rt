@@ -1,7 +1,9 @@
 ghost use Rattle.std.specs.Prelude.{◌≡◌, [], IfOk, filter, map};
 ghost use Rattle.cast_script.specs.Words.{parts_at, texts};
 ghost use Rattle.cast_script.specs.Scripts.{HasDomains, is_used as is_used_text};
-ghost use Rattle.cast_script.specs.Readings.{GivesAt, domain_or_event_at, domains_on, end_after, event_at, events_from, events_on, fault_at, no_events, numbered_line, script_of, site_at, site_on, used_of};
+ghost use Rattle.cast_script.specs.Readings.{GivesAt, domain_or_event_at, domains_on, end_after};
+ghost use Rattle.cast_script.specs.Readings.{event_at, events_from, events_on, fault_at, no_events};
+ghost use Rattle.cast_script.specs.Readings.{numbered_line, script_of, site_at, site_on, used_of};
 ghost use Rattle.cast_script.specs.declared.words.Reason.TheVariants.{Order};
 ghost use Rattle.cast_script.specs.declared.script.ScriptFault.TheVariants.{At, NoMemory};
 
@@ -69,9 +71,10 @@ impl Line<'_> {
 
 /// Reads a script: one `site` line, 1 to 16 `domain` lines with different numbers, then the events.
 ///
-/// The fault is the first of the first line that has one: its first word, its place, the count of its words, and then its
-/// words from left to right. A script that ends before a `domain` line has the fault `Order` at the line behind its last.
-/// `NoMemory` comes where an allocation was refused, and says nothing of the text.
+/// The fault is the first of the first line that has one: its first word, its place, the count of
+/// its words, and then its words from left to right. A script that ends before a `domain` line has
+/// the fault `Order` at the line behind its last. `NoMemory` comes where an allocation was refused,
+/// and says nothing of the text.
 pub fn parse(alloc: Global, text: &str) -> Result<Script, ScriptFault>
     // Which script, or the line of the first fault with the reason.
     ensures exact { GivesAt result (script_of text.now) }
@@ -214,7 +217,8 @@ fn events_from(alloc: Global, first: Event, lines: &[Line<'_>]) -> Result<List<E
     Ok(events)
 }
 
-// The lines of a text. What stands behind the last line feed is one of them, though it may be empty.
+// The lines of a text. What stands behind the last line feed is one of them, though it may be
+// empty.
 fn lines_of(alloc: Global, text: &str) -> Result<Vec<&str>, NoMemory>
     ensures { IfOk result (λ lines. texts lines.items ≡ parts_at 10 text.now) }
 {

@@ -1,6 +1,10 @@
-ghost use Rattle.std.specs.Prelude.{◌≡◌, ◌≢◌, ◌≤◌, ◌<◌, ◌⊎◌, IfOk, IsTrue, false, length, slice_index};
-ghost use Rattle.cast_script.specs.Words.{groups_rise as are_rising_groups, parts_at, sites_rise as are_rising_sites, texts};
-ghost use Rattle.cast_script.specs.WordReadings.{GivesAs, bytes_of, domain_of, each, fixed_of, group_of, number_of, number_within, proc_of, quota_name_of, site_and_serial, site_of};
+ghost use Rattle.std.specs.Prelude.{◌≡◌, ◌≢◌, ◌≤◌, ◌<◌, ◌⊎◌, IfOk};
+ghost use Rattle.std.specs.Prelude.{IsTrue, false, length, slice_index};
+ghost use Rattle.cast_script.specs.Words.{groups_rise as are_rising_groups, parts_at};
+ghost use Rattle.cast_script.specs.Words.{sites_rise as are_rising_sites, texts};
+ghost use Rattle.cast_script.specs.WordReadings.{GivesAs, bytes_of, domain_of, each, fixed_of};
+ghost use Rattle.cast_script.specs.WordReadings.{group_of, number_of, number_within, proc_of};
+ghost use Rattle.cast_script.specs.WordReadings.{quota_name_of, site_and_serial, site_of};
 ghost use Rattle.cast_script.specs.Reasons.{reason_text};
 ghost use Rattle.cast_script.specs.declared.words.LineFault.TheVariants.{Refused, NoMemory};
 
@@ -18,14 +22,15 @@ pub enum Reason {
     UnknownWord,
     /// The line has more or fewer words than its first word asks for.
     WrongCount,
-    /// A word is no number or no process, or a number or how many there are of them is out of its range.
+    /// A word is no number or no process, or a number or how many there are of them is out of its
+    /// range.
     BadNumber,
     /// A word is not an even number of hexadecimal digits, nor `-`.
     BadHex,
     /// The bytes are no frame.
     BadFrame,
-    /// The line is in the wrong place, a domain's number was used before, or a list does not rise or lacks a site that it
-    /// must have.
+    /// The line is in the wrong place, a domain's number was used before, or a list does not rise
+    /// or lacks a site that it must have.
     Order,
 }
 
@@ -78,8 +83,10 @@ impl<T: Drop> From<AllocFailed<T>> for LineFault {
 
 // Whether a text begins with no sign, and with no zero before other digits.
 fn is_plain(text: &[u8]) -> bool
-    ensures plain { IsTrue result → (slice_index text.now 0 ≢ 43) × (slice_index text.now 0 ≡ 48 → length text.now ≤ 1) }
-    ensures other { result ≡ false → (slice_index text.now 0 ≡ 43) ⊎ ((slice_index text.now 0 ≡ 48) × (1 < length text.now)) }
+    ensures plain { IsTrue result
+        → (slice_index text.now 0 ≢ 43) × (slice_index text.now 0 ≡ 48 → length text.now ≤ 1) }
+    ensures other { result ≡ false
+        → (slice_index text.now 0 ≡ 43) ⊎ ((slice_index text.now 0 ≡ 48) × (1 < length text.now)) }
 {
     match text {
         [b'+', ..] | [b'0', _, ..] => false,

@@ -15,7 +15,8 @@ fn say<T: Display, W: Write>(what: &T, out: &mut W) {
     let _ = out.flush();
 }
 
-// Answers a line, and does what it asks, and hands on what its event came to. Answers whether the daemon is to stop.
+// Answers a line, and does what it asks, and hands on what its event came to. Answers whether the
+// daemon is to stop.
 fn answer_line<T: SharedTable, R: Wait, W: Write>(
     rt: &R,
     shared: &Shared<'_, T>,

@@ -26,14 +26,16 @@ use std::{io, thread};
 // After how many milliseconds the domains are told the time again.
 const TICK: u64 = 20;
 
-// After how many ticks more all outboxes are taken: every ten seconds. They are also after a domain was halted, whose programs learn so
-// by that. At each tick those are whose Take found no memory.
+// After how many ticks more all outboxes are taken: every ten seconds. They are also after a domain
+// was halted, whose programs learn so by that. At each tick those are whose Take found no memory.
 const TICKS_TO_ALL: u32 = 499;
 
-// How many milliseconds a thread waits after a call of the system failed, so that it does not turn in place.
+// How many milliseconds a thread waits after a call of the system failed, so that it does not turn
+// in place.
 const PAUSE: u64 = 10;
 
-// So many jobs may wait for the workers: the tick, and the begin or the end of each session. What finds no room is refused.
+// So many jobs may wait for the workers: the tick, and the begin or the end of each session. What
+// finds no room is refused.
 const JOBS: usize = 1024;
 
 // So many answers may wait for the dispatcher. If there is no room, the workers wait.
@@ -94,7 +96,8 @@ fn take_outboxes<T: SharedTable, R: Wait>(rt: &R, server: &mut Server<'_, T>, al
     }
 }
 
-// Sends again what seems to be lost, looks for the way to sites that had none, and notes that time goes by.
+// Sends again what seems to be lost, looks for the way to sites that had none, and notes that time
+// goes by.
 fn send_again<T: SharedTable, R: Wait>(rt: &R, server: &mut Server<'_, T>) {
     let shared = server.shared;
     for link in shared.links {
@@ -379,7 +382,8 @@ fn silences_of(alloc: Global, own: SiteNo, links: &[Link]) -> Result<Vec<Silence
     Ok(all)
 }
 
-// Runs a daemon over its sockets, until the console says `stop`. Answers what the operator has to know of the end of its record.
+// Runs a daemon over its sockets, until the console says `stop`. Answers what the operator has to
+// know of the end of its record.
 fn run<T, R, B, W, E, K>(
     rt: &R,
     alloc: Global,
@@ -514,13 +518,14 @@ fn end_unrecorded<E: Write>(err: &mut Watched<E>, error: &io::Error) -> u8 {
     UNWRITABLE
 }
 
-/// Runs a daemon of a table until the console says `stop`, and answers the status of the program. `ready` is written once it
-/// serves. Why it does not run is written to `err`, and what an operator has to know while it does to `log`. If there is
-/// something to write a record to, each event that the table cuts off its trace for this tape is written there, as a script that
-/// replays.
+/// Runs a daemon of a table until the console says `stop`, and answers the status of the program.
+/// `ready` is written once it serves. Why it does not run is written to `err`, and what an operator
+/// has to know while it does to `log`. If there is something to write a record to, each event that
+/// the table cuts off its trace for this tape is written there, as a script that replays.
 ///
-/// The status is 0 after `stop`; 3 if the first lines of the record cannot be written; 7 if an address cannot be resolved or bound, or a
-/// path cannot be bound, which is named; and 5 if there is no memory for the daemon or its threads.
+/// The status is 0 after `stop`; 3 if the first lines of the record cannot be written; 7 if an
+/// address cannot be resolved or bound, or a path cannot be bound, which is named; and 5 if there
+/// is no memory for the daemon or its threads.
 pub fn serve<T, R, B, W, E, G, K>(
     rt: &R,
     alloc: Global,

@@ -10,7 +10,8 @@ pub record CalledWell {D : Type 0} (reader : Watched D) (calls : ℕ) : Type 0 w
 
 module _ {D : Type 0} {old new : Watched D} {calls : ℕ} where
   -- one more, which did not fail
-  pub called_again : {Fails : Type 0} → CalledWell old calls → calls_of new ≡ calls_of old + 1 → HasFailed new ↔ (HasFailed old ⊎ Fails) → (Fails → ⊥) → CalledWell new (calls + 1)
+  pub called_again : {Fails : Type 0} → CalledWell old calls → calls_of new ≡ calls_of old + 1 → HasFailed new ↔ (HasFailed old ⊎ Fails) →
+      (Fails → ⊥) → CalledWell new (calls + 1)
   called_again before more note went =
       record {
         made = more ∙ ap (λ (n : ℕ). n + 1) before.made;

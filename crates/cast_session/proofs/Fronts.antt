@@ -21,7 +21,8 @@ some_is_wanting bytes n e =
     ]
 
 -- where no more bytes came than were wanting, a frame ends with them
-pub came_to : (turn : Turn) (old came kept : List ℕ) (n : ℕ) (left : Option (List ℕ)) → client_of old ≡ Ok (read.More n) → length came ≤ n → Added turn (old ++ came) kept → CameTo turn (old ++ came) kept came left
+pub came_to : (turn : Turn) (old came kept : List ℕ) (n : ℕ) (left : Option (List ℕ)) → client_of old ≡ Ok (read.More n) → length came ≤ n →
+    Added turn (old ++ came) kept → CameTo turn (old ++ came) kept came left
 came_to (Frame f) old came kept n left wants few added =
     let whole = ends_with_them old came n f added.0 wants few added.1 in
     (added.1 ∙ ap (λ (k : ℕ). Ok (read.Frame f k)) whole, added.2)
@@ -32,10 +33,17 @@ came_to ReadFault old came kept n left wants few added = absurd added
 
 -- ---- a call of `read` with some room
 
-pub ended : (before left : Option (List ℕ)) (old room : List ℕ) (n : ℕ) → n ≡ 0 → 0 < length room → Consumes before left (take n room) → (n ≡ 0 → 0 < length room → IsAtEnd left) → Turned before left old old End
-ended before left old room n none some consumed end = record { came = take n room; consumed = consumed; is = (rw none refl, rw (none, append-nil) refl, end none some) }
+pub ended : (before left : Option (List ℕ)) (old room : List ℕ) (n : ℕ) → n ≡ 0 → 0 < length room → Consumes before left (take n room) →
+    (n ≡ 0 → 0 < length room → IsAtEnd left) → Turned before left old old End
+ended before left old room n none some consumed end = record {
+  came = take n room;
+  consumed = consumed;
+  is = (rw none refl, rw (none, append-nil) refl, end none some);
+}
 
-pub turned : (turn : Turn) (before left : Option (List ℕ)) (old kept room : List ℕ) (n wanting : ℕ) → client_of old ≡ Ok (read.More wanting) → length room ≤ wanting → Consumes before left (take n room) → Added turn (old ++ take n room) kept → Turned before left old kept turn
+pub turned : (turn : Turn) (before left : Option (List ℕ)) (old kept room : List ℕ) (n wanting : ℕ) →
+    client_of old ≡ Ok (read.More wanting) → length room ≤ wanting → Consumes before left (take n room) →
+    Added turn (old ++ take n room) kept → Turned before left old kept turn
 turned turn before left old kept room n wanting wants few consumed added =
     let short : length (take n room) ≤ wanting = omega (arith, length-take n room) in
     record { came = take n room; consumed = consumed; is = came_to turn old (take n room) kept wanting left wants short added }

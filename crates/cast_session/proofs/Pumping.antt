@@ -1,5 +1,6 @@
 -- Commands that are handed on while their bytes are read.
-use Rattle.std.proofs.Common.{◌≡◌, ◌≢◌, ℕ, ◌+◌, ◌-◌, ◌≤◌, ◌<◌, List, [], ◌∷◌, ◌++◌, length, take, drop, true, false, Option, Some, None, Result, Ok, Err, refl, sym, ap, ◌∙◌, append_assoc, arith}
+use Rattle.std.proofs.Common.{◌≡◌, ◌≢◌, ℕ, ◌+◌, ◌-◌, ◌≤◌, ◌<◌, List, [], ◌∷◌, ◌++◌, length, take, drop, true}
+use Rattle.std.proofs.Common.{false, Option, Some, None, Result, Ok, Err, refl, sym, ap, ◌∙◌, append_assoc, arith}
 use Rattle.std.proofs.lemmas.List.{append-nil, length-drop, length-take-le, take-append-drop, take-take, take_rest, drop-take}
 use Rattle.std.specs.Result.{is_err, OnErr, OnOk}
 use Rattle.std.specs.Io.KnownBytes.{Consumes}
@@ -53,7 +54,8 @@ adds_nothing (Some x) = sym (append-nil x)
 pub handed_nothing : (s : Option (List Command)) → HandedOn s s []
 handed_nothing s = record { commands = []; taken = adds_nothing s; whole = λ rest. refl }
 
-ended_behind : (end : InEnd) (front : List Command) (said : Heard) (commands : List Command) → EndedIn end said commands → EndedIn end (and_then front said) (front ++ commands)
+ended_behind : (end : InEnd) (front : List Command) (said : Heard) (commands : List Command) → EndedIn end said commands →
+    EndedIn end (and_then front said) (front ++ commands)
 ended_behind (ends.Bad e) front said commands is = (ap (λ (l : List Command). front ++ l) is.0, is.1)
 ended_behind ends.NoMemory front said commands is =
     (is.0, ap (λ (l : List Command). front ++ l) is.1 ∙ sym (append_assoc front commands is.0))
@@ -71,7 +73,8 @@ module _ {s t u : Option (List Command)} where
             ap commands_of (append_assoc a b rest)
             ∙ (p.whole (b ++ rest)
             ∙ (ap (and_then p.commands) (q.whole rest)
-            ∙ ap (λ (l : List Command). record { commands = l; fault = said.fault }) (sym (append_assoc p.commands q.commands said.commands))));
+            ∙ ap (λ (l : List Command). record { commands = l; fault = said.fault })
+            (sym (append_assoc p.commands q.commands said.commands))));
       }
 
   pub stops_behind : (a b : List ℕ) (end : InEnd) → HandedOn s t a → StopsIn t u b end → StopsIn s u (a ++ b) end
@@ -87,7 +90,8 @@ module _ {s t : Option (List Command)} where
   stops_without_memory bytes added = record { commands = []; taken = added; ended = ((commands_of bytes).commands, refl) }
 
   -- at a fault, for which the bytes say `Bad` if it is their own
-  pub stops_bad : (bytes : List ℕ) (e : FrameFault) (end : InEnd) → (e ≢ NoMemory → commands_of bytes ≡ only_bad e) → EndsBad s t e end → StopsIn s t bytes end
+  pub stops_bad : (bytes : List ℕ) (e : FrameFault) (end : InEnd) → (e ≢ NoMemory → commands_of bytes ≡ only_bad e) → EndsBad s t e end →
+      StopsIn s t bytes end
   stops_bad bytes e (ends.Bad f) says bad =
       record { commands = Bad ∷ []; taken = bad.2; ended = rw (says bad.1) (refl, ap (λ (d : FrameFault). Some d) (sym bad.0)) }
   stops_bad bytes e ends.NoMemory says bad = stops_without_memory bytes bad
@@ -99,7 +103,8 @@ module _ {s t : Option (List Command)} where
 split : (bytes : List ℕ) (done n : ℕ) → take done bytes ++ take n (drop done bytes) ≡ take (done + n) bytes
 split bytes done n =
     ap (λ (l : List ℕ). l ++ take n (drop done bytes)) (sym (take-take done (done + n) bytes (omega arith)))
-    ∙ (ap (λ (l : List ℕ). take done (take (done + n) bytes) ++ l) (sym (drop-take done n bytes)) ∙ take-append-drop done (take (done + n) bytes))
+    ∙ (ap (λ (l : List ℕ). take done (take (done + n) bytes) ++ l) (sym (drop-take done n bytes))
+    ∙ take-append-drop done (take (done + n) bytes))
 
 -- a frame has some bytes, and all of them are there
 pub record Fits (bytes : List ℕ) (done n : ℕ) : Type 0 where
@@ -112,23 +117,27 @@ pub record HandedTo (old now : Option (List Command)) (bytes : List ℕ) (done :
   pub handed : HandedOn old now (take done bytes)
 
 -- what stands at the front of the slice behind so many bytes
-pub at_rest : (bytes : List ℕ) (done : ℕ) (r : Result ClientRead FrameFault) → client_of (take (length bytes - done) (drop done bytes)) ≡ r → client_of (drop done bytes) ≡ r
+pub at_rest : (bytes : List ℕ) (done : ℕ) (r : Result ClientRead FrameFault) →
+    client_of (take (length bytes - done) (drop done bytes)) ≡ r → client_of (drop done bytes) ≡ r
 at_rest bytes done r e = ap client_of (sym (take_rest bytes done)) ∙ e
 
-request_alone : (rest : List ℕ) (n : ℕ) (r : Asked) → client_of rest ≡ Ok (read.Frame (client.Request r) n) → client_of (take n rest) ≡ Ok (read.Frame (client.Request r) (length (take n rest)))
+request_alone : (rest : List ℕ) (n : ℕ) (r : Asked) → client_of rest ≡ Ok (read.Frame (client.Request r) n) →
+    client_of (take n rest) ≡ Ok (read.Frame (client.Request r) (length (take n rest)))
 request_alone rest n r e =
     let there = frame_is_there rest (client.Request r) n e in
     frame_alone rest (client.Request r) n e ∙ ap (λ (k : ℕ). Ok (read.Frame (client.Request r) k)) (sym (length-take-le n rest there.whole))
 
 module _ {s t : Option (List Command)} {bytes : List ℕ} {done : ℕ} where
-  pub frame_fits : (n : ℕ) (r : Asked) → HandedTo s t bytes done → client_of (drop done bytes) ≡ Ok (read.Frame (client.Request r) n) → Fits bytes done n
+  pub frame_fits : (n : ℕ) (r : Asked) → HandedTo s t bytes done → client_of (drop done bytes) ≡ Ok (read.Frame (client.Request r) n) →
+      Fits bytes done n
   frame_fits n r h e =
       let there = frame_is_there (drop done bytes) (client.Request r) n e in
       let least = (length_fits (drop done bytes) n there.says).least in
       let len = length-drop done bytes in
       record { some = omega (arith, least); within = omega (arith, len, there.whole, h.within) }
 
-  pub handed_further : (u : Option (List Command)) (n : ℕ) (r : Asked) → HandedTo s t bytes done → client_of (drop done bytes) ≡ Ok (read.Frame (client.Request r) n) → Adds t u (Request r ∷ []) → HandedTo s u bytes (done + n)
+  pub handed_further : (u : Option (List Command)) (n : ℕ) (r : Asked) → HandedTo s t bytes done →
+      client_of (drop done bytes) ≡ Ok (read.Frame (client.Request r) n) → Adds t u (Request r ∷ []) → HandedTo s u bytes (done + n)
   handed_further u n r h e added =
       let rest = drop done bytes in
       let one : HandedOn t u (take n rest) = record {
@@ -136,9 +145,13 @@ module _ {s t : Option (List Command)} {bytes : List ℕ} {done : ℕ} where
         taken = added;
         whole = λ behind. request_first (take n rest) behind r (request_alone rest n r e);
       } in
-      record { within = (frame_fits n r h e).within; handed = rw (split bytes done n) at (handed_more (take done bytes) (take n rest) h.handed one) }
+      record {
+        within = (frame_fits n r h e).within;
+        handed = rw (split bytes done n) at (handed_more (take done bytes) (take n rest) h.handed one);
+      }
 
-  pub stops_there : (u : Option (List Command)) (end : InEnd) → HandedTo s t bytes done → StopsIn t u (drop done bytes) end → StopsIn s u bytes end
+  pub stops_there : (u : Option (List Command)) (end : InEnd) → HandedTo s t bytes done → StopsIn t u (drop done bytes) end →
+      StopsIn s u bytes end
   stops_there u end h stops = rw (take-append-drop done bytes) at (stops_behind (take done bytes) (drop done bytes) end h.handed stops)
 
 -- ---- between two calls of `read`
@@ -158,33 +171,39 @@ pub begun : (a : Option (List ℕ)) (s : Option (List Command)) (kept : List ℕ
 begun a s kept none =
     record { done = []; consumed = rw none (consumes_nothing a); handed = handed_nothing s; cut = no_bytes_are_cut kept none }
 
-ended_so : (end : InEnd) (left : Option (List ℕ)) (said : Heard) (commands : List Command) → EndedIn end said commands → Ended end left said commands
+ended_so : (end : InEnd) (left : Option (List ℕ)) (said : Heard) (commands : List Command) → EndedIn end said commands →
+    Ended end left said commands
 ended_so (ends.Bad e) left said commands is = is
 ended_so ends.NoMemory left said commands is = is
 ended_so ends.End left said commands is = absurd is
 ended_so ends.ReadFault left said commands is = absurd is
 
 -- a part of a frame says nothing
-silent : {a b : Option (List ℕ)} {s t : Option (List Command)} {old : List ℕ} → (p : Pumping a b s t old) → commands_of (p.done ++ old) ≡ and_then p.handed.commands nothing
+silent : {a b : Option (List ℕ)} {s t : Option (List Command)} {old : List ℕ} → (p : Pumping a b s t old) →
+    commands_of (p.done ++ old) ≡ and_then p.handed.commands nothing
 silent {old = old} p = p.handed.whole old ∙ ap (and_then p.handed.commands) (by_what_stands old (Ok (read.More p.cut.0)) p.cut.1)
 
 no_more : {b c : Option (List ℕ)} {old new : List ℕ} {filled : Filled} → (f : IsFilled b c old new filled) → f.came ≡ [] → new ≡ old
 no_more {old = old} f none = f.behind ∙ (ap (λ (l : List ℕ). old ++ l) none ∙ append-nil old)
 
 -- the same bytes, in another room
-pub with_room : {a b : Option (List ℕ)} {s t : Option (List Command)} {old : List ℕ} (kept : List ℕ) → Pumping a b s t old → kept ≡ old → Pumping a b s t kept
+pub with_room : {a b : Option (List ℕ)} {s t : Option (List Command)} {old : List ℕ} (kept : List ℕ) → Pumping a b s t old → kept ≡ old →
+    Pumping a b s t kept
 with_room kept p same = rw same p
 
 module _ {a b c : Option (List ℕ)} {s t : Option (List Command)} {old new : List ℕ} where
   -- what came behind the bytes that were kept
   read_on : {filled : Filled} → (p : Pumping a b s t old) → IsFilled b c old new filled → Consumes a c (p.done ++ new)
   read_on p f =
-      let regrouped : (p.done ++ old) ++ f.came ≡ p.done ++ new = append_assoc p.done old f.came ∙ ap (λ (l : List ℕ). p.done ++ l) (sym f.behind) in
+      let regrouped : (p.done ++ old) ++ f.came ≡ p.done ++ new =
+      append_assoc p.done old f.came ∙ ap (λ (l : List ℕ). p.done ++ l) (sym f.behind) in
       rw regrouped at (consumes_more a b c (p.done ++ old) f.came p.consumed f.consumed)
 
-  pub went_on : {filled : Filled} (u : Option (List Command)) (n : ℕ) (kept : List ℕ) → Pumping a b s t old → IsFilled b c old new filled → HandsOn t u new (Ok n) → kept ≡ drop n new → Pumping a c s u kept
+  pub went_on : {filled : Filled} (u : Option (List Command)) (n : ℕ) (kept : List ℕ) → Pumping a b s t old → IsFilled b c old new filled →
+      HandsOn t u new (Ok n) → kept ≡ drop n new → Pumping a c s u kept
   went_on u n kept p f hands is =
-      let joined : (p.done ++ take n new) ++ drop n new ≡ p.done ++ new = append_assoc p.done (take n new) (drop n new) ∙ ap (λ (l : List ℕ). p.done ++ l) (take-append-drop n new) in
+      let joined : (p.done ++ take n new) ++ drop n new ≡ p.done ++ new =
+      append_assoc p.done (take n new) (drop n new) ∙ ap (λ (l : List ℕ). p.done ++ l) (take-append-drop n new) in
       rw is
       (record {
         done = p.done ++ take n new;
@@ -195,7 +214,8 @@ module _ {a b c : Option (List ℕ)} {s t : Option (List Command)} {old new : Li
 
   -- ---- the end
 
-  pub ends_in_them : {filled : Filled} (u : Option (List Command)) (end : InEnd) → Pumping a b s t old → IsFilled b c old new filled → HandsOn t u new (Err end) → PumpedIn a c s u end
+  pub ends_in_them : {filled : Filled} (u : Option (List Command)) (end : InEnd) → Pumping a b s t old → IsFilled b c old new filled →
+      HandsOn t u new (Err end) → PumpedIn a c s u end
   ends_in_them u end p f stops =
       let all = stops_behind p.done new end p.handed stops in
       record {
@@ -207,7 +227,8 @@ module _ {a b c : Option (List ℕ)} {s t : Option (List Command)} {old new : Li
       }
 
   -- nothing came behind it
-  ends_silent : (end : InEnd) → (p : Pumping a b s t old) → Consumes a c (p.done ++ new) → new ≡ old → Ended end c (and_then p.handed.commands nothing) p.handed.commands → PumpedIn a c s t end
+  ends_silent : (end : InEnd) → (p : Pumping a b s t old) → Consumes a c (p.done ++ new) → new ≡ old →
+      Ended end c (and_then p.handed.commands nothing) p.handed.commands → PumpedIn a c s t end
   ends_silent end p consumed same ended =
       record {
         read = p.done ++ old;

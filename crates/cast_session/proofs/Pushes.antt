@@ -13,10 +13,14 @@ abbrev pub WroteTo : Option (List ℕ) → Option (List ℕ) → List Push → �
 WroteTo old new pushes i = pieces.WroteTo (λ p. spelled_client (client.Push p)) old new pushes i
 
 module _ (pushes : List Push) (i : ℕ) (p : Push) (lt : i < length pushes) (is : p ≡ get_or pushes i p) where
-  pub wrote_push : {a b c : Option (List ℕ)} → WroteTo a b pushes i → Appends b c (spelled_client (client.Push p)) → WroteTo a c pushes (i + 1)
+  pub wrote_push : {a b c : Option (List ℕ)} → WroteTo a b pushes i → Appends b c (spelled_client (client.Push p)) →
+      WroteTo a c pushes (i + 1)
   wrote_push {b = b} {c = c} w more =
-      pieces.wrote_next (λ q. spelled_client (client.Push q)) pushes i p lt w (subst (λ q. Appends b c (spelled_client (client.Push q))) is more)
+      pieces.wrote_next (λ q. spelled_client (client.Push q))
+      pushes i p lt w (subst (λ q. Appends b c (spelled_client (client.Push q))) is more)
 
-  pub wrote_push_part : {a b c : Option (List ℕ)} → WroteTo a b pushes i → WrotePart b c (spelled_client (client.Push p)) → WrotePart a c (spelled_pushes pushes)
+  pub wrote_push_part : {a b c : Option (List ℕ)} → WroteTo a b pushes i → WrotePart b c (spelled_client (client.Push p)) →
+      WrotePart a c (spelled_pushes pushes)
   wrote_push_part {b = b} {c = c} w part =
-      pieces.wrote_next_part (λ q. spelled_client (client.Push q)) pushes i p lt w (subst (λ q. WrotePart b c (spelled_client (client.Push q))) is part)
+      pieces.wrote_next_part (λ q. spelled_client (client.Push q))
+      pushes i p lt w (subst (λ q. WrotePart b c (spelled_client (client.Push q))) is part)

@@ -29,13 +29,15 @@ at_front bytes r e = ap (push_or_fault bytes) e
 -- ---- the bytes that were read are the first of all
 
 -- a fact of bytes that are known, by those that were read of them and those that are left
-from_read : (before left : Option (List ℕ)) (read : List ℕ) (P : List ℕ → List ℕ → Type 0) → Consumes before left read → ((left : List ℕ) → P (read ++ left) left) → Between before left P
+from_read : (before left : Option (List ℕ)) (read : List ℕ) (P : List ℕ → List ℕ → Type 0) → Consumes before left read →
+    ((left : List ℕ) → P (read ++ left) left) → Between before left P
 from_read None left read P consumed all = tt
 from_read (Some before) None read P consumed all = absurd consumed
 from_read (Some before) (Some left) read P consumed all = let Q : List ℕ → Type 0 = λ l. P l left in subst Q (sym consumed) (all left)
 
 -- the same where nothing is left
-from_all : (before left : Option (List ℕ)) (read : List ℕ) (P : List ℕ → List ℕ → Type 0) → Consumes before left read → IsAtEnd left → P read [] → Between before left P
+from_all : (before left : Option (List ℕ)) (read : List ℕ) (P : List ℕ → List ℕ → Type 0) → Consumes before left read → IsAtEnd left →
+    P read [] → Between before left P
 from_all None left read P consumed end all = tt
 from_all (Some before) None read P consumed end all = absurd consumed
 from_all (Some before) (Some left) read P consumed end all =
@@ -61,27 +63,34 @@ short_at (b ∷ bytes) n e some = at_front (b ∷ bytes) (Ok (read.More n)) e
 pub record Awaiting (before now : Option (List ℕ)) (kept : List ℕ) : Type 0 where
   pub consumed : Consumes before now kept
 
-pub ends_at_last_turn : {a b : Option (List ℕ)} {old : List ℕ} {n : ℕ} → Awaiting a b old → client_of old ≡ Ok (read.More n) → Between a b (ReadsPush (Err faults.ReadFault))
+pub ends_at_last_turn : {a b : Option (List ℕ)} {old : List ℕ} {n : ℕ} → Awaiting a b old → client_of old ≡ Ok (read.More n) →
+    Between a b (ReadsPush (Err faults.ReadFault))
 ends_at_last_turn {a} {b} {old} {n} p e = from_read a b old (ReadsPush (Err faults.ReadFault)) p.consumed (λ left. (old, refl, (n, e)))
 
 module _ {a b c : Option (List ℕ)} {old kept : List ℕ} where
-  pub ends_at_push : {push : Push} → Awaiting a b old → Turned b c old kept (turn.Frame (client.Push push)) → Between a c (ReadsPush (Ok (Some push)))
+  pub ends_at_push : {push : Push} → Awaiting a b old → Turned b c old kept (turn.Frame (client.Push push)) →
+      Between a c (ReadsPush (Ok (Some push)))
   ends_at_push {push} p turned =
       let all = old ++ turned.came in
       from_read a c all (ReadsPush (Ok (Some push))) (consumes_more a b c old turned.came p.consumed turned.consumed)
       (λ left.
-      at_front (all ++ left) (Ok (read.Frame (client.Push push) (length all))) (frame_stays all left (client.Push push) (length all) turned.is.0)
+      at_front (all ++ left) (Ok (read.Frame (client.Push push) (length all)))
+      (frame_stays all left (client.Push push) (length all) turned.is.0)
       ∙ ap (λ (l : List ℕ). Ok (Some push, l)) (drop-append_seam all left))
 
-  pub ends_at_request : {r : Request} → Awaiting a b old → Turned b c old kept (turn.Frame (client.Request r)) → Between a c (ReadsPush (Err (faults.Frame WrongType)))
+  pub ends_at_request : {r : Request} → Awaiting a b old → Turned b c old kept (turn.Frame (client.Request r)) →
+      Between a c (ReadsPush (Err (faults.Frame WrongType)))
   ends_at_request {r} p turned =
       let all = old ++ turned.came in
       from_read a c all (ReadsPush (Err (faults.Frame WrongType))) (consumes_more a b c old turned.came p.consumed turned.consumed)
       (λ left other.
-      let stays = frame_stays all left (client.Request r) (length all) turned.is.0 in
-      (at_front (all ++ left) (Ok (read.Frame (client.Request r) (length all))) stays, λ cut. absurd (frame_is_not_cut (all ++ left) (client.Request r) (length all) stays cut)))
+      let stays = frame_stays all left (client.Request r) (length all) turned.is.0 in (
+        at_front (all ++ left) (Ok (read.Frame (client.Request r) (length all))) stays,
+        λ cut. absurd (frame_is_not_cut (all ++ left) (client.Request r) (length all) stays cut),
+      ))
 
-  pub ends_at_fault : {e : FrameFault} → Awaiting a b old → Turned b c old kept (turn.Fault e) → Between a c (ReadsPush (Err (faults.Frame e)))
+  pub ends_at_fault : {e : FrameFault} → Awaiting a b old → Turned b c old kept (turn.Fault e) →
+      Between a c (ReadsPush (Err (faults.Frame e)))
   ends_at_fault {e} p turned =
       let all = old ++ turned.came in
       from_read a c all (ReadsPush (Err (faults.Frame e))) (consumes_more a b c old turned.came p.consumed turned.consumed)
@@ -95,17 +104,21 @@ module _ {a b c : Option (List ℕ)} {old kept : List ℕ} where
       let consumed = consumes_more a b c old turned.came p.consumed turned.consumed in
       (rw (turned.is.0, append-nil) at consumed, rw (turned.is.0, append-nil) at turned.is.1)
 
-  pub ends_before_a_frame : {n : ℕ} → Awaiting a b old → client_of old ≡ Ok (read.More n) → Turned b c old kept turn.End → kept ≡ [] → Between a c (ReadsPush (Ok None))
+  pub ends_before_a_frame : {n : ℕ} → Awaiting a b old → client_of old ≡ Ok (read.More n) → Turned b c old kept turn.End → kept ≡ [] →
+      Between a c (ReadsPush (Ok None))
   ends_before_a_frame {n} p e turned none =
       let all = all_came p turned in
       from_all a c old (ReadsPush (Ok None)) all.0 turned.is.2 (none_at old n e (sym all.1 ∙ none))
 
-  pub ends_within_a_frame : {n : ℕ} → Awaiting a b old → client_of old ≡ Ok (read.More n) → Turned b c old kept turn.End → kept ≢ [] → Between a c (ReadsPush (Err (faults.Frame Short)))
+  pub ends_within_a_frame : {n : ℕ} → Awaiting a b old → client_of old ≡ Ok (read.More n) → Turned b c old kept turn.End → kept ≢ [] →
+      Between a c (ReadsPush (Err (faults.Frame Short)))
   ends_within_a_frame {n} p e turned some =
       let all = all_came p turned in
-      from_all a c old (ReadsPush (Err (faults.Frame Short))) all.0 turned.is.2 (λ other. (short_at old n e (λ none. some (all.1 ∙ none)), λ cut. refl))
+      from_all a c old (ReadsPush (Err (faults.Frame Short)))
+      all.0 turned.is.2 (λ other. (short_at old n e (λ none. some (all.1 ∙ none)), λ cut. refl))
 
-  pub ends_at_read_fault : {n : ℕ} → Awaiting a b old → client_of old ≡ Ok (read.More n) → Turned b c old kept turn.ReadFault → Between a c (ReadsPush (Err faults.ReadFault))
+  pub ends_at_read_fault : {n : ℕ} → Awaiting a b old → client_of old ≡ Ok (read.More n) → Turned b c old kept turn.ReadFault →
+      Between a c (ReadsPush (Err faults.ReadFault))
   ends_at_read_fault {n} p e turned =
       let consumed = rw (turned.is, append-nil) at (consumes_more a b c old turned.came p.consumed turned.consumed) in
       from_read a c old (ReadsPush (Err faults.ReadFault)) consumed (λ left. (old, refl, (n, e)))

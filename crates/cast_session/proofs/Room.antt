@@ -9,13 +9,16 @@ use Rattle.std.specs.List.{copy_within}
 abbrev written_behind : List ℕ → List ℕ → ℕ → List ℕ
 written_behind room written len = take len room ++ (written ++ drop (length room - len) (drop len room))
 
-length-written_behind : (room written : List ℕ) (len : ℕ) → len ≤ length room → length written ≡ length room - len → length (written_behind room written len) ≡ length room
+length-written_behind : (room written : List ℕ) (len : ℕ) → len ≤ length room → length written ≡ length room - len
+    → length (written_behind room written len) ≡ length room
 length-written_behind room written len within sizes =
     simp (length-append, length-drop) (let front = length-take-le len room within in omega (arith, front, sizes))
 
 -- so many bytes came behind them
-pub filled : (room written : List ℕ) (size len count : ℕ) → size ≡ length room → len ≤ length room → length written ≡ length room - len → count ≤ length written
-    → take (len + count) (take size (written_behind room written len ++ drop (length (written_behind room written len)) room)) ≡ take len room ++ take count written
+pub filled : (room written : List ℕ) (size len count : ℕ) → size ≡ length room → len ≤ length room → length written ≡ length room - len
+    → count ≤ length written
+    → take (len + count) (take size (written_behind room written len ++ drop (length (written_behind room written len)) room))
+    ≡ take len room ++ take count written
 filled room written size len count is within sizes few =
     let front = take len room in
     let rest = drop (length room - len) (drop len room) in
@@ -27,7 +30,8 @@ filled room written size len count is within sizes few =
     ∙ (take-append-add front (written ++ rest) count ∙ ap (λ (l : List ℕ). front ++ l) (take-append-le count written rest few)))
 
 -- the first of them are taken away
-pub shifted : (room : List ℕ) (count len : ℕ) → count ≤ len → len ≤ length room → take (len - count) (copy_within room count len 0) ≡ drop count (take len room)
+pub shifted : (room : List ℕ) (count len : ℕ) → count ≤ len → len ≤ length room
+    → take (len - count) (copy_within room count len 0) ≡ drop count (take len room)
 shifted room count len few within =
     let n = len - count in
     let there : n ≤ length (drop count room) = omega (arith, length-drop count room) in

@@ -19,7 +19,8 @@ CameAs End came left = (came ≡ []) × IsAtEnd left
 CameAs ReadFault came left = came ≡ []
 
 -- bytes came behind the old ones
-pub record IsFilled (before left : Option (List ℕ)) (old new : List ℕ) (filled : Filled) : Type 0 where
+pub record IsFilled (before left : Option (List ℕ)) (old new : List ℕ)
+    (filled : Filled) : Type 0 where
   pub came : List ℕ
   pub consumed : Consumes before left came
   pub behind : new ≡ old ++ came

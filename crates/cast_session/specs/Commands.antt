@@ -1,5 +1,6 @@
 -- What the bytes of a program say: its commands one after the other, up to the first fault.
-use Rattle.std.specs.Prelude.{ℕ, zero, suc, List, [], ◌∷◌, ◌++◌, length, drop, Option, Some, None, Result, Ok, Err}
+use Rattle.std.specs.Prelude.{ℕ, zero, suc, List, [], ◌∷◌, ◌++◌, length}
+use Rattle.std.specs.Prelude.{drop, Option, Some, None, Result, Ok, Err}
 use Rattle.cast_field.specs.declared.fault.FrameFault.{FrameFault}
 use Rattle.cast_field.specs.declared.fault.FrameFault.TheVariants.{WrongType}
 use Rattle.cast_message.specs.declared.client.ClientFrame.TheVariants as client
@@ -25,8 +26,8 @@ only_bad e = record { commands = Bad ∷ []; fault = Some e }
 abbrev pub and_then : List Command → Heard → Heard
 and_then commands behind = record { commands = commands ++ behind.commands; fault = behind.fault }
 
--- by what stands at the front: a request, and then what is heard behind it; a push and a fault end it, and a part of a
--- frame says nothing
+-- by what stands at the front: a request, and then what is heard behind it; a push and a fault end
+-- it, and a part of a frame says nothing
 abbrev pub heard_of : Result ClientRead FrameFault → (ℕ → Heard) → Heard
 heard_of (Ok (Frame (client.Request r) n)) behind = and_then (Request r ∷ []) (behind n)
 heard_of (Ok (Frame (client.Push p) n)) behind = only_bad WrongType
@@ -36,7 +37,8 @@ heard_of (Err e) behind = only_bad e
 -- of at most so many frames
 unfoldable pub commands_within : ℕ → List ℕ → Heard
 commands_within zero bytes = nothing
-commands_within (suc frames) bytes = heard_of (client_of bytes) (λ n. commands_within frames (drop n bytes))
+commands_within (suc frames) bytes =
+    heard_of (client_of bytes) (λ n. commands_within frames (drop n bytes))
 
 -- of all frames, each of which has a byte at least
 unfoldable pub commands_of : List ℕ → Heard

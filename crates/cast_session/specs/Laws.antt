@@ -9,12 +9,15 @@ use Rattle.cast_session.specs.Commands.{commands_of}
 
 -- commands that were heard stay heard when more bytes come
 abbrev pub CommandsStay : Type 0
-CommandsStay = (bytes more : List ℕ) → IsBeginning (commands_of bytes).commands (commands_of (bytes ++ more)).commands
+CommandsStay =
+    (bytes more : List ℕ)
+    → IsBeginning (commands_of bytes).commands (commands_of (bytes ++ more)).commands
 
 -- and behind a fault nothing more is heard
 abbrev pub FaultEnds : Type 0
 FaultEnds =
-    (bytes more : List ℕ) (e : FrameFault) → (commands_of bytes).fault ≡ Some e → commands_of (bytes ++ more) ≡ commands_of bytes
+    (bytes more : List ℕ) (e : FrameFault) → (commands_of bytes).fault ≡ Some e
+    → commands_of (bytes ++ more) ≡ commands_of bytes
 
 -- the one command that a fault is
 abbrev pub bad_for : Option FrameFault → List Command
@@ -25,4 +28,5 @@ bad_for (Some e) = command.Bad ∷ []
 abbrev pub RequestsThenBad : Type 0
 RequestsThenBad =
     (bytes : List ℕ)
-    → (requests : List Request) × ((commands_of bytes).commands ≡ map command.Request requests ++ bad_for (commands_of bytes).fault)
+    → (requests : List Request) × ((commands_of bytes).commands
+    ≡ map command.Request requests ++ bad_for (commands_of bytes).fault)

@@ -1,5 +1,6 @@
 -- What a program reads where it awaits a push.
-use Rattle.std.specs.Prelude.{◌≡◌, ◌≢◌, ℕ, List, [], ◌∷◌, ◌++◌, drop, Option, Some, None, Result, Ok, Err}
+use Rattle.std.specs.Prelude.{◌≡◌, ◌≢◌, ℕ, List, [], ◌∷◌, ◌++◌, drop}
+use Rattle.std.specs.Prelude.{Option, Some, None, Result, Ok, Err}
 use Rattle.cast_field.specs.declared.fault.FrameFault.{FrameFault}
 use Rattle.cast_field.specs.declared.fault.FrameFault.TheVariants.{Short, WrongType, NoMemory}
 use Rattle.cast_message.specs.declared.client.ClientFrame.TheVariants as client
@@ -17,7 +18,8 @@ end_of [] = Ok (None, [])
 end_of (b ∷ bytes) = Err Short
 
 -- by what stands at the front of the bytes: a push, and the bytes behind it; a request is a fault
-abbrev pub push_or_fault : List ℕ → Result ClientRead FrameFault → Result (Option Push × List ℕ) FrameFault
+abbrev pub push_or_fault : List ℕ → Result ClientRead FrameFault
+    → Result (Option Push × List ℕ) FrameFault
 push_or_fault bytes (Ok (Frame (client.Push p) n)) = Ok (Some p, drop n bytes)
 push_or_fault bytes (Ok (Frame (client.Request r) n)) = Err WrongType
 push_or_fault bytes (Ok (More n)) = end_of bytes
@@ -34,5 +36,6 @@ IsCut bytes = (n : ℕ) × (client_of bytes ≡ Ok (More n))
 -- what was read of these bytes, and which of them are left
 abbrev pub ReadsPush : Result (Option Push) PushFault → List ℕ → List ℕ → Type 0
 ReadsPush (Ok push) bytes left = push_at bytes ≡ Ok (push, left)
-ReadsPush (Err (faults.Frame e)) bytes left = e ≢ NoMemory → (push_at bytes ≡ Err e) × (IsCut bytes → left ≡ [])
+ReadsPush (Err (faults.Frame e)) bytes left =
+    e ≢ NoMemory → (push_at bytes ≡ Err e) × (IsCut bytes → left ≡ [])
 ReadsPush (Err faults.ReadFault) bytes left = (part : List ℕ) × (bytes ≡ part ++ left) × IsCut part

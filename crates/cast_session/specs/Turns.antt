@@ -15,7 +15,8 @@ Added (Fault e) all kept = e ≢ NoMemory → client_of all ≡ Err e
 Added End all kept = ⊥
 Added ReadFault all kept = ⊥
 
--- the same by those of them that came in this turn, and by what is left of the reader: a frame ends with the last byte
+-- the same by those of them that came in this turn, and by what is left of the reader: a frame ends
+-- with the last byte
 abbrev pub CameTo : Turn → List ℕ → List ℕ → List ℕ → Option (List ℕ) → Type 0
 CameTo (Frame f) all kept came left = (client_of all ≡ Ok (read.Frame f (length all))) × (kept ≡ [])
 CameTo Part all kept came left = kept ≡ all

@@ -24,7 +24,8 @@ pub enum Filled {
 
 /// The bytes that were read and not handed on, at the front of the room for them.
 ///
-/// The room belongs to the session. It is made before the first call of `read`, and grows once, after a call has filled it.
+/// The room belongs to the session. It is made before the first call of `read`, and grows once,
+/// after a call has filled it.
 #[derive(Drop)]
 pub struct Ahead {
     room: Vec<u8>,
@@ -78,9 +79,11 @@ impl Ahead {
     pub fn fill<R: Read>(&mut self, reader: &mut Watched<R>) -> Filled
         requires calls { calls_of reader.old < PATIENCE }
         requires room { HasRoom self.old }
-        ensures filled { IsFilled (R.remaining reader.old.device) (R.remaining reader.new.device) (bytes_of self.old) (bytes_of self.new) result }
+        ensures filled { IsFilled (R.remaining reader.old.device) (R.remaining reader.new.device)
+            (bytes_of self.old) (bytes_of self.new) result }
         ensures calls { calls_of reader.new ≡ calls_of reader.old + 1 }
-        ensures failed { HasFailed reader.new ↔ (HasFailed reader.old ⊎ (result ≡ Filled.ReadFault)) }
+        ensures failed { HasFailed reader.new
+            ↔ (HasFailed reader.old ⊎ (result ≡ Filled.ReadFault)) }
     {
         match reader.read(&mut self.room[self.len..]) {
             Ok(0) => Filled::End,

@@ -19,8 +19,8 @@ use thiserror::Error;
 /// Why no push was read.
 #[derive(Clone, Copy, Debug, PartialEq, Eq, Error)]
 pub enum PushFault {
-    /// This fault stands in the push's place. An end within a frame is `Short`, a request is `WrongType`, and `NoMemory` says
-    /// that an allocation was refused.
+    /// This fault stands in the push's place. An end within a frame is `Short`, a request is
+    /// `WrongType`, and `NoMemory` says that an allocation was refused.
     #[error("no push: {0}")]
     Frame(FrameFault),
     /// The reader failed, or `PATIENCE` calls of `read` were made.
@@ -28,11 +28,12 @@ pub enum PushFault {
     ReadFault,
 }
 
-/// Reads the first push, and no byte behind it. `None` is the reader's end before a frame. An interrupted call of `read` is
-/// made again.
+/// Reads the first push, and no byte behind it. `None` is the reader's end before a frame. An
+/// interrupted call of `read` is made again.
 pub fn read_push<R: Read>(alloc: Global, reader: &mut Watched<R>) -> Result<Option<Push>, PushFault>
     // What stands at the front of the bytes that the reader had, and which bytes it has left.
-    ensures read { Between (R.remaining reader.old.device) (R.remaining reader.new.device) (ReadsPush result) }
+    ensures read { Between (R.remaining reader.old.device) (R.remaining reader.new.device)
+        (ReadsPush result) }
     // The reader's fault comes where a call failed, and else only at the last of them.
     ensures failed { HasFailed reader.new → result ≡ Err PushFault.ReadFault }
     ensures fault { result ≡ Err PushFault.ReadFault → HasFailedOrLasted reader.new }
@@ -62,7 +63,8 @@ pub fn write_command<W: Write>(
     frame: &ClientFrame,
 ) -> Result<(), OutFault>
     requires { IsTrue (client_fits frame.now) }
-    ensures written { Writes (W.contents writer.old.device) (W.contents writer.new.device) result (spelled_client frame.now) }
+    ensures written { Writes (W.contents writer.old.device) (W.contents writer.new.device)
+        result (spelled_client frame.now) }
     ensures failed { (result ≡ Err OutFault.WriteFault) ↔ HasFailedOrStalled writer.new }
 {
     writer.begin();

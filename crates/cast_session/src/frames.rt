@@ -30,7 +30,8 @@ pub enum Turn {
     ReadFault,
 }
 
-/// The frame that is being read: the bytes of it that have come, and how many are wanting before more can be said.
+/// The frame that is being read: the bytes of it that have come, and how many are wanting before
+/// more can be said.
 #[derive(Drop)]
 pub struct Incoming {
     bytes: Vec<u8>,
@@ -63,7 +64,8 @@ impl Incoming {
     /// One call of `read`, for no more bytes than are wanting.
     pub fn turn<R: Read>(&mut self, alloc: Global, reader: &mut Watched<R>) -> Turn
         requires { calls_of reader.old < PATIENCE }
-        ensures turned { Turned (R.remaining reader.old.device) (R.remaining reader.new.device) self.old.bytes.items self.new.bytes.items result }
+        ensures turned { Turned (R.remaining reader.old.device) (R.remaining reader.new.device)
+            self.old.bytes.items self.new.bytes.items result }
         ensures calls { calls_of reader.new ≡ calls_of reader.old + 1 }
         ensures failed { HasFailed reader.new ↔ (HasFailed reader.old ⊎ (result ≡ Turn.ReadFault)) }
     {

@@ -28,13 +28,15 @@ pub enum InEnd {
     NoMemory,
 }
 
-/// Reads the frames of a program to the reader's end, as many bytes at a time as there are, up to 64 KiB. The command of each
-/// whole frame that was read is handed on before it reads further.
+/// Reads the frames of a program to the reader's end, as many bytes at a time as there are, up to
+/// 64 KiB. The command of each whole frame that was read is handed on before it reads further.
 ///
-/// A push in a command's place is the fault `WrongType`. An interrupted call of `read` is made again.
+/// A push in a command's place is the fault `WrongType`. An interrupted call of `read` is made
+/// again.
 pub fn pump_in<R: Read, S: Sink>(alloc: Global, reader: &mut Watched<R>, sink: &mut S) -> InEnd
     // Which bytes were read, and which of the commands that they say were handed on.
-    ensures pumped { PumpedIn (R.remaining reader.old.device) (R.remaining reader.new.device) (S.taken sink.old) (S.taken sink.new) result }
+    ensures pumped { PumpedIn (R.remaining reader.old.device) (R.remaining reader.new.device)
+        (S.taken sink.old) (S.taken sink.new) result }
     // The reader's fault comes where a call failed, and else only at the last of them.
     ensures failed { HasFailed reader.new → result ≡ InEnd.ReadFault }
     ensures fault { result ≡ InEnd.ReadFault → HasFailedOrLasted reader.new }
@@ -53,7 +55,8 @@ pub fn pump_on<C: Wait, R: Read, S: Sink>(
     reader: &mut Watched<R>,
     sink: &mut S,
 ) -> InEnd
-    ensures pumped { PumpedIn (R.remaining reader.old.device) (R.remaining reader.new.device) (S.taken sink.old) (S.taken sink.new) result }
+    ensures pumped { PumpedIn (R.remaining reader.old.device) (R.remaining reader.new.device)
+        (S.taken sink.old) (S.taken sink.new) result }
     // The reader's fault comes exactly where a call failed.
     ensures failed { HasFailed reader.new ↔ result ≡ InEnd.ReadFault }
 {
@@ -66,7 +69,8 @@ pub fn pump_on<C: Wait, R: Read, S: Sink>(
     unreachable!()
 }
 
-// Makes `PATIENCE` calls of `read`, unless this ends the commands before. What is kept of the next frame stays in `ahead`.
+// Makes `PATIENCE` calls of `read`, unless this ends the commands before. What is kept of the next
+// frame stays in `ahead`.
 fn pump_turns<R: Read, S: Sink>(
     alloc: Global,
     ahead: &mut Ahead,
@@ -75,7 +79,8 @@ fn pump_turns<R: Read, S: Sink>(
 ) -> Option<InEnd>
     requires cut { IsCut (bytes_of ahead.old) }
     // Whatever was pumped before goes on so.
-    ensures pumped { GoesOn (R.remaining reader.old.device) (R.remaining reader.new.device) (S.taken sink.old) (S.taken sink.new) (bytes_of ahead.old) (bytes_of ahead.new) result }
+    ensures pumped { GoesOn (R.remaining reader.old.device) (R.remaining reader.new.device)
+        (S.taken sink.old) (S.taken sink.new) (bytes_of ahead.old) (bytes_of ahead.new) result }
     ensures failed { HasFailed reader.new ↔ result ≡ Some InEnd.ReadFault }
     ensures lasted { result ≡ None → calls_of reader.new ≡ PATIENCE }
 {
@@ -96,7 +101,8 @@ fn pump_turns<R: Read, S: Sink>(
     None
 }
 
-// Hands on the commands of the whole frames at the front of the bytes: how many bytes these have, or what ended it.
+// Hands on the commands of the whole frames at the front of the bytes: how many bytes these have,
+// or what ended it.
 fn hand_on<S: Sink>(alloc: Global, bytes: &[u8], sink: &mut S) -> Result<usize, InEnd>
     ensures { HandsOn (S.taken sink.old) (S.taken sink.new) bytes.now result }
 {

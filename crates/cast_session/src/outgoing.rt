@@ -46,7 +46,8 @@ pub fn pump_out<W: Write>(
     pushes: &[Push],
 ) -> Result<(), OutFault>
     // All of their bytes at `Ok`, and a beginning of them at `Err`.
-    ensures written { Writes (W.contents writer.old.device) (W.contents writer.new.device) result (spelled_pushes pushes.now) }
+    ensures written { Writes (W.contents writer.old.device) (W.contents writer.new.device)
+        result (spelled_pushes pushes.now) }
     // `WriteFault` comes exactly where a call failed, or too many in a row were interrupted.
     ensures failed { (result ≡ Err OutFault.WriteFault) ↔ HasFailedOrStalled writer.new }
 {
@@ -60,8 +61,8 @@ pub fn pump_out<W: Write>(
     Ok(())
 }
 
-/// Adds the pushes' spellings behind other bytes, in their order, so that one write can take them all. `NoMemory` comes where
-/// an allocation was refused; then nothing is left to be written.
+/// Adds the pushes' spellings behind other bytes, in their order, so that one write can take them
+/// all. `NoMemory` comes where an allocation was refused; then nothing is left to be written.
 pub fn spell_out(out: &mut Vec<u8>, pushes: &[Push]) -> Result<(), NoMemory>
     ensures ok { OnOk result (out.new.items ≡ out.old.items ++ spelled_pushes pushes.now) }
     ensures err { OnErr result (out.new.items ≡ []) }

@@ -11,7 +11,8 @@ pub trait Sink {
     // All commands that were taken, at a type that tells of them.
     ghost taken: { Self → Option (List Command) } = { λ _. None };
 
-    /// Takes the command. `NoMemory` comes where an allocation was refused, and then nothing is taken.
+    /// Takes the command. `NoMemory` comes where an allocation was refused, and then nothing is
+    /// taken.
     fn take(&mut self, command: Command) -> Result<(), NoMemory>
         ensures ok { OnOk result (Adds (taken self.old) (taken self.new) (command ∷ [])) }
         ensures err { OnErr result (Adds (taken self.old) (taken self.new) []) };

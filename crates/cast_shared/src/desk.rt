@@ -7,7 +7,8 @@ use std::alloc::{AllocError, Global};
 use std::collections::BTreeMap;
 use std::sync::{Arc, Wait};
 
-/// A session that was opened, and the number under which it was asked for. Its end is handed in under the same number.
+/// A session that was opened, and the number under which it was asked for. Its end is handed in
+/// under the same number.
 #[derive(Clone, Copy, Debug, PartialEq, Eq)]
 pub struct Opened {
     pub session: Session,
@@ -100,8 +101,8 @@ impl Endings {
     }
 }
 
-// Sends something if there is room for it, else answers false. It is proved for any type at once: at that of jobs alone a call of the channel
-// takes fifteen times as long to prove.
+// Sends something if there is room for it, else answers false. It is proved for any type at once:
+// at that of jobs alone a call of the channel takes fifteen times as long to prove.
 fn send_now<T: Drop, R: Wait>(rt: &R, to: &Sender<T>, what: T) -> bool {
     to.try_send(rt, what).is_ok()
 }
@@ -148,8 +149,8 @@ pub struct Desk {
 }
 
 impl Desk {
-    /// No program is served. Jobs go out by the first channel, and what an operator has to know by the second. Neither may wait for
-    /// room: what finds none is refused.
+    /// No program is served. Jobs go out by the first channel, and what an operator has to know by
+    /// the second. Neither may wait for room: what finds none is refused.
     pub fn new(alloc: Global, jobs: Sender<Raw>, reports: Sender<Report>) -> Self {
         Desk {
             jobs: Some(jobs),
@@ -167,7 +168,8 @@ impl Desk {
         }
     }
 
-    // Asks an event of the workers under a number. False if it was refused: the daemon stops, or too many are on the way.
+    // Asks an event of the workers under a number. False if it was refused: the daemon stops, or
+    // too many are on the way.
     fn send<R: Wait>(&self, rt: &R, number: u64, event: Event) -> bool {
         match &self.jobs {
             Some(jobs) => ask(rt, jobs, number, event),
@@ -189,8 +191,8 @@ impl Desk {
         Ok(number)
     }
 
-    /// Asks for a session in a domain. False if that was refused. Room for what its end needs is made here, so that the end takes no
-    /// memory.
+    /// Asks for a session in a domain. False if that was refused. Room for what its end needs is
+    /// made here, so that the end takes no memory.
     pub fn open<R: Wait>(&mut self, rt: &R, domain: DomainNo, to: Sender<Opening>) -> bool {
         let Ok(number) = self.register(Purpose::Open(domain, to)) else {
             return false;
@@ -295,7 +297,8 @@ impl Desk {
         }
     }
 
-    /// The next program behind this one whose outbox is to be taken: of all programs, or of those whose last Take found no memory.
+    /// The next program behind this one whose outbox is to be taken: of all programs, or of those
+    /// whose last Take found no memory.
     pub fn next_client<R: Wait>(
         &self,
         rt: &R,
@@ -335,7 +338,8 @@ impl Desk {
         (unsent, self.unread.so_far())
     }
 
-    /// Tells the operator something. It is lost once reports have ended, or if much else waits to be told.
+    /// Tells the operator something. It is lost once reports have ended, or if much else waits to
+    /// be told.
     pub fn report<R: Wait>(&self, rt: &R, what: Report) {
         if let Some(reports) = &self.reports {
             let _ = reports.try_send(rt, what);

@@ -1,12 +1,15 @@
 //! How far the programs of a domain may run ahead of its other sites.
 //!
-//! A site has room for a limited number of messages of a domain. What follows a message that was lost on the way waits there, and
-//! takes room, until the lost one is sent again; if there is no room then, it is refused each time. A message is kept at each site that
-//! has received it until all have. So a site that lets few casts follow the oldest message that it keeps leaves the others room for
-//! the one that they lack. A cast that would be one too many waits until messages are released, but not for long: a site that is
-//! lost, and that nobody suspects, must not stop a program.
+//! A site has room for a limited number of messages of a domain. What follows a message that was
+//! lost on the way waits there, and takes room, until the lost one is sent again; if there is no
+//! room then, it is refused each time. A message is kept at each site that has received it until
+//! all have. So a site that lets few casts follow the oldest message that it keeps leaves the
+//! others room for the one that they lack. A cast that would be one too many waits until messages
+//! are released, but not for long: a site that is lost, and that nobody suspects, must not stop a
+//! program.
 //!
-//! Where the configuration says for how long casts may queue on their way, fewer may follow: so many as `Speed` says.
+//! Where the configuration says for how long casts may queue on their way, fewer may follow: so
+//! many as `Speed` says.
 use crate::speed::Speed;
 use cast_edge::Took;
 use cast_events::{Backlog, DomainConfig};
@@ -36,7 +39,8 @@ pub struct Turn(u64);
 pub struct Wanted {
     /// How many bytes its payload has.
     pub len: usize,
-    /// How many commands its program wrote at once. One that writes many wants many to be on their way.
+    /// How many commands its program wrote at once. One that writes many wants many to be on their
+    /// way.
     pub at_once: usize,
 }
 
@@ -87,16 +91,17 @@ pub struct Pace {
     speed: Option<Mutex<Speed>>,
 }
 
-// How many casts of each of so many sites may follow the oldest message that it keeps. All sites together then take half of the room
-// that one has, and the other half is for messages that set their order.
+// How many casts of each of so many sites may follow the oldest message that it keeps. All sites
+// together then take half of the room that one has, and the other half is for messages that set
+// their order.
 fn window_of(limit: u32, sites: usize) -> usize {
     let parts = sites.saturating_add(1).saturating_mul(2);
     (limit as usize).checked_div(parts).unwrap_or(0).max(1)
 }
 
 impl Pace {
-    /// The pace of a domain, over sockets that have room for so many bytes of datagrams. Casts may queue on their way for so many
-    /// microseconds; at 0 for as long as they like.
+    /// The pace of a domain, over sockets that have room for so many bytes of datagrams. Casts may
+    /// queue on their way for so many microseconds; at 0 for as long as they like.
     pub fn new(alloc: Global, config: &DomainConfig, room: u64, delay: u32) -> Self {
         let casts = Casts {
             latest: VecDeque::new(alloc),
@@ -145,8 +150,8 @@ impl Pace {
         }
     }
 
-    // How many casts may follow the oldest message that is kept, if the next has so many bytes: fewer where long ones would not find
-    // room in the sockets.
+    // How many casts may follow the oldest message that is kept, if the next has so many bytes:
+    // fewer where long ones would not find room in the sockets.
     fn window(&self, limit: u32, len: usize) -> usize {
         let each = (len as u64).saturating_mul(2).saturating_add(OVERHEAD);
         let others = (self.sites as u64).saturating_sub(1);
@@ -173,7 +178,8 @@ impl Pace {
         Some(Turn(casts.turn))
     }
 
-    /// Notes that a cast was served. The domain was so far behind before it, and is so far after it. A cast that was refused is no message.
+    /// Notes that a cast was served. The domain was so far behind before it, and is so far after
+    /// it. A cast that was refused is no message.
     pub fn note<R: Wait>(&self, rt: &R, before: Backlog, after: Backlog) {
         let key = before.next.0 as u64;
         if after.next.0 as u64 <= key {

@@ -16,8 +16,8 @@ use std::sync::{Mutex, Wait};
 use std::time::Duration;
 use std::{io, mem, thread};
 
-/// From so many events on, a thread that served one cuts them off the trace. At 4,096 it would be trimmed, and they were lost: the difference
-/// is for what other threads serve meanwhile.
+/// From so many events on, a thread that served one cuts them off the trace. At 4,096 it would be
+/// trimmed, and they were lost: the difference is for what other threads serve meanwhile.
 pub const CUT: usize = 3_840;
 
 // So many bytes at most wait to be written. What finds no room is lost, and the record says so.
@@ -35,7 +35,8 @@ const ROOMS: usize = 4;
 // So many milliseconds the recorder waits if nothing is to be written.
 const PAUSE: u64 = 10;
 
-// After so many waits it cuts what is in the trace, so that no event is unwritten for much longer than half a second.
+// After so many waits it cuts what is in the trace, so that no event is unwritten for much longer
+// than half a second.
 const WAITS_TO_CUT: u32 = 50;
 
 // Events that were cut off the trace, and how many events there were before them.
@@ -118,8 +119,8 @@ impl Tape {
         }
     }
 
-    /// Adds events that were cut off the trace, and how many there were before them. They are lost if too much waits, or there is no
-    /// memory.
+    /// Adds events that were cut off the trace, and how many there were before them. They are lost
+    /// if too much waits, or there is no memory.
     pub fn add<R: Wait>(&self, rt: &R, before: u64, entries: Vec<Entry>) {
         let piece = Piece { before, entries };
         let more = piece.size();
@@ -170,8 +171,9 @@ impl Tape {
         piece
     }
 
-    /// Gives the memory back of one piece that was written, if there is one, outside the table's lock. The threads that serve do this
-    /// rather than the recorder: the memory was theirs, and a thread that frees memory of others waits for them and lets them wait.
+    /// Gives the memory back of one piece that was written, if there is one, outside the table's
+    /// lock. The threads that serve do this rather than the recorder: the memory was theirs, and a
+    /// thread that frees memory of others waits for them and lets them wait.
     pub fn let_go<R: Wait>(&self, rt: &R) {
         if self.has_written.load(Ordering::SeqCst) == 0 {
             return;
@@ -219,10 +221,12 @@ impl Tape {
 pub struct Record<K> {
     alloc: Global,
     to: K,
-    // What is to be written next, and a line of it. They keep their room: a thread that takes memory waits for others that do.
+    // What is to be written next, and a line of it. They keep their room: a thread that takes
+    // memory waits for others that do.
     text: String,
     line: String,
-    // How many events were added to a text or lost, and how many had been when a text was written last.
+    // How many events were added to a text or lost, and how many had been when a text was written
+    // last.
     events: u64,
     written: u64,
     // A write failed. Nothing more is written.
@@ -326,8 +330,8 @@ impl<K: Write + Drop> Record<K> {
         None
     }
 
-    /// Writes all that is left. Nobody serves any more. Answers what the operator has to know of it: also if twice there was no memory to
-    /// cut the trace, so that its events are not written.
+    /// Writes all that is left. Nobody serves any more. Answers what the operator has to know of
+    /// it: also if twice there was no memory to cut the trace, so that its events are not written.
     pub fn end<T: SharedTable, R: Wait>(self, rt: &R, tape: &Tape, table: &T) -> Option<Report> {
         let mut record = self;
         let is_cut = table.trim(rt) || table.trim(rt);
@@ -367,7 +371,8 @@ fn write_on<T: SharedTable, R: Wait + Clock, K: Write + Drop>(
     }
 }
 
-/// Writes a record until the daemon stops. Then the record is left for what is served until the last thread ends.
+/// Writes a record until the daemon stops. Then the record is left for what is served until the
+/// last thread ends.
 pub fn run_recorder<T: SharedTable, R: Wait + Clock, K: Write + Drop>(
     rt: &R,
     shared: &Shared<'_, T>,

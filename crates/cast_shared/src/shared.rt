@@ -11,8 +11,8 @@ use std::alloc::Global;
 use std::sync::atomic::{AtomicU64, Ordering};
 use std::sync::{Mutex, Wait};
 
-/// Lets the console at the table before the threads that serve. Where many events come, these take the lock again and again before a thread
-/// that was woken for it.
+/// Lets the console at the table before the threads that serve. Where many events come, these take
+/// the lock again and again before a thread that was woken for it.
 #[derive(Drop)]
 pub struct Turnstile {
     // Not 0 if the console waits for the table, or has it.
@@ -102,8 +102,9 @@ impl<T: SharedTable> Shared<'_, T> {
         self.halts.store(1, Ordering::SeqCst);
     }
 
-    /// Trims the trace, or cuts it if it is recorded, if a domain was halted, since the trace holds what the domain kept. If there is no
-    /// memory for that yet, it is still to be done. Answers whether a domain was halted.
+    /// Trims the trace, or cuts it if it is recorded, if a domain was halted, since the trace holds
+    /// what the domain kept. If there is no memory for that yet, it is still to be done. Answers
+    /// whether a domain was halted.
     pub fn trim_after_halt<R: Wait>(&self, rt: &R) -> bool {
         let is_halted = self.halts.swap(0, Ordering::SeqCst) != 0;
         if is_halted && !self.table.trim(rt) {
@@ -137,7 +138,8 @@ impl<T: SharedTable> Shared<'_, T> {
         self.desk.lock(rt).count_unread(rt, count);
     }
 
-    /// The job of what is asked. `None` for bytes that are no frame, and where memory ran out; either is counted.
+    /// The job of what is asked. `None` for bytes that are no frame, and where memory ran out;
+    /// either is counted.
     pub fn job<R: Wait>(&self, rt: &R, asked: Asked) -> Option<T::Job> {
         let job = self.table.job(asked);
         if job.is_none() {

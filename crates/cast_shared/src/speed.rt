@@ -1,10 +1,12 @@
 //! How many casts of a domain may be on their way, by the time that acknowledgements take.
 //!
-//! A program that casts as fast as it can fills whatever room there is: each cast then waits behind all before it, on the way and at the
-//! sites. So the number of casts on their way is kept so low that acknowledgements take little longer than at least, as in TCP Vegas
-//! (Brakmo, O'Malley and Peterson, "TCP Vegas: New Techniques for Congestion Detection and Avoidance", SIGCOMM 1994). What it takes at least
-//! is known for each site, since sites may be near and far. Beside a far site casts may queue for longer at a near one, too: as many are on
-//! their way as the far one needs, and they go to both at once.
+//! A program that casts as fast as it can fills whatever room there is: each cast then waits behind
+//! all before it, on the way and at the sites. So the number of casts on their way is kept so low
+//! that acknowledgements take little longer than at least, as in TCP Vegas (Brakmo, O'Malley and
+//! Peterson, "TCP Vegas: New Techniques for Congestion Detection and Avoidance", SIGCOMM 1994).
+//! What it takes at least is known for each site, since sites may be near and far. Beside a far
+//! site casts may queue for longer at a near one, too: as many are on their way as the far one
+//! needs, and they go to both at once.
 use cast_edge::Took;
 
 // How many casts may be on their way at first, at least, and at most.
@@ -14,7 +16,8 @@ const LEAST: usize = 4;
 
 const MOST: usize = 65_536;
 
-// The longest time is that of the last so many acknowledgements, and of as many before them at most: a far site may be put out.
+// The longest time is that of the last so many acknowledgements, and of as many before them at
+// most: a far site may be put out.
 const SPAN: u32 = 4_096;
 
 /// How many casts of a domain may be on their way.
@@ -23,7 +26,8 @@ pub struct Speed {
     // For how many microseconds they may queue.
     delay: u64,
     window: usize,
-    // The longest of the times that the sites take at least, in this span and in the one before, and how many acknowledgements this span has.
+    // The longest of the times that the sites take at least, in this span and in the one before,
+    // and how many acknowledgements this span has.
     longest: u64,
     before: u64,
     count: u32,
@@ -31,7 +35,8 @@ pub struct Speed {
     is_first: bool,
     // A cast had to wait since the window grew. Only then more are wanted.
     is_used: bool,
-    // How many acknowledgements came since the window became less, and how many in time since it grew.
+    // How many acknowledgements came since the window became less, and how many in time since it
+    // grew.
     since: usize,
     in_time: usize,
 }
@@ -79,8 +84,8 @@ impl Speed {
         took.micros.saturating_sub(took.least) > (longest / 2).saturating_add(self.delay)
     }
 
-    /// Notes how long an acknowledgement took. If it was late, fewer casts may be on their way, once for as many as are; else more, if
-    /// these are wanted.
+    /// Notes how long an acknowledgement took. If it was late, fewer casts may be on their way,
+    /// once for as many as are; else more, if these are wanted.
     pub fn hear(&mut self, took: Took) {
         self.note_least(took.least);
         self.since = self.since.saturating_add(1);

@@ -31,8 +31,8 @@ pub struct Reply<D> {
 
 /// A table that threads share.
 ///
-/// Each call takes the table's lock for itself, where it needs it, and `work` for each job anew. If the daemon is recorded, calls that
-/// serve cut the events off the trace once there are many.
+/// Each call takes the table's lock for itself, where it needs it, and `work` for each job anew. If
+/// the daemon is recorded, calls that serve cut the events off the trace once there are many.
 pub trait SharedTable {
     /// A thread's share of the count of events. A thread needs one to serve events.
     type Share: Drop;
@@ -55,8 +55,8 @@ pub trait SharedTable {
     /// What the frame of a job tells of the site that it is from, if it does.
     fn heard(&self, job: &Self::Job) -> Option<Heard>;
 
-    /// Does a job. Answers also the place of its domain's pace among these if readers may go on now that waited for it, or else how many
-    /// paces there are.
+    /// Does a job. Answers also the place of its domain's pace among these if readers may go on now
+    /// that waited for it, or else how many paces there are.
     fn serve<R: Wait>(
         &self,
         rt: &R,
@@ -65,8 +65,8 @@ pub trait SharedTable {
         paces: &[Pace],
     ) -> (Came, usize);
 
-    /// Does a job, and then another one of the same domain, without letting go of the table between them. Answers what came of each, and
-    /// what `serve` answers of the paces.
+    /// Does a job, and then another one of the same domain, without letting go of the table between
+    /// them. Answers what came of each, and what `serve` answers of the paces.
     fn serve_both<R: Wait>(
         &self,
         rt: &R,
@@ -76,8 +76,8 @@ pub trait SharedTable {
         paces: &[Pace],
     ) -> (Came, Came, usize);
 
-    /// Does the job of a cast, unless its program has to wait: then the job comes back, with the turn to wait for. A cast of which it is
-    /// not said what it asks for does not wait.
+    /// Does the job of a cast, unless its program has to wait: then the job comes back, with the
+    /// turn to wait for. A cast of which it is not said what it asks for does not wait.
     fn cast<R: Wait>(
         &self,
         rt: &R,
@@ -105,9 +105,11 @@ pub trait SharedTable {
         line: Option<&str>,
     ) -> Reply<Self::Done>;
 
-    /// The number under which something was asked, and what came of it if it was an event. `None` for bytes that were no frame.
+    /// The number under which something was asked, and what came of it if it was an event. `None`
+    /// for bytes that were no frame.
     fn parts(&self, done: Self::Done) -> (u64, Option<Came>);
 
-    /// Trims the trace, or cuts its events off if the daemon is recorded. False if there was no memory for that.
+    /// Trims the trace, or cuts its events off if the daemon is recorded. False if there was no
+    /// memory for that.
     fn trim<R: Wait>(&self, rt: &R) -> bool;
 }

@@ -97,7 +97,8 @@ impl<'a> Inbox<'a> {
         found
     }
 
-    // The next datagram of those that had come when it was waited last. One that finds no memory is lost.
+    // The next datagram of those that had come when it was waited last. One that finds no memory is
+    // lost.
     fn next(&mut self) -> Result<Option<Bytes>, NoMemory> {
         for _ in 0..u64::MAX {
             let Some(link) = self.links.get(self.place) else {
@@ -152,8 +153,8 @@ impl<'a> Udp<'a> {
         }
     }
 
-    /// The next datagram of those that had come when one was waited for last. `None` if there is no more. A datagram that finds no memory is
-    /// lost.
+    /// The next datagram of those that had come when one was waited for last. `None` if there is no
+    /// more. A datagram that finds no memory is lost.
     pub fn receive_now(&mut self) -> Result<Option<Bytes>, NoMemory> {
         self.inbox.next()
     }
@@ -163,7 +164,8 @@ impl<'a> Udp<'a> {
         self.inbox.sender
     }
 
-    /// How many datagrams were passed over since this was asked last, since they came from another address than their link's.
+    /// How many datagrams were passed over since this was asked last, since they came from another
+    /// address than their link's.
     pub fn take_foreign(&mut self) -> u64 {
         let count = self.inbox.foreign;
         self.inbox.foreign = 0;

@@ -1,4 +1,5 @@
-//! The sockets for datagrams between sites: one for each site that this one exchanges datagrams with.
+//! The sockets for datagrams between sites: one for each site that this one exchanges datagrams
+//! with.
 use cast_types::SiteNo;
 use libc::net as c;
 use os::FromRawFd;
@@ -9,7 +10,8 @@ use std::net::{Net, SocketAddr, UdpSocket};
 use std::os::fd::{AsRawFd, OwnedFd, RawFd};
 use std::sync::atomic::{AtomicBool, AtomicU64, Ordering};
 
-// How many bytes of datagrams a socket is asked to hold, of those that wait to be received and of those that wait to be sent.
+// How many bytes of datagrams a socket is asked to hold, of those that wait to be received and of
+// those that wait to be sent.
 const WANTED_ROOM: u32 = 4_194_304;
 
 // How many bytes it holds if the system does not say.
@@ -35,8 +37,8 @@ pub enum Received {
 
 /// The way to a site and back, over a socket of its own. The own site has one too.
 ///
-/// Datagrams wait in the room of their socket until the host of their site is found. So those for a host that has left the network take no room
-/// of those for others.
+/// Datagrams wait in the room of their socket until the host of their site is found. So those for a
+/// host that has left the network take no room of those for others.
 #[derive(Drop)]
 pub struct Link {
     pub site: SiteNo,
@@ -50,7 +52,8 @@ pub struct Link {
 }
 
 impl Link {
-    // Takes a socket for the datagrams of a site. Where the system knows no way to that yet, the socket stays without a peer.
+    // Takes a socket for the datagrams of a site. Where the system knows no way to that yet, the
+    // socket stays without a peer.
     fn new(socket: UdpSocket, peer: Peer) -> io::Result<Link> {
         socket.set_nonblocking(true)?;
         let is_connected = socket.connect(peer.address).is_ok();
@@ -118,13 +121,14 @@ impl Link {
         }
     }
 
-    /// How many datagrams were not sent, since there was no room for them, or the system refused them.
+    /// How many datagrams were not sent, since there was no room for them, or the system refused
+    /// them.
     pub fn unsent(&self) -> u64 {
         self.unsent.load(Ordering::SeqCst)
     }
 
-    // Asks for room, and answers how many bytes of datagrams that wait to be received the socket holds now. The system may give less than is
-    // asked for.
+    // Asks for room, and answers how many bytes of datagrams that wait to be received the socket
+    // holds now. The system may give less than is asked for.
     fn widen(&self) -> u64 {
         let fd = self.socket.as_raw_fd();
         let mut value = value_of(WANTED_ROOM);
@@ -150,7 +154,8 @@ fn value_of(number: u32) -> [u8; 16] {
     value
 }
 
-/// Asks for room for datagrams that wait in these sockets, and answers how many bytes of those that wait to be received each holds at least.
+/// Asks for room for datagrams that wait in these sockets, and answers how many bytes of those that
+/// wait to be received each holds at least.
 pub fn widen(links: &[Link]) -> u64 {
     let mut least = u64::MAX;
     for link in links {
@@ -159,7 +164,8 @@ pub fn widen(links: &[Link]) -> u64 {
     least
 }
 
-// Lets the other sockets of this user have the address of this one too, where they let this one, or not.
+// Lets the other sockets of this user have the address of this one too, where they let this one, or
+// not.
 fn share(socket: &UdpSocket, is_shared: bool) -> io::Result<()> {
     let value = value_of(u32::from(is_shared));
     let status = unsafe {
@@ -202,8 +208,9 @@ fn bind_beside(first: &UdpSocket, is_ipv4: bool) -> io::Result<UdpSocket> {
     Ok(socket)
 }
 
-/// Binds a socket for the own site, and at the same address one for each of these others. No other user can bind that address meanwhile, and
-/// nobody can afterwards. Gives also a second handle of the first.
+/// Binds a socket for the own site, and at the same address one for each of these others. No other
+/// user can bind that address meanwhile, and nobody can afterwards. Gives also a second handle of
+/// the first.
 pub fn bind_links<R: Net>(
     rt: &R,
     alloc: Global,

@@ -22,7 +22,8 @@ struct FileId {
 pub struct Listening {
     pub domain: DomainNo,
     pub listener: UnixListener,
-    // The file that was made for it. None is made where the path is empty: the system then picks a name that no file has.
+    // The file that was made for it. None is made where the path is empty: the system then picks a
+    // name that no file has.
     file: Option<FileId>,
     // A second handle of the listener. Once that is shut down, each accept fails at once.
     stopper: UnixStream,
@@ -34,8 +35,8 @@ pub struct Sockets {
     /// For each site that has a domain with this one, itself too.
     pub links: Vec<Link>,
     pub listening: Vec<Listening>,
-    // A second handle of the socket of one link. Once that is shut down, the receiver is woken. It is made when the daemon starts: at its end
-    // there may be no descriptor to spare.
+    // A second handle of the socket of one link. Once that is shut down, the receiver is woken. It
+    // is made when the daemon starts: at its end there may be no descriptor to spare.
     stopper: UnixStream,
 }
 
@@ -48,8 +49,9 @@ pub enum SocketFault<'a> {
 }
 
 impl Sockets {
-    /// Removes the files of the sockets, which were bound at these paths, and wakes the threads that wait for a socket. The files go
-    /// first: while this daemon listens, nobody takes its sockets for those of a daemon that is gone.
+    /// Removes the files of the sockets, which were bound at these paths, and wakes the threads
+    /// that wait for a socket. The files go first: while this daemon listens, nobody takes its
+    /// sockets for those of a daemon that is gone.
     pub fn stop<R: Files>(&self, rt: &R, paths: &[DomainSocket]) {
         self.remove_files(rt, paths);
         for listening in self.listening.as_slice() {
@@ -58,7 +60,8 @@ impl Sockets {
         let _ = self.stopper.shutdown(Shutdown::Both);
     }
 
-    /// Removes the files of the sockets, which were bound at these paths. What others made at a path since then stays.
+    /// Removes the files of the sockets, which were bound at these paths. What others made at a
+    /// path since then stays.
     pub fn remove_files<R: Files>(&self, rt: &R, paths: &[DomainSocket]) {
         remove_all(rt, self.listening.as_slice(), paths);
     }
@@ -73,7 +76,8 @@ fn file_at<R: Files>(rt: &R, path: &str) -> io::Result<FileId> {
     })
 }
 
-// Removes the files of sockets that were bound at the first of these paths. What others made at a path since then stays.
+// Removes the files of sockets that were bound at the first of these paths. What others made at a
+// path since then stays.
 fn remove_all<R: Files>(rt: &R, listening: &[Listening], paths: &[DomainSocket]) {
     for (one, socket) in listening.iter().zip(paths) {
         let path = socket.path.as_str();
@@ -153,8 +157,8 @@ fn is_vacant<R: Files>(rt: &R, path: &str) -> bool {
     }
 }
 
-// Binds the socket of a domain. False where it cannot be bound: then a file that was made for it is removed, and one that was
-// there stays.
+// Binds the socket of a domain. False where it cannot be bound: then a file that was made for it is
+// removed, and one that was there stays.
 fn bind_one<R: Net + Files>(rt: &R, socket: &DomainSocket, listening: &mut Vec<Listening>) -> bool {
     let path = socket.path.as_str();
     if !is_vacant(rt, path) {
@@ -172,7 +176,8 @@ fn bind_one<R: Net + Files>(rt: &R, socket: &DomainSocket, listening: &mut Vec<L
     is_bound
 }
 
-// Binds the sockets of the domains. At the first that cannot be bound, those before it are given up, and its path is answered.
+// Binds the sockets of the domains. At the first that cannot be bound, those before it are given
+// up, and its path is answered.
 fn bind_all<'a, R: Net + Files>(
     rt: &R,
     alloc: Global,

@@ -10,8 +10,8 @@ const NEAR: u64 = 100;
 
 const FAR: u64 = 20_000;
 
-// How much longer an acknowledgement may take: half of what the slowest site takes at least, and what casts may queue for. First where no
-// site is far, then where one is.
+// How much longer an acknowledgement may take: half of what the slowest site takes at least, and
+// what casts may queue for. First where no site is far, then where one is.
 const ALLOWED: u64 = 350;
 
 const ALLOWED_BY_FAR: u64 = 10_300;

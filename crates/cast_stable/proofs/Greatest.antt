@@ -1,5 +1,6 @@
 -- The number of stable messages is the greatest one, and there is one such number.
-use Rattle.std.proofs.Common.{◌≡◌, ℕ, zero, suc, ◌+◌, ◌<◌, ◌≤◌, ◌⊎◌, Bool, true, false, ◌&&◌, ◌||◌, List, [], ◌∷◌, Contains, refl, sym, ap, subst, ◌∙◌, inl, inr, arith}
+use Rattle.std.proofs.Common.{◌≡◌, ℕ, zero, suc, ◌+◌, ◌<◌, ◌≤◌, ◌⊎◌, Bool, true, false, ◌&&◌, ◌||◌}
+use Rattle.std.proofs.Common.{List, [], ◌∷◌, Contains, refl, sym, ap, subst, ◌∙◌, inl, inr, arith}
 use Rattle.std.specs.Prelude.{if◌then◌else◌, ◌≢◌}
 use Rattle.std.specs.List.{list_all}
 use Rattle.std.proofs.Math.Nat.{le-max_left, le-max_right}
@@ -48,7 +49,8 @@ module _ (acks : List Acked) (sites : List SiteNo) (g : GroupNo) (view : ℕ) (p
   next_lacks : (most n : ℕ) → (all_have (from most n + 1) ≡ false) ⊎ (from most n ≡ n + most)
   next_lacks zero n = inr (omega arith)
   next_lacks (suc most) n =
-      elim (all_have (n + 1)) as (λ b. all_have (n + 1) ≡ b → (all_have ((if b then from most (n + 1) else n) + 1) ≡ false) ⊎ ((if b then from most (n + 1) else n) ≡ n + suc most)) [
+      elim (all_have (n + 1)) as (λ b. all_have (n + 1) ≡ b →
+      (all_have ((if b then from most (n + 1) else n) + 1) ≡ false) ⊎ ((if b then from most (n + 1) else n) ≡ n + suc most)) [
         | true ↦ λ _. elim (next_lacks most (n + 1)) [
           | inl lacks ↦ inl lacks
           | inr bound ↦ inr (omega (arith, bound))
@@ -59,16 +61,22 @@ module _ (acks : List Acked) (sites : List SiteNo) (g : GroupNo) (view : ℕ) (p
   -- the number of stable messages is the greatest one
   pub stable_greatest : sites ≢ [] → IsStableUpto acks sites g view p (stable_upto acks sites g view p)
   stable_greatest some = record {
-    all = λ s k in_sites low high. each_passes (has_acked acks (uid_in g view (p, k))) sites s (counted (greatest_acked acks) 0 k low high) in_sites;
+    all = λ s k in_sites low high.
+        each_passes (has_acked acks (uid_in g view (p, k))) sites s (counted (greatest_acked acks) 0 k low high) in_sites;
     next = elim (next_lacks (greatest_acked acks) 0) [
       | inl lacks ↦ some_fails (has_acked acks (uid_in g view (p, from (greatest_acked acks) 0 + 1))) sites lacks
       | inr bound ↦ at_bound sites some bound
     ];
   }
     where
-      at_bound : (others : List SiteNo) → others ≢ [] → from (greatest_acked acks) 0 ≡ 0 + greatest_acked acks → (s : SiteNo) × Contains others s × (has_acked acks (uid_in g view (p, from (greatest_acked acks) 0 + 1)) s ≡ false)
+      at_bound : (others : List SiteNo) → others ≢ [] → from (greatest_acked acks) 0 ≡ 0 + greatest_acked acks →
+          (s : SiteNo) × Contains others s × (has_acked acks (uid_in g view (p, from (greatest_acked acks) 0 + 1)) s ≡ false)
       at_bound [] some bound = absurd (some refl)
-      at_bound (s ∷ others) some bound = (s, contains_here s others, none_beyond acks (uid_in g view (p, from (greatest_acked acks) 0 + 1)) s (omega (arith, bound)))
+      at_bound (s ∷ others) some bound = (
+        s,
+        contains_here s others,
+        none_beyond acks (uid_in g view (p, from (greatest_acked acks) 0 + 1)) s (omega (arith, bound)),
+      )
 
   -- one number is below another only if it is not the greatest
   not_below : (n m : ℕ) → IsStableUpto acks sites g view p n → IsStableUpto acks sites g view p m → n < m → ⊥

@@ -1,9 +1,11 @@
 -- The greatest count of a set, and so of the messages of a source that were received.
-use Rattle.std.proofs.Common.{◌≡◌, ℕ, zero, suc, ◌+◌, ◌-◌, ◌<◌, ◌≤◌, ◌⊎◌, max, true, Some, List, [], ◌∷◌, length, refl, sym, subst, ◌∙◌, inl, inr, arith}
+use Rattle.std.proofs.Common.{◌≡◌, ℕ, zero, suc, ◌+◌, ◌-◌, ◌<◌, ◌≤◌, ◌⊎◌, max, true, Some}
+use Rattle.std.proofs.Common.{List, [], ◌∷◌, length, refl, sym, subst, ◌∙◌, inl, inr, arith}
 use Rattle.std.specs.Prelude.{◌&&◌, ◌==◌, nat_lt, nat_le}
 use Rattle.std.specs.List.{list_any, fold, slice_get}
 use Rattle.std.proofs.Math.Nat.{le-max_left, le-max_right}
-use Rattle.std.proofs.lemmas.Bool.{and_parts, and_from, or_cases, or_left, or_right, cases_lt, lt-ltb, ltb-true, le-leb, leb-true, eq-eqb, eqb-true}
+use Rattle.std.proofs.lemmas.Bool.{and_parts, and_from, or_cases, or_left, or_right, cases_lt}
+use Rattle.std.proofs.lemmas.Bool.{lt-ltb, ltb-true, le-leb, leb-true, eq-eqb, eqb-true}
 use Rattle.std.proofs.lemmas.Option.{none-some, same_Some, slice_get_within}
 use Rattle.cast_types.specs.declared.names.Uid.{Uid}
 use Rattle.cast_types.specs.declared.source.Source.{Source}
@@ -35,7 +37,9 @@ greatest_reached a [] = inl refl
 greatest_reached a (x ∷ xs) = elim (greatest_reached (max a x) xs) [
   | inl first ↦ elim (max_cases a x) [
     | inl left ↦ inl (first ∙ left)
-    | inr right ↦ inr (or_left (x == fold max (max a x) xs) (list_any (λ y. y == fold max (max a x) xs) xs) (eq-eqb x (fold max (max a x) xs) (sym (first ∙ right))))
+    | inr right ↦
+        inr (or_left (x == fold max (max a x) xs) (list_any (λ y. y == fold max (max a x) xs) xs)
+        (eq-eqb x (fold max (max a x) xs) (sym (first ∙ right))))
   ]
   | inr later ↦ inr (or_right (x == fold max (max a x) xs) (list_any (λ y. y == fold max (max a x) xs) xs) later)
 ]
@@ -73,22 +77,26 @@ pub greatest_in : (r : Run) → 0 < greatest r → contains r (greatest r) ≡ t
 greatest_in r some = elim (greatest_reached r.upto r.above) [
   | inl first ↦
       or_left (nat_lt 0 (greatest r) && nat_le (greatest r) r.upto) (list_any (λ x. x == greatest r) r.above)
-      (and_from (nat_lt 0 (greatest r)) (nat_le (greatest r) r.upto) (lt-ltb 0 (greatest r) some) (le-leb (greatest r) r.upto (omega (arith, first))))
+      (and_from (nat_lt 0 (greatest r)) (nat_le (greatest r) r.upto) (lt-ltb 0 (greatest r) some)
+      (le-leb (greatest r) r.upto (omega (arith, first))))
   | inr further ↦ or_right (nat_lt 0 (greatest r) && nat_le (greatest r) r.upto) (list_any (λ x. x == greatest r) r.above) further
 ]
 
 -- no message of a live source that was received is beyond the last count
-pub last_most : (past : Past) (l : Acks) → Fits past l → (u : Uid) → past.is_live (source_of u) ≡ true → 0 < u.count → is_among uid_eq u past.received ≡ true → u.count ≤ last_received_in l (source_of u)
+pub last_most : (past : Past) (l : Acks) → Fits past l → (u : Uid) → past.is_live (source_of u) ≡ true → 0 < u.count →
+    is_among uid_eq u past.received ≡ true → u.count ≤ last_received_in l (source_of u)
 last_most past l fits u live positive among =
     greatest_most (received_run l (source_of u)) u.count (fits.receipts u live positive ∙ among)
 
 -- and one with that count was received, unless it is 0
-pub last_each : (past : Past) (l : Acks) → Fits past l → (s : Source) → past.is_live s ≡ true → 0 < last_received_in l s → is_among uid_eq (uid_in s.group s.view (s.process, last_received_in l s)) past.received ≡ true
+pub last_each : (past : Past) (l : Acks) → Fits past l → (s : Source) → past.is_live s ≡ true → 0 < last_received_in l s →
+    is_among uid_eq (uid_in s.group s.view (s.process, last_received_in l s)) past.received ≡ true
 last_each past l fits s live some =
     sym (fits.receipts (uid_in s.group s.view (s.process, last_received_in l s)) live some) ∙ greatest_in (received_run l s) some
 
 -- what the ledger answers means that
-pub last_means : (l : Acks) (s : Source) (last : ℕ) → last ≡ last_received_in l s → (past : Past) → Fits past l → past.is_live s ≡ true → SaysLast past.received s last
+pub last_means : (l : Acks) (s : Source) (last : ℕ) → last ≡ last_received_in l s → (past : Past) → Fits past l → past.is_live s ≡ true →
+    SaysLast past.received s last
 last_means l s last is past fits live =
     subst (λ n. SaysLast past.received s n) (sym is)
     (record {

@@ -1,5 +1,6 @@
 -- Items of a list: what all of them pass, and the least of their numbers.
-use Rattle.std.proofs.Common.{◌≡◌, ℕ, zero, suc, ◌≤◌, ◌⊎◌, min, Bool, true, false, ◌&&◌, List, [], ◌∷◌, map, Contains, refl, sym, ap, subst, ◌∙◌, inl, inr, arith}
+use Rattle.std.proofs.Common.{◌≡◌, ℕ, zero, suc, ◌≤◌, ◌⊎◌, min, Bool, true, false, ◌&&◌, List}
+use Rattle.std.proofs.Common.{[], ◌∷◌, map, Contains, refl, sym, ap, subst, ◌∙◌, inl, inr, arith}
 use Rattle.std.specs.List.{list_all, fold}
 use Rattle.std.proofs.Math.Nat.{min-le_left, min-le_right}
 use Rattle.std.proofs.lemmas.Bool.{and_parts, cases_Bool, cases_lt}
@@ -40,7 +41,8 @@ module _ {A : Type 0} (f : A → ℕ) where
   pub least_each : (a : ℕ) (xs : List A) (x : A) → Contains xs x → fold min a (map f xs) ≤ f x
   least_each a [] x in_xs = absurd (contains_none x in_xs)
   least_each a (y ∷ ys) x in_xs = elim (contains_cases x y ys in_xs) [
-    | inl same ↦ subst (λ z. fold min (min a (f y)) (map f ys) ≤ f z) same (omega (arith, least_first (min a (f y)) ys, min-le_right a (f y)))
+    | inl same ↦
+        subst (λ z. fold min (min a (f y)) (map f ys) ≤ f z) same (omega (arith, least_first (min a (f y)) ys, min-le_right a (f y)))
     | inr later ↦ least_each (min a (f y)) ys x later
   ]
 

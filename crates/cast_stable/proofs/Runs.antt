@@ -1,11 +1,13 @@
 -- Sets of counts as runs: what a further count changes, and that the one after the run is not in the set.
-use Rattle.std.proofs.Common.{◌≡◌, ℕ, suc, ◌+◌, ◌<◌, ◌≤◌, Bool, true, false, ◌&&◌, ◌||◌, List, [], ◌∷◌, drop, Some, unwrap_or, Less, Equal, Greater, refl, sym, ap, subst, ◌∙◌, inl, inr, arith}
+use Rattle.std.proofs.Common.{◌≡◌, ℕ, suc, ◌+◌, ◌<◌, ◌≤◌, Bool, true, false, ◌&&◌, ◌||◌, List, [], ◌∷◌, drop}
+use Rattle.std.proofs.Common.{Some, unwrap_or, Less, Equal, Greater, refl, sym, ap, subst, ◌∙◌, inl, inr, arith}
 use Rattle.std.specs.Prelude.{◌==◌, nat_lt, nat_le, if◌then◌else◌}
 use Rattle.std.specs.Ordering.{nat_cmp}
 use Rattle.std.specs.Cmp.{nat_cmp_is}
 use Rattle.std.specs.List.{list_any, slice_get}
 use Rattle.std.proofs.Math.Bool.{or_assoc, or_comm}
-use Rattle.std.proofs.lemmas.Bool.{and_parts, and_from, or_cases, or_left, or_right, cases_lt, cases_eq, lt-ltb, ltb-true, le-leb, leb-true, leb-false, lt-leb, eq-eqb, eqb-true, eqb-false, false_from_ne_true}
+use Rattle.std.proofs.lemmas.Bool.{and_parts, and_from, or_cases, or_left, or_right, cases_lt, cases_eq, lt-ltb, ltb-true}
+use Rattle.std.proofs.lemmas.Bool.{le-leb, leb-true, leb-false, lt-leb, eq-eqb, eqb-true, eqb-false, false_from_ne_true}
 use Rattle.cast_types.specs.Sets.{with_item, at_order}
 use Rattle.cast_stable.specs.Runs.{Run, rises_above, is_run, contains, run_after, absorb, insert_count}
 use Rattle.cast_types.proofs.Bools.{same_bools}
@@ -38,8 +40,10 @@ none_below n k (m ∷ ms) h le =
 -- the count after the run is not in the set
 pub next_apart : (r : Run) → is_run r ≡ true → contains r (r.upto + 1) ≡ false
 next_apart r h =
-    let beyond : nat_le (r.upto + 1) r.upto ≡ false = false_from_ne_true (nat_le (r.upto + 1) r.upto) (λ e. let le = leb-true (r.upto + 1) r.upto e in omega (arith, le)) in
-    let outside : (nat_lt 0 (r.upto + 1) && nat_le (r.upto + 1) r.upto) ≡ false = ap (λ b. nat_lt 0 (r.upto + 1) && b) beyond ∙ and_false (nat_lt 0 (r.upto + 1)) in
+    let beyond : nat_le (r.upto + 1) r.upto ≡ false =
+    false_from_ne_true (nat_le (r.upto + 1) r.upto) (λ e. let le = leb-true (r.upto + 1) r.upto e in omega (arith, le)) in
+    let outside : (nat_lt 0 (r.upto + 1) && nat_le (r.upto + 1) r.upto) ≡ false =
+    ap (λ b. nat_lt 0 (r.upto + 1) && b) beyond ∙ and_false (nat_lt 0 (r.upto + 1)) in
     let apart = none_below (r.upto + 1) (r.upto + 1) r.above h (omega arith) in
     λ i. outside i || apart i
 
@@ -76,9 +80,11 @@ with_item_rises n m (x ∷ ms) lt h =
     elim (cases_lt m x) [
       | inl below ↦
           subst (λ o. rises_above n (at_order o (m ∷ x ∷ ms) (x ∷ ms) (x ∷ with_item nat_cmp m ms)) ≡ true) (nat_cmp_is m x Less below)
-          (and_from (nat_lt n m) (nat_lt m x && rises_above x ms) (lt-ltb n m lt) (and_from (nat_lt m x) (rises_above x ms) (lt-ltb m x below) parts.1))
+          (and_from (nat_lt n m) (nat_lt m x && rises_above x ms) (lt-ltb n m lt)
+          (and_from (nat_lt m x) (rises_above x ms) (lt-ltb m x below) parts.1))
       | inr above ↦ elim (cases_eq m x) [
-        | inl same ↦ subst (λ o. rises_above n (at_order o (m ∷ x ∷ ms) (x ∷ ms) (x ∷ with_item nat_cmp m ms)) ≡ true) (nat_cmp_is m x Equal same) h
+        | inl same ↦
+            subst (λ o. rises_above n (at_order o (m ∷ x ∷ ms) (x ∷ ms) (x ∷ with_item nat_cmp m ms)) ≡ true) (nat_cmp_is m x Equal same) h
         | inr other ↦
             let over : x < m = omega (arith, above, other) in
             subst (λ o. rises_above n (at_order o (m ∷ x ∷ ms) (x ∷ ms) (x ∷ with_item nat_cmp m ms)) ≡ true) (nat_cmp_is m x Greater over)
@@ -89,15 +95,18 @@ with_item_rises n m (x ∷ ms) lt h =
 -- a further count leaves a run
 pub inserted_is : (r : Run) (m : ℕ) → is_run r ≡ true → is_run (insert_count r m) ≡ true
 inserted_is r m h =
-    elim (nat_le m r.upto) as (λ b. nat_le m r.upto ≡ b → is_run (if b then r else if m == r.upto + 1 then absorb m r.above else record r { above = with_item nat_cmp m r.above }) ≡ true) [
+    elim (nat_le m r.upto) as (λ b. nat_le m r.upto ≡ b →
+    is_run (if b then r else if m == r.upto + 1 then absorb m r.above else record r { above = with_item nat_cmp m r.above }) ≡ true) [
       | true ↦ λ _. h
-      | false ↦ λ big. elim (m == r.upto + 1) as (λ b. (m == r.upto + 1) ≡ b → is_run (if b then absorb m r.above else record r { above = with_item nat_cmp m r.above }) ≡ true) [
-        | true ↦ λ same. absorbed_is m r.above (subst (λ k. rises_above k r.above ≡ true) (sym (eqb-true m (r.upto + 1) same)) h)
-        | false ↦ λ other.
-            let apart = eqb-false m (r.upto + 1) other in
-            let over = leb-false m r.upto big in
-            with_item_rises (r.upto + 1) m r.above (omega (arith, apart, over)) h
-      ] refl
+      | false ↦ λ big.
+          elim (m == r.upto + 1) as (λ b. (m == r.upto + 1) ≡ b →
+          is_run (if b then absorb m r.above else record r { above = with_item nat_cmp m r.above }) ≡ true) [
+            | true ↦ λ same. absorbed_is m r.above (subst (λ k. rises_above k r.above ≡ true) (sym (eqb-true m (r.upto + 1) same)) h)
+            | false ↦ λ other.
+                let apart = eqb-false m (r.upto + 1) other in
+                let over = leb-false m r.upto big in
+                with_item_rises (r.upto + 1) m r.above (omega (arith, apart, over)) h
+          ] refl
     ] refl
 
 -- one count more at the end of a run
@@ -110,7 +119,9 @@ range_grows n k = same_bools (nat_lt 0 k && nat_le k (n + 1)) ((nat_lt 0 k && na
         let le = leb-true k (n + 1) parts.1 in
         elim (cases_eq (n + 1) k) [
           | inl same ↦ or_right (nat_lt 0 k && nat_le k n) (n + 1 == k) (eq-eqb (n + 1) k same)
-          | inr other ↦ or_left (nat_lt 0 k && nat_le k n) (n + 1 == k) (and_from (nat_lt 0 k) (nat_le k n) parts.0 (le-leb k n (omega (arith, le, other))))
+          | inr other ↦
+              or_left (nat_lt 0 k && nat_le k n) (n + 1 == k)
+              (and_from (nat_lt 0 k) (nat_le k n) parts.0 (le-leb k n (omega (arith, le, other))))
         ]
 
     back : ((nat_lt 0 k && nat_le k n) || (n + 1 == k)) ≡ true → (nat_lt 0 k && nat_le k (n + 1)) ≡ true
@@ -128,7 +139,8 @@ range_grows n k = same_bools (nat_lt 0 k && nat_le k (n + 1)) ((nat_lt 0 k && na
 contains_absorbed : (n k : ℕ) (ms : List ℕ) → contains (absorb n ms) k ≡ ((nat_lt 0 k && nat_le k n) || list_any (λ x. x == k) ms)
 contains_absorbed n k [] = refl
 contains_absorbed n k (m ∷ ms) =
-    elim (m == n + 1) as (λ b. (m == n + 1) ≡ b → contains (absorbing n m ms b) k ≡ ((nat_lt 0 k && nat_le k n) || ((m == k) || list_any (λ x. x == k) ms))) [
+    elim (m == n + 1)
+    as (λ b. (m == n + 1) ≡ b → contains (absorbing n m ms b) k ≡ ((nat_lt 0 k && nat_le k n) || ((m == k) || list_any (λ x. x == k) ms))) [
       | true ↦ λ next.
           let same = eqb-true m (n + 1) next in
           contains_absorbed m k ms
@@ -149,11 +161,13 @@ with_item_any m k (x ∷ ms) =
           ∙ ap (λ b. ((x == k) || list_any (λ y. y == k) ms) || b) (eqb_sym m k)
       | inr above ↦ elim (cases_eq m x) [
         | inl same ↦
-            ap (λ o. list_any (λ y. y == k) (at_order o (m ∷ x ∷ ms) (x ∷ ms) (x ∷ with_item nat_cmp m ms))) (sym (nat_cmp_is m x Equal same))
+            ap (λ o. list_any (λ y. y == k) (at_order o (m ∷ x ∷ ms) (x ∷ ms) (x ∷ with_item nat_cmp m ms)))
+            (sym (nat_cmp_is m x Equal same))
             ∙ or_again (x == k) (list_any (λ y. y == k) ms)
             ∙ ap (λ b. ((x == k) || list_any (λ y. y == k) ms) || b) (eqb_sym x k ∙ ap (λ j. k == j) (sym same))
         | inr other ↦
-            ap (λ o. list_any (λ y. y == k) (at_order o (m ∷ x ∷ ms) (x ∷ ms) (x ∷ with_item nat_cmp m ms))) (sym (nat_cmp_is m x Greater (omega (arith, above, other))))
+            ap (λ o. list_any (λ y. y == k) (at_order o (m ∷ x ∷ ms) (x ∷ ms) (x ∷ with_item nat_cmp m ms)))
+            (sym (nat_cmp_is m x Greater (omega (arith, above, other))))
             ∙ ap (λ b. (x == k) || b) (with_item_any m k ms)
             ∙ sym (or_assoc (x == k) (list_any (λ y. y == k) ms) (k == m))
       ]
@@ -162,26 +176,32 @@ with_item_any m k (x ∷ ms) =
 -- a set with a count in it has that and what it had
 pub contains_inserted : (r : Run) (m k : ℕ) → 0 < k → contains (insert_count r m) k ≡ (contains r k || (k == m))
 contains_inserted r m k positive =
-    elim (nat_le m r.upto) as (λ b. nat_le m r.upto ≡ b → contains (if b then r else if m == r.upto + 1 then absorb m r.above else record r { above = with_item nat_cmp m r.above }) k ≡ (contains r k || (k == m))) [
-      | true ↦ λ within. same_bools (contains r k) (contains r k || (k == m)) (or_left (contains r k) (k == m)) (λ h. elim (or_cases (contains r k) (k == m) h) [
-        | inl before ↦ before
-        | inr now ↦
-            let same = eqb-true k m now in
-            let le = leb-true m r.upto within in
-            or_left (nat_lt 0 k && nat_le k r.upto) (list_any (λ x. x == k) r.above) (and_from (nat_lt 0 k) (nat_le k r.upto) (lt-ltb 0 k positive) (le-leb k r.upto (omega (arith, same, le))))
-      ])
-      | false ↦ λ big. elim (m == r.upto + 1) as (λ b. (m == r.upto + 1) ≡ b → contains (if b then absorb m r.above else record r { above = with_item nat_cmp m r.above }) k ≡ (contains r k || (k == m))) [
-        | true ↦ λ next.
-            let same = eqb-true m (r.upto + 1) next in
-            contains_absorbed m k r.above
-            ∙ ap (λ j. (nat_lt 0 k && nat_le k j) || list_any (λ x. x == k) r.above) same
-            ∙ ap (λ b. b || list_any (λ x. x == k) r.above) (range_grows r.upto k)
-            ∙ or_swap (nat_lt 0 k && nat_le k r.upto) (r.upto + 1 == k) (list_any (λ x. x == k) r.above)
-            ∙ ap (λ b. contains r k || b) (eqb_sym (r.upto + 1) k ∙ ap (λ j. k == j) (sym same))
-        | false ↦ λ other.
-            ap (λ b. (nat_lt 0 k && nat_le k r.upto) || b) (with_item_any m k r.above)
-            ∙ sym (or_assoc (nat_lt 0 k && nat_le k r.upto) (list_any (λ x. x == k) r.above) (k == m))
-      ] refl
+    elim (nat_le m r.upto) as (λ b. nat_le m r.upto ≡ b → contains (if b then r else if m == r.upto + 1 then absorb m r.above
+    else record r { above = with_item nat_cmp m r.above }) k ≡ (contains r k || (k == m))) [
+      | true ↦ λ within.
+          same_bools (contains r k) (contains r k || (k == m)) (or_left (contains r k) (k == m))
+          (λ h. elim (or_cases (contains r k) (k == m) h) [
+            | inl before ↦ before
+            | inr now ↦
+                let same = eqb-true k m now in
+                let le = leb-true m r.upto within in
+                or_left (nat_lt 0 k && nat_le k r.upto) (list_any (λ x. x == k) r.above)
+                (and_from (nat_lt 0 k) (nat_le k r.upto) (lt-ltb 0 k positive) (le-leb k r.upto (omega (arith, same, le))))
+          ])
+      | false ↦ λ big.
+          elim (m == r.upto + 1) as (λ b. (m == r.upto + 1) ≡ b →
+          contains (if b then absorb m r.above else record r { above = with_item nat_cmp m r.above }) k ≡ (contains r k || (k == m))) [
+            | true ↦ λ next.
+                let same = eqb-true m (r.upto + 1) next in
+                contains_absorbed m k r.above
+                ∙ ap (λ j. (nat_lt 0 k && nat_le k j) || list_any (λ x. x == k) r.above) same
+                ∙ ap (λ b. b || list_any (λ x. x == k) r.above) (range_grows r.upto k)
+                ∙ or_swap (nat_lt 0 k && nat_le k r.upto) (r.upto + 1 == k) (list_any (λ x. x == k) r.above)
+                ∙ ap (λ b. contains r k || b) (eqb_sym (r.upto + 1) k ∙ ap (λ j. k == j) (sym same))
+            | false ↦ λ other.
+                ap (λ b. (nat_lt 0 k && nat_le k r.upto) || b) (with_item_any m k r.above)
+                ∙ sym (or_assoc (nat_lt 0 k && nat_le k r.upto) (list_any (λ x. x == k) r.above) (k == m))
+          ] refl
     ] refl
 
 -- the same of what the code keeps of a set, once a count was put into it
@@ -194,14 +214,20 @@ still_run r s m same h = subst (λ t. is_run t ≡ true) (sym same) (inserted_is
 -- a count beyond the run goes on with it, or stands apart from it
 module _ (r : Run) (m : ℕ) (beyond : r.upto < m) where
   past_run : insert_count r m ≡ (if m == r.upto + 1 then absorb m r.above else record r { above = with_item nat_cmp m r.above })
-  past_run = ap (λ b. if b then r else if m == r.upto + 1 then absorb m r.above else record r { above = with_item nat_cmp m r.above }) (lt-leb m r.upto beyond)
+  past_run =
+      ap (λ b. if b then r else if m == r.upto + 1 then absorb m r.above else record r { above = with_item nat_cmp m r.above })
+      (lt-leb m r.upto beyond)
 
-  pub inserted_next : (upto : ℕ) (above : List ℕ) → m ≡ r.upto + 1 → upto ≡ (absorb m r.above).upto → above ≡ (absorb m r.above).above → record { upto = upto; above = above } ≡ insert_count r m
+  pub inserted_next : (upto : ℕ) (above : List ℕ) → m ≡ r.upto + 1 → upto ≡ (absorb m r.above).upto → above ≡ (absorb m r.above).above →
+      record { upto = upto; above = above } ≡ insert_count r m
   inserted_next upto above next last rest =
       (λ i. record { upto = last i; above = rest i })
-      ∙ sym (past_run ∙ ap (λ b. if b then absorb m r.above else record r { above = with_item nat_cmp m r.above }) (eq-eqb m (r.upto + 1) next))
+      ∙ sym (past_run
+      ∙ ap (λ b. if b then absorb m r.above else record r { above = with_item nat_cmp m r.above }) (eq-eqb m (r.upto + 1) next))
 
-  pub inserted_apart : (above : List ℕ) → (m ≡ r.upto + 1 → ⊥) → above ≡ with_item nat_cmp m r.above → record { upto = r.upto; above = above } ≡ insert_count r m
+  pub inserted_apart : (above : List ℕ) → (m ≡ r.upto + 1 → ⊥) → above ≡ with_item nat_cmp m r.above →
+      record { upto = r.upto; above = above } ≡ insert_count r m
   inserted_apart above apart is =
       (λ i. record { upto = r.upto; above = is i })
-      ∙ sym (past_run ∙ ap (λ b. if b then absorb m r.above else record r { above = with_item nat_cmp m r.above }) (false_from_ne_true (m == r.upto + 1) (λ e. apart (eqb-true m (r.upto + 1) e))))
+      ∙ sym (past_run ∙ ap (λ b. if b then absorb m r.above else record r { above = with_item nat_cmp m r.above })
+      (false_from_ne_true (m == r.upto + 1) (λ e. apart (eqb-true m (r.upto + 1) e))))

@@ -27,7 +27,8 @@ witness_exact a b h =
     (exact_pairs source_cmp site_cmp source_exact site_exact (a.source, a.site) (b.source, b.site) h)
 
 -- what a site acknowledged of a source is kept while the source's view has not ended
-pub find_acked : (g : GroupNo) (number : ℕ) (s : Source) (from : SiteNo) (es : List (Witness × Run)) → find witness_cmp (witness s from) (acked_but_ended g number es) ≡ cond (not (is_ended g number s)) (find witness_cmp (witness s from) es) None
+pub find_acked : (g : GroupNo) (number : ℕ) (s : Source) (from : SiteNo) (es : List (Witness × Run)) → find witness_cmp (witness s from)
+    (acked_but_ended g number es) ≡ cond (not (is_ended g number s)) (find witness_cmp (witness s from) es) None
 find_acked g number s from es =
     find-where_key witness_cmp (λ w. not (is_ended g number w.source)) (witness s from)
     (λ w tie. ap (λ (x : Witness). not (is_ended g number x.source)) (sym (witness_exact (witness s from) w tie))) es
@@ -45,6 +46,8 @@ module _ {K V : Type 0} {R : K → K → Ordering} (total : IsTotalOrder R) wher
   put_here es q k v d same =
       ap (λ (o : Option V). unwrap_or o d) (find-put R total q k v es ∙ ap (λ b. cond b (Some v) (find R q es)) (tie_self total q k same))
 
-  pub put_elsewhere : CmpEqualImpliesEq R → (es : List (K × V)) (q k : K) (v d : V) → (q ≡ k → ⊥) → unwrap_or (find R q (put R k v es)) d ≡ unwrap_or (find R q es) d
+  pub put_elsewhere : CmpEqualImpliesEq R → (es : List (K × V)) (q k : K) (v d : V) → (q ≡ k → ⊥) →
+      unwrap_or (find R q (put R k v es)) d ≡ unwrap_or (find R q es) d
   put_elsewhere exact es q k v d differ =
-      ap (λ (o : Option V). unwrap_or o d) (find-put R total q k v es ∙ ap (λ b. cond b (Some v) (find R q es)) (tie_other exact q k differ))
+      ap (λ (o : Option V). unwrap_or o d)
+      (find-put R total q k v es ∙ ap (λ b. cond b (Some v) (find R q es)) (tie_other exact q k differ))

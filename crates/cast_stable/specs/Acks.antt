@@ -1,5 +1,6 @@
 -- What a site keeps of receipts, as contracts see it, and what each call does to it.
-use Rattle.std.specs.Prelude.{ℕ, Bool, true, not, nat_le, max, min, if◌then◌else◌, List, [], ◌∷◌, map, filter, unwrap_or}
+use Rattle.std.specs.Prelude.{ℕ, Bool, true, not, nat_le, max, min, if◌then◌else◌}
+use Rattle.std.specs.Prelude.{List, [], ◌∷◌, map, filter, unwrap_or}
 use Rattle.std.specs.List.{reduce}
 use Rattle.std.specs.FinMap.Entries.{find, put}
 use Rattle.cast_types.specs.declared.names.SiteNo.{SiteNo}
@@ -12,8 +13,8 @@ use Rattle.cast_stable.specs.declared.witness.Witness.{Witness}
 use Rattle.cast_stable.specs.Runs.{Run, no_counts, contains, greatest, insert_count}
 use Rattle.cast_stable.specs.Witnesses.{witness_cmp, witness}
 
--- the site itself, the other sites of each group's view, the counts received of each source, those that each site
--- acknowledged, and the count to which each source was told to be stable
+-- the site itself, the other sites of each group's view, the counts received of each source, those
+-- that each site acknowledged, and the count to which each source was told to be stable
 pub record Acks : Type 0 where
   pub here : SiteNo
   pub others : List (GroupNo × List SiteNo)
@@ -83,12 +84,20 @@ told_ledger l g number sites =
 
 abbrev pub received_ledger : Acks → Uid → Acks
 received_ledger l u =
-    record l { received = put source_cmp (source_of u) (insert_count (received_run l (source_of u)) u.count) l.received }
+    record l {
+      received = put source_cmp (source_of u)
+          (insert_count (received_run l (source_of u)) u.count) l.received;
+    }
 
 abbrev pub acked_ledger : Acks → SiteNo → Uid → Acks
 acked_ledger l from u =
-    record l { acked = put witness_cmp (witness (source_of u) from) (insert_count (acked_run l (source_of u) from) u.count) l.acked }
+    record l {
+      acked = put witness_cmp (witness (source_of u) from)
+          (insert_count (acked_run l (source_of u) from) u.count) l.acked;
+    }
 
 abbrev pub learnt_ledger : Acks → Uid → Acks
 learnt_ledger l u =
-    record l { told = put source_cmp (source_of u) (max (told_count l (source_of u)) u.count) l.told }
+    record l {
+      told = put source_cmp (source_of u) (max (told_count l (source_of u)) u.count) l.told;
+    }

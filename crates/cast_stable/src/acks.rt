@@ -1,4 +1,5 @@
-ghost use Rattle.std.specs.Prelude.{◌≡◌, ◌≢◌, ◌<◌, true, [], OnOk, OnErr, IfOk, not, ◌&&◌, unwrap_or, map, min};
+ghost use Rattle.std.specs.Prelude.{◌≡◌, ◌≢◌, ◌<◌, true, [], OnOk, OnErr};
+ghost use Rattle.std.specs.Prelude.{IfOk, not, ◌&&◌, unwrap_or, map, min};
 ghost use Rattle.std.specs.List.{reduce};
 ghost use Rattle.std.specs.FinMap.Entries.{find, put};
 ghost use Rattle.std.specs.Option.{option_copied};
@@ -8,7 +9,10 @@ ghost use Rattle.cast_types.specs.Sources.{source, but_ended, source_of};
 ghost use Rattle.cast_stable.specs.Stable.{has_acked, stable_upto};
 ghost use Rattle.cast_stable.specs.Fits.{upto_by, is_stable_by, WhileLive, SaysLast};
 ghost use Rattle.cast_stable.specs.Runs.{no_counts, contains, insert_count};
-ghost use Rattle.cast_stable.specs.Acks.{new_ledger, others_in, acked_run, acked_but_ended, told_count, told_ledger, received_ledger, acked_ledger, learnt_ledger, is_received_in, last_received_in, has_acked_in, upto_in, is_stable_in};
+ghost use Rattle.cast_stable.specs.Acks.{new_ledger, others_in, acked_run, acked_but_ended};
+ghost use Rattle.cast_stable.specs.Acks.{told_count, told_ledger, received_ledger};
+ghost use Rattle.cast_stable.specs.Acks.{acked_ledger, learnt_ledger, is_received_in};
+ghost use Rattle.cast_stable.specs.Acks.{last_received_in, has_acked_in, upto_in, is_stable_in};
 
 use crate::counted::Counted;
 use crate::witness::Witness;
@@ -17,9 +21,9 @@ use std::alloc::Global;
 use std::collections::BTreeMap;
 use std::marker::Model;
 
-/// What a site keeps of who received which message: what it received itself, what other sites acknowledged, and what
-/// it was told to be stable. Contracts see the `Acks`. What it answers means what happened, for messages of live sources:
-/// those of which somebody may still ask.
+/// What a site keeps of who received which message: what it received itself, what other sites
+/// acknowledged, and what it was told to be stable. Contracts see the `Acks`. What it answers means
+/// what happened, for messages of live sources: those of which somebody may still ask.
 #[derive(Drop)]
 pub struct Acks {
     alloc: Global,
@@ -35,7 +39,13 @@ impl Model for Acks {
 
     ghost Value = { Acks };
 
-    ghost view = { λ a. record { here = a.here; others = a.others; received = a.received.entries; acked = a.acked.entries; told = a.told.entries } };
+    ghost view = { λ a. record {
+      here = a.here;
+      others = a.others;
+      received = a.received.entries;
+      acked = a.acked.entries;
+      told = a.told.entries;
+    } };
 }
 
 impl Acks {
@@ -67,8 +77,8 @@ impl Acks {
         })
     }
 
-    /// Takes in the other sites of a group's new view, of this number. What was received, acknowledged and told of the
-    /// views before it is forgotten. `NoMemory` changes nothing.
+    /// Takes in the other sites of a group's new view, of this number. What was received,
+    /// acknowledged and told of the views before it is forgotten. `NoMemory` changes nothing.
     pub fn tell(
         &mut self,
         group: GroupNo,
@@ -96,16 +106,18 @@ impl Acks {
     /// Whether this site received a message. Takes no memory.
     pub fn is_received(&self, id: Uid) -> bool
         ensures value { result ≡ is_received_in self.now id }
-        ensures meaning { WhileLive self.now (source_of id) (λ past. 0 < id.count → result ≡ is_among uid_eq id past.received) }
+        ensures meaning { WhileLive self.now (source_of id)
+            (λ past. 0 < id.count → result ≡ is_among uid_eq id past.received) }
     {
         contains(self.received.get(&source_of(id)), id.count)
     }
 
-    /// The greatest count of the messages of a process in a view of a group that this site received, 0 where it
-    /// received none. Takes no memory.
+    /// The greatest count of the messages of a process in a view of a group that this site
+    /// received, 0 where it received none. Takes no memory.
     pub fn last_received(&self, group: GroupNo, view: u32, process: Proc) -> u32
         ensures value { result ≡ last_received_in self.now (source group view process) }
-        ensures meaning { WhileLive self.now (source group view process) (λ past. SaysLast past.received (source group view process) result) }
+        ensures meaning { WhileLive self.now (source group view process)
+            (λ past. SaysLast past.received (source group view process) result) }
     {
         match self.received.get(&Source {
             group,
@@ -132,7 +144,8 @@ impl Acks {
     /// Whether a site acknowledged a message. Takes no memory.
     pub fn has_acked(&self, from: SiteNo, id: Uid) -> bool
         ensures value { result ≡ has_acked_in self.now from id }
-        ensures meaning { WhileLive self.now (source_of id) (λ past. 0 < id.count → result ≡ has_acked past.acks id from) }
+        ensures meaning { WhileLive self.now (source_of id)
+            (λ past. 0 < id.count → result ≡ has_acked past.acks id from) }
     {
         let witness = Witness {
             source: source_of(id),
@@ -141,18 +154,20 @@ impl Acks {
         contains(self.acked.get(&witness), id.count)
     }
 
-    /// How many messages of the id's process in its view are stable: the least over the other sites of the group's
-    /// view of the counts that each acknowledged without a gap, 0 where there is no other site. Takes no memory.
+    /// How many messages of the id's process in its view are stable: the least over the other sites
+    /// of the group's view of the counts that each acknowledged without a gap, 0 where there is no
+    /// other site. Takes no memory.
     pub fn stable_upto(&self, id: Uid) -> u32
         ensures value { result ≡ upto_in self.now id }
-        ensures meaning { WhileLive self.now (source_of id) (λ past. past.others id.group ≢ [] → result ≡ upto_by past id) }
+        ensures meaning { WhileLive self.now (source_of id)
+            (λ past. past.others id.group ≢ [] → result ≡ upto_by past id) }
     {
         self.least_acked(source_of(id), self.others(id.group))
             .unwrap_or(0)
     }
 
-    /// Takes in that the site of the id's process told its messages to this count to be stable. `NoMemory` changes
-    /// nothing.
+    /// Takes in that the site of the id's process told its messages to this count to be stable.
+    /// `NoMemory` changes nothing.
     pub fn learn_stable(&mut self, id: Uid) -> Result<(), NoMemory>
         ensures ok { OnOk result (self.new ≡ learnt_ledger self.old id) }
         ensures err { OnErr result (self.new ≡ self.old) }
@@ -167,11 +182,13 @@ impl Acks {
         Ok(())
     }
 
-    /// Whether a message is known to be stable here: at once in a view of this site alone; a message of this site by
-    /// the acknowledgements of all other sites; another by what its site told. Takes no memory.
+    /// Whether a message is known to be stable here: at once in a view of this site alone; a
+    /// message of this site by the acknowledgements of all other sites; another by what its site
+    /// told. Takes no memory.
     pub fn is_stable(&self, id: Uid) -> bool
         ensures value { result ≡ is_stable_in self.now id }
-        ensures meaning { WhileLive self.now (source_of id) (λ past. 0 < id.count → result ≡ is_stable_by past id) }
+        ensures meaning { WhileLive self.now (source_of id)
+            (λ past. 0 < id.count → result ≡ is_stable_by past id) }
     {
         if self.others(id.group).is_empty() {
             return true;
@@ -186,12 +203,14 @@ impl Acks {
     /// memory.
     pub fn may_free(&self, id: Uid, is_awaited: bool) -> bool
         ensures value { result ≡ (is_stable_in self.now id && not is_awaited) }
-        ensures meaning { WhileLive self.now (source_of id) (λ past. 0 < id.count → result ≡ (is_stable_by past id && not is_awaited)) }
+        ensures meaning { WhileLive self.now (source_of id)
+            (λ past. 0 < id.count → result ≡ (is_stable_by past id && not is_awaited)) }
     {
         self.is_stable(id) && !is_awaited
     }
 
-    /// The other sites of a group's view, none of a group of which no view was told. Takes no memory.
+    /// The other sites of a group's view, none of a group of which no view was told. Takes no
+    /// memory.
     pub fn others(&self, group: GroupNo) -> &[SiteNo]
         ensures { result.now ≡ others_in self.now group }
     {
@@ -213,7 +232,8 @@ impl Acks {
 
     // The least count to which these sites acknowledged a source without a gap, `None` of no site.
     fn least_acked(&self, source: Source, sites: &[SiteNo]) -> Option<u32>
-        ensures { result ≡ reduce min (map (λ site. (acked_run self.now source site).upto) sites.now) }
+        ensures { result
+            ≡ reduce min (map (λ site. (acked_run self.now source site).upto) sites.now) }
     {
         sites
             .iter()
@@ -263,7 +283,9 @@ fn insert_count<K: Ord + Drop>(
     key: K,
     count: u32,
 ) -> Result<(), NoMemory>
-    ensures ok { OnOk result (runs.new.entries ≡ put K.cmp key (insert_count (unwrap_or (find K.cmp key runs.old.entries) no_counts) count) runs.old.entries) }
+    ensures ok { OnOk result (runs.new.entries
+        ≡ put K.cmp key (insert_count (unwrap_or (find K.cmp key runs.old.entries) no_counts) count)
+        runs.old.entries) }
     ensures err { OnErr result (runs.new.entries ≡ runs.old.entries) }
 {
     match runs.get_mut(&key) {

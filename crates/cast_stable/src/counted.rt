@@ -1,4 +1,5 @@
-ghost use Rattle.std.specs.Prelude.{◌≡◌, ℕ, ◌+◌, ◌<◌, ◌≤◌, ◌||◌, ◌==◌, true, false, OnOk, OnErr, IfOk};
+ghost use Rattle.std.specs.Prelude.{◌≡◌, ℕ, ◌+◌, ◌<◌, ◌≤◌, ◌||◌, ◌==◌};
+ghost use Rattle.std.specs.Prelude.{true, false, OnOk, OnErr, IfOk};
 ghost use Rattle.cast_stable.specs.Runs.{no_counts, contains, greatest, absorb, insert_count};
 
 use cast_types::NoMemory;
@@ -50,7 +51,8 @@ impl Counted {
     /// Puts a count into the set. Count 0 changes nothing, and neither does `NoMemory`.
     pub fn insert(&mut self, count: u32) -> Result<(), NoMemory>
         ensures ok { OnOk result (self.new ≡ insert_count self.old count) }
-        ensures meaning { OnOk result ((m : ℕ) → 0 < m → contains self.new m ≡ (contains self.old m || m == count)) }
+        ensures meaning { OnOk result
+            ((m : ℕ) → 0 < m → contains self.new m ≡ (contains self.old m || m == count)) }
         ensures err { OnErr result (self.new ≡ self.old) }
     {
         if count <= self.upto {

@@ -1,5 +1,6 @@
 ghost use Rattle.std.specs.Prelude.{◌<◌, ◌≡◌, true, false, None, IfOk, OnOk, OnErr};
-ghost use Rattle.cast_domain.specs.Records.{number_of, is_halted, records_beside, records_in, KeepsBeside, Makes};
+ghost use Rattle.cast_domain.specs.Records.{number_of, is_halted, records_beside};
+ghost use Rattle.cast_domain.specs.Records.{records_in, KeepsBeside, Makes};
 ghost use Rattle.cast_domain.specs.Shared.{no_part, part_of, LeavesOthers};
 ghost use Rattle.cast_domain.specs.Shows.{groups_shown};
 ghost use Rattle.cast_events.specs.Events.{domain_of};
@@ -23,22 +24,26 @@ use cast_rest::rest::rest;
 use cast_stable::Acks;
 use cast_types::{NoMemory, Refusal, Source, source_of};
 
-/// Makes one step: the event, and then what follows from it until nothing changes. What is sent and delivered is
-/// added to `outs`. Of what is `shared` the parts of other domains stay as they are. `NoMemory` halts the domain: it
-/// gives back all that it kept, owed and had to push, and from then on answers each event `Refused(Halted)`.
+/// Makes one step: the event, and then what follows from it until nothing changes. What is sent and
+/// delivered is added to `outs`. Of what is `shared` the parts of other domains stay as they are.
+/// `NoMemory` halts the domain: it gives back all that it kept, owed and had to push, and from then
+/// on answers each event `Refused(Halted)`.
 pub fn step(
     domain: &mut Domain,
     shared: &mut Shared,
     event: &Event,
     outs: &mut Outs,
 ) -> Result<Taken, NoMemory>
-    ensures unnamed { is_halted domain.old ≡ false → domain_of event.now ≡ None → IfOk result (λ t. t ≡ Taken.Nothing) }
+    ensures unnamed { is_halted domain.old ≡ false → domain_of event.now ≡ None
+        → IfOk result (λ t. t ≡ Taken.Nothing) }
     ensures number { number_of domain.new ≡ number_of domain.old }
     ensures running { is_halted domain.old ≡ false → OnOk result (is_halted domain.new ≡ false) }
     ensures halts { OnErr result (is_halted domain.new ≡ true) }
     ensures leaves { OnErr result (part_of (number_of domain.old) shared.new ≡ no_part) }
-    ensures halted { is_halted domain.old ≡ true → IsRefusedBeside domain.old shared.old outs.old domain.new shared.new outs.new result }
-    ensures steps { is_halted domain.old ≡ false → IfOk result (IsSteppedBeside domain.old shared.old outs.old event.now domain.new shared.new outs.new) }
+    ensures halted { is_halted domain.old ≡ true
+        → IsRefusedBeside domain.old shared.old outs.old domain.new shared.new outs.new result }
+    ensures steps { is_halted domain.old ≡ false → IfOk result
+        (IsSteppedBeside domain.old shared.old outs.old event.now domain.new shared.new outs.new) }
     ensures nothing { OnErr result (outs.new ≡ outs.old) }
     ensures others { LeavesOthers (number_of domain.old) shared.old shared.new }
 {
@@ -77,10 +82,14 @@ fn serve(
     shared: &mut Shared,
     outs: &mut Outs,
 ) -> Result<Taken, NoMemory>
-    ensures answer { IfOk result (λ t. t ≡ answered_in (records_beside domain.old shared.old outs.old) event.now) }
-    ensures same { (domain.new.site ≡ domain.old.site) × (domain.new.config ≡ domain.old.config) × (domain.new.halted ≡ domain.old.halted) }
+    ensures answer { IfOk result
+        (λ t. t ≡ answered_in (records_beside domain.old shared.old outs.old) event.now) }
+    ensures same { (domain.new.site ≡ domain.old.site)
+        × (domain.new.config ≡ domain.old.config)
+        × (domain.new.halted ≡ domain.old.halted) }
     ensures others { LeavesOthers domain.old.config.domain shared.old shared.new }
-    ensures steps { IfOk result (IsSteppedBeside domain.old shared.old outs.old event.now domain.new shared.new outs.new) }
+    ensures steps { IfOk result
+        (IsSteppedBeside domain.old shared.old outs.old event.now domain.new shared.new outs.new) }
     ensures nothing { OnErr result (outs.new ≡ outs.old) }
 {
     let mut step = Outs::new(outs.frames.alloc());
@@ -97,11 +106,14 @@ fn serve(
     Ok(taken)
 }
 
-// Lets go of what is free after an event. Where nothing was free before it, only what it set free is looked for.
+// Lets go of what is free after an event. Where nothing was free before it, only what it set free
+// is looked for.
 fn let_go_after(domain: &mut Domain, event: &Event, lent: &mut Lent<'_>)
     ensures stays { KeepsBeside domain.old lent.old domain.new lent.new }
-    ensures made { AreFreedBy event.now (records_in domain.old lent.old) → Makes (let_go records resting_records) domain.old lent.old domain.new lent.new }
-    ensures none { AreFreedBy event.now (records_in domain.old lent.old) → AreNotFree (records_in domain.new lent.new) }
+    ensures made { AreFreedBy event.now (records_in domain.old lent.old)
+        → Makes (let_go records resting_records) domain.old lent.old domain.new lent.new }
+    ensures none { AreFreedBy event.now (records_in domain.old lent.old)
+        → AreNotFree (records_in domain.new lent.new) }
 {
     if sets_nothing_free(event) {
         return;
@@ -112,7 +124,8 @@ fn let_go_after(domain: &mut Domain, event: &Event, lent: &mut Lent<'_>)
     }
 }
 
-// Whether an event sets no message free: entries of an outbox are taken, or a quota gets another value.
+// Whether an event sets no message free: entries of an outbox are taken, or a quota gets another
+// value.
 fn sets_nothing_free(event: &Event) -> bool
     ensures { result ≡ frees_nothing event.now }
 {

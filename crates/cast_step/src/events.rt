@@ -26,9 +26,12 @@ pub(crate) fn act(
     lent: &mut Lent<'_>,
 ) -> Result<Taken, NoMemory>
     ensures answer { IfOk result (λ t. t ≡ answered_in (records_in domain.old lent.old) event.now) }
-    ensures same { (domain.new.site ≡ domain.old.site) × (domain.new.config ≡ domain.old.config) × (domain.new.halted ≡ domain.old.halted) }
+    ensures same { (domain.new.site ≡ domain.old.site)
+        × (domain.new.config ≡ domain.old.config)
+        × (domain.new.halted ≡ domain.old.halted) }
     ensures back { GivesBack domain.old.config.domain lent.old lent.new }
-    ensures made { OnOk result (Makes (λ r. acted_in r event.now) domain.old lent.old domain.new lent.new) }
+    ensures made { OnOk result
+        (Makes (λ r. acted_in r event.now) domain.old lent.old domain.new lent.new) }
     ensures typed { IsTyped event.now }
 {
     match event {

@@ -1,5 +1,6 @@
 -- What a search gives in a list, also once an item is added to it or some are taken from it.
-use Rattle.std.proofs.Common.{◌≡◌, ℕ, zero, suc, ◌<◌, ◌≤◌, Bool, true, false, not, cond, List, [], ◌∷◌, ◌++◌, length, get_or, Option, Some, None, refl, ap, ◌∙◌, inl, inr, arith}
+use Rattle.std.proofs.Common.{◌≡◌, ℕ, zero, suc, ◌<◌, ◌≤◌, Bool, true, false, not, cond, List, [], ◌∷◌}
+use Rattle.std.proofs.Common.{◌++◌, length, get_or, Option, Some, None, refl, ap, ◌∙◌, inl, inr, arith}
 use Rattle.std.specs.Prelude.{nat_lt}
 use Rattle.std.specs.Option.{option_or}
 use Rattle.std.specs.List.{find, filter, position, position_or_len}
@@ -10,17 +11,22 @@ use Rattle.std.proofs.lemmas.Option.{slice_get_past}
 
 module _ {X : Type 0} (p : X → Bool) where
   -- the search gives what stands at the first place
-  find_first : (xs : List X) (i : ℕ) (d : X) → i < length xs → p (get_or xs i d) ≡ true → ((k : ℕ) → k < i → p (get_or xs k d) ≡ false) → find p xs ≡ Some (get_or xs i d)
+  find_first : (xs : List X) (i : ℕ) (d : X) → i < length xs → p (get_or xs i d) ≡ true → ((k : ℕ) → k < i → p (get_or xs k d) ≡ false) →
+      find p xs ≡ Some (get_or xs i d)
   find_first [] i d lt passes fails = absurd (omega arith)
   find_first (x ∷ xs) zero d lt passes fails = ap (λ b. cond b (Some x) (find p xs)) passes
   find_first (x ∷ xs) (suc i) d lt passes fails =
-      ap (λ b. cond b (Some x) (find p xs)) (fails 0 (omega arith)) ∙ find_first xs i d (omega arith) passes (λ k l. fails (suc k) (omega arith))
+      ap (λ b. cond b (Some x) (find p xs)) (fails 0 (omega arith))
+      ∙ find_first xs i d (omega arith) passes (λ k l. fails (suc k) (omega arith))
 
   pub find_place : (xs : List X) (i : ℕ) (d : X) → position p xs ≡ Some i → find p xs ≡ Some (get_or xs i d)
   find_place xs i d at = let first = position-Some p xs i d at in find_first xs i d first.0 first.1 first.2
 
   past : (n len : ℕ) → cond {A = Option ℕ} (nat_lt n len) (Some n) None ≡ None → len ≤ n
-  past n len none = elim (cases_Bool (nat_lt n len)) [ inl passes ↦ absurd (cc (ap (λ b. cond {A = Option ℕ} b (Some n) None) passes)) | inr fails ↦ ltb-false n len fails ]
+  past n len none = elim (cases_Bool (nat_lt n len)) [
+    | inl passes ↦ absurd (cc (ap (λ b. cond {A = Option ℕ} b (Some n) None) passes))
+    | inr fails ↦ ltb-false n len fails
+  ]
 
   pub find_no_place : (xs : List X) → position p xs ≡ None → find p xs ≡ None
   find_no_place xs none = find_at p xs ∙ slice_get_past xs (position_or_len p xs) (past (position_or_len p xs) (length xs) none)
@@ -34,7 +40,8 @@ module _ {X : Type 0} (p : X → Bool) where
   pub keep_all : (xs : List X) → find p xs ≡ None → filter (λ x. not (p x)) xs ≡ xs
   keep_all [] none = refl
   keep_all (x ∷ xs) none =
-      elim (p x) as (λ b. cond b (Some x) (find p xs) ≡ None → cond (not b) (x ∷ filter (λ y. not (p y)) xs) (filter (λ y. not (p y)) xs) ≡ x ∷ xs) [
+      elim (p x)
+      as (λ b. cond b (Some x) (find p xs) ≡ None → cond (not b) (x ∷ filter (λ y. not (p y)) xs) (filter (λ y. not (p y)) xs) ≡ x ∷ xs) [
         | true ↦ λ here. absurd (cc)
         | false ↦ λ later. ap (λ rest. x ∷ rest) (keep_all xs later)
       ] none

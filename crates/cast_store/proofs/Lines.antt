@@ -1,5 +1,6 @@
 -- The lines of all domains: what is seen of them, and one of them changed.
-use Rattle.std.proofs.Common.{◌≡◌, ℕ, zero, suc, ◌+◌, ◌<◌, List, [], ◌∷◌, ◌++◌, cond, get_or, length, replicate, set, Option, Some, None, refl, sym, ap, ◌∙◌, arith}
+use Rattle.std.proofs.Common.{◌≡◌, ℕ, zero, suc, ◌+◌, ◌<◌, List, [], ◌∷◌, ◌++◌, cond, get_or}
+use Rattle.std.proofs.Common.{length, replicate, set, Option, Some, None, refl, sym, ap, ◌∙◌, arith}
 use Rattle.std.specs.Option.{option_map}
 use Rattle.std.proofs.lemmas.Bool.{eq-eqb, ne_eqb}
 use Rattle.std.proofs.lemmas.List.{get_or-set_same, get_or-set_other}
@@ -16,11 +17,13 @@ module _ (slots : ℕ → Option Slot) (d : DomainNo) where
   not_before n [] lt = refl
   not_before n (None ∷ rest) lt = not_before (n + 1) rest (omega (arith, lt))
   not_before n (Some l ∷ rest) lt =
-      ap (λ b. cond b (Some (shelf_by slots n l)) (shelf_of (shelves_from slots (n + 1) rest) d)) (ne_eqb n d.0 (λ same. absurd (omega (arith, same, lt))))
+      ap (λ b. cond b (Some (shelf_by slots n l)) (shelf_of (shelves_from slots (n + 1) rest) d))
+      (ne_eqb n d.0 (λ same. absurd (omega (arith, same, lt))))
       ∙ not_before (n + 1) rest (omega (arith, lt))
 
   -- and each other at its number
-  at_number : (n k : ℕ) (lines : List (Option Line)) → d.0 ≡ n + k → shelf_of (shelves_from slots n lines) d ≡ option_map (shelf_by slots d.0) (get_or lines k None)
+  at_number : (n k : ℕ) (lines : List (Option Line)) → d.0 ≡ n + k →
+      shelf_of (shelves_from slots n lines) d ≡ option_map (shelf_by slots d.0) (get_or lines k None)
   at_number n k [] is = refl
   at_number n zero (None ∷ rest) is = not_before (n + 1) rest (omega (arith, is))
   at_number n zero (Some l ∷ rest) is =
@@ -29,7 +32,8 @@ module _ (slots : ℕ → Option Slot) (d : DomainNo) where
       ∙ ap (λ m. Some (shelf_by slots m l)) here
   at_number n (suc k) (None ∷ rest) is = at_number (n + 1) k rest (omega (arith, is))
   at_number n (suc k) (Some l ∷ rest) is =
-      ap (λ b. cond b (Some (shelf_by slots n l)) (shelf_of (shelves_from slots (n + 1) rest) d)) (ne_eqb n d.0 (λ same. absurd (omega (arith, same, is))))
+      ap (λ b. cond b (Some (shelf_by slots n l)) (shelf_of (shelves_from slots (n + 1) rest) d))
+      (ne_eqb n d.0 (λ same. absurd (omega (arith, same, is))))
       ∙ at_number (n + 1) k rest (omega (arith, is))
 
   -- a domain's shelf is that of its line
@@ -37,7 +41,8 @@ module _ (slots : ℕ → Option Slot) (d : DomainNo) where
   shelf_seen lines = at_number 0 d.0 lines (omega arith)
 
 -- a line that was looked up in an equal list
-pub looked_up : {o : Option Line} {lines lines' : List (Option Line)} (d : DomainNo) → lines' ≡ lines → o ≡ line_of lines' d → line_of lines d ≡ o
+pub looked_up : {o : Option Line} {lines lines' : List (Option Line)} (d : DomainNo) → lines' ≡ lines → o ≡ line_of lines' d →
+    line_of lines d ≡ o
 looked_up d same is = ap (λ (ls : List (Option Line)). line_of ls d) (sym same) ∙ sym is
 
 -- Places without a line
@@ -56,7 +61,8 @@ none_shown : (slots : ℕ → Option Slot) (first n : ℕ) → shelves_from slot
 none_shown slots first zero = refl
 none_shown slots first (suc n) = none_shown slots (first + 1) n
 
-shown_padded : (slots : ℕ → Option Slot) (first n : ℕ) (lines : List (Option Line)) → shelves_from slots first (lines ++ replicate n None) ≡ shelves_from slots first lines
+shown_padded : (slots : ℕ → Option Slot) (first n : ℕ) (lines : List (Option Line)) →
+    shelves_from slots first (lines ++ replicate n None) ≡ shelves_from slots first lines
 shown_padded slots first n [] = none_shown slots first n
 shown_padded slots first n (None ∷ rest) = shown_padded slots (first + 1) n rest
 shown_padded slots first n (Some l ∷ rest) = ap (λ shelves. shelf_by slots first l ∷ shelves) (shown_padded slots (first + 1) n rest)
@@ -69,13 +75,15 @@ module _ (lines lines' : List (Option Line)) (padded : IsPadded lines lines') wh
   padded_shelves slots = ap (shelves_by slots) padded.1 ∙ shown_padded slots 0 padded.0 lines
 
   -- a line that is changed behind places without one
-  pub padded_changes : (d : DomainNo) (w : Option Line) (lines'' : List (Option Line)) → ChangesLine d w lines' lines'' → ChangesLine d w lines lines''
+  pub padded_changes : (d : DomainNo) (w : Option Line) (lines'' : List (Option Line)) → ChangesLine d w lines' lines'' →
+      ChangesLine d w lines lines''
   padded_changes d w lines'' changes = record { here = changes.here; others = λ e differ. changes.others e differ ∙ padded_line e }
 
 -- Changes
 
 -- the line at a domain's place is written
-pub changes_set : (d : DomainNo) (w : Option Line) (lines : List (Option Line)) → d.0 < length lines → ChangesLine d w lines (set lines d.0 w)
+pub changes_set : (d : DomainNo) (w : Option Line) (lines : List (Option Line)) → d.0 < length lines →
+    ChangesLine d w lines (set lines d.0 w)
 changes_set d w lines within = record {
   here = get_or-set_same lines d.0 w None within;
   others = λ e differ. get_or-set_other lines d.0 e.0 w None (λ same. differ (ap (λ (n : ℕ). record { 0 = n }) same));

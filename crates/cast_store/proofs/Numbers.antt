@@ -15,7 +15,8 @@ pub numbered_parts : (n : ℕ) (xs : List Receipt) → is_numbered n xs ≡ true
 numbered_parts n xs rising = and_parts (rises number_of xs) (all_below number_of n xs) rising
 
 -- and of the first receipt
-pub first_parts : (n : ℕ) (x : Receipt) (xs : List Receipt) → is_numbered n (x ∷ xs) ≡ true → (x.number < n) × (list_all (λ s. nat_lt x.number s.number) xs ≡ true) × (is_numbered n xs ≡ true)
+pub first_parts : (n : ℕ) (x : Receipt) (xs : List Receipt) → is_numbered n (x ∷ xs) ≡ true →
+    (x.number < n) × (list_all (λ s. nat_lt x.number s.number) xs ≡ true) × (is_numbered n xs ≡ true)
 first_parts n x xs rising =
     let both = numbered_parts n (x ∷ xs) rising in
     let up = parts_of number_of x xs both.0 in
@@ -23,16 +24,20 @@ first_parts n x xs rising =
     (ltb-true x.number n below.0, up.0, and_from (rises number_of xs) (all_below number_of n xs) up.1 below.1)
 
 -- one more, under the next number
-pub numbered_push : (n : ℕ) (xs : List Receipt) (x : Receipt) → x.number ≡ n → is_numbered n xs ≡ true → is_numbered (n + 1) (xs ++ x ∷ []) ≡ true
+pub numbered_push : (n : ℕ) (xs : List Receipt) (x : Receipt) → x.number ≡ n → is_numbered n xs ≡ true →
+    is_numbered (n + 1) (xs ++ x ∷ []) ≡ true
 numbered_push n xs x is rising =
     let parts = numbered_parts n xs rising in
-    and_from (rises number_of (xs ++ x ∷ [])) (all_below number_of (n + 1) (xs ++ x ∷ [])) (rises_push number_of n xs x (omega (arith, is)) parts.0 parts.1) (below_push number_of n (n + 1) xs x (omega (arith, is)) (omega (arith, is)) parts.1)
+    and_from (rises number_of (xs ++ x ∷ [])) (all_below number_of (n + 1) (xs ++ x ∷ []))
+    (rises_push number_of n xs x (omega (arith, is)) parts.0 parts.1)
+    (below_push number_of n (n + 1) xs x (omega (arith, is)) (omega (arith, is)) parts.1)
 
 -- some taken out
 pub numbered_filter : (keep : Receipt → Bool) (n : ℕ) (xs : List Receipt) → is_numbered n xs ≡ true → is_numbered n (filter keep xs) ≡ true
 numbered_filter keep n xs rising =
     let parts = numbered_parts n xs rising in
-    and_from (rises number_of (filter keep xs)) (all_below number_of n (filter keep xs)) (rises_kept number_of keep xs parts.0) (all_kept (λ (r : Receipt). nat_lt r.number n) keep xs parts.1)
+    and_from (rises number_of (filter keep xs)) (all_below number_of n (filter keep xs)) (rises_kept number_of keep xs parts.0)
+    (all_kept (λ (r : Receipt). nat_lt r.number n) keep xs parts.1)
 
 -- nothing is under the next number
 none_next : (n : ℕ) (xs : List Receipt) → all_below number_of n xs ≡ true → find (λ r. r.number == n) xs ≡ None

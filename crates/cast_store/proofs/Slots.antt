@@ -1,5 +1,6 @@
 -- What is seen of a store, lines and the slab of all messages, after a message is kept or removed, or those of a domain are dropped.
-use Rattle.std.proofs.Common.{◌≡◌, ◌≢◌, ℕ, zero, suc, ◌+◌, Bool, true, false, not, cond, List, [], ◌∷◌, ◌++◌, map, get_or, Option, Some, None, refl, sym, ap, subst, ◌∙◌, Contains}
+use Rattle.std.proofs.Common.{◌≡◌, ◌≢◌, ℕ, zero, suc, ◌+◌, Bool, true, false, not, cond, List, [], ◌∷◌}
+use Rattle.std.proofs.Common.{◌++◌, map, get_or, Option, Some, None, refl, sym, ap, subst, ◌∙◌, Contains}
 use Rattle.std.specs.Prelude.{◌==◌, Result, is_err, Ok, Err, IfOk, OnOk, OnErr}
 use Rattle.std.specs.Borrow.{MutBor}
 use Rattle.std.specs.Option.{IfNone, option_map, option_map_or}
@@ -15,7 +16,9 @@ use Rattle.cast_store.specs.declared.receipt.Receipt.{Receipt}
 use Rattle.cast_store.specs.declared.slot.Slot.{Slot}
 use Rattle.cast_store.specs.Ids.{message_of}
 use Rattle.cast_store.specs.Store.{Shelf, kept_in, next_in}
-use Rattle.cast_store.specs.Lines.{Line, line_of, line_or_empty, message_in, receipts_in, receipts_of, next_number, receipt_of, slot_of, slot_under, slot_with, with_receipt, without_number, but_number, kept_by, shelf_by, shelves_by, only, ChangesLine, IsFilled, IsEmptied, IsHeld, IsPadded, IsStocked}
+use Rattle.cast_store.specs.Lines.{Line, line_of, line_or_empty, message_in, receipts_in, receipts_of, next_number, receipt_of}
+use Rattle.cast_store.specs.Lines.{slot_of, slot_under, slot_with, with_receipt, without_number, but_number, kept_by, shelf_by}
+use Rattle.cast_store.specs.Lines.{shelves_by, only, ChangesLine, IsFilled, IsEmptied, IsHeld, IsPadded, IsStocked}
 use Rattle.cast_store.proofs.Finds.{keep_all}
 use Rattle.cast_store.proofs.Lines.{shelf_seen, padded_line, padded_shelves}
 use Rattle.cast_store.proofs.Stocks.{find_there, added, added_still, removed, removed_still, removed_still_own, dropped, dropped_still}
@@ -50,18 +53,22 @@ module _ (slots : ℕ → Option Slot) (lines : List (Option Line)) (d : DomainN
       by (Some l) = refl
 
 -- where nothing changes
-pub still : (lines lines' : List (Option Line)) (old new : Slab Slot) → IsStocked (receipts_in lines) (slot_at old) → lines' ≡ lines → new.slots ≡ old.slots → IsStocked (receipts_in lines') (slot_at new)
+pub still : (lines lines' : List (Option Line)) (old new : Slab Slot) → IsStocked (receipts_in lines) (slot_at old) → lines' ≡ lines →
+    new.slots ≡ old.slots → IsStocked (receipts_in lines') (slot_at new)
 still lines lines' old new sound same slots =
     let a = subst (λ (ls : List (Option Line)). IsStocked (receipts_in ls) (slot_at old)) (sym same) sound in
     subst (λ (xs : List (Option Slot)). IsStocked (receipts_in lines') (λ key. slot_at (record old { slots = xs }) key)) (sym slots) a
 
-pub shelves_still : (lines lines' : List (Option Line)) (old new : Slab Slot) → lines' ≡ lines → new.slots ≡ old.slots → shelves_by (slot_at new) lines' ≡ shelves_by (slot_at old) lines
+pub shelves_still : (lines lines' : List (Option Line)) (old new : Slab Slot) → lines' ≡ lines → new.slots ≡ old.slots →
+    shelves_by (slot_at new) lines' ≡ shelves_by (slot_at old) lines
 shelves_still lines lines' old new same slots = λ i. shelves_by (λ key. get_or (slots i) key None) (same i)
 
 -- or no more than places without a line are added
 module _ (lines lines' : List (Option Line)) (old new : Slab Slot) (padded : IsPadded lines lines') (slots : new.slots ≡ old.slots) where
   pub padded_still : IsStocked (receipts_in lines) (slot_at old) → IsStocked (receipts_in lines') (slot_at new)
-  padded_still sound = still lines' lines' old new (subst (λ (f : DomainNo → List Receipt). IsStocked f (slot_at old)) (sym (λ i d. receipts_of (padded_line lines lines' padded d i))) sound) refl slots
+  padded_still sound =
+      still lines' lines' old new (subst (λ (f : DomainNo → List Receipt). IsStocked f (slot_at old))
+      (sym (λ i d. receipts_of (padded_line lines lines' padded d i))) sound) refl slots
 
   pub padded_shelves_still : shelves_by (slot_at new) lines' ≡ shelves_by (slot_at old) lines
   padded_shelves_still = shelves_still lines' lines' old new refl slots ∙ padded_shelves lines lines' padded (slot_at old)
@@ -81,8 +88,11 @@ module _ (slots : ℕ → Option Slot) (lines : List (Option Line)) (sound : IsS
       let s = sound.taken d r there in
       (s.0, s.1, s.4, s.5)
 
-  pub under_seen_in : (key : Key) → message_in slots (slot_under (receipts_in lines d) key.0) ≡ message_under (kept_in (shelves_by slots lines) d) key
-  under_seen_in key = sym (under_kept slots (receipts_in lines d) key held_in) ∙ ap (λ (xs : List Received). message_under xs key) (sym (kept_seen slots lines d))
+  pub under_seen_in : (key : Key) →
+      message_in slots (slot_under (receipts_in lines d) key.0) ≡ message_under (kept_in (shelves_by slots lines) d) key
+  under_seen_in key =
+      sym (under_kept slots (receipts_in lines d) key held_in)
+      ∙ ap (λ (xs : List Received). message_under xs key) (sym (kept_seen slots lines d))
 
   module _ (l : Line) (at : line_of lines d ≡ Some l) where
     pub held_at : IsHeld slots l.receipts
@@ -92,22 +102,29 @@ module _ (slots : ℕ → Option Slot) (lines : List (Option Line)) (sound : IsS
     under_seen key = ap (λ (xs : List Receipt). message_in slots (slot_under xs key.0)) (sym (ap receipts_of at)) ∙ under_seen_in key
 
     pub of_seen : (id : Uid) → message_in slots (slot_of l.receipts id) ≡ message_of (kept_in (shelves_by slots lines) d) id
-    of_seen id = sym (of_kept slots l.receipts id held_at) ∙ ap (λ (xs : List Received). message_of xs id) (sym (kept_seen_at slots lines d (Some l) at))
+    of_seen id =
+        sym (of_kept slots l.receipts id held_at)
+        ∙ ap (λ (xs : List Received). message_of xs id) (sym (kept_seen_at slots lines d (Some l) at))
 
 -- Changes
 
 -- a domain keeps these, under keys below this number, and the others what they kept
-pub record After (d : DomainNo) (these : List Received) (number : ℕ) (lines lines' : List (Option Line)) (old new : Slab Slot) : Type 0 where
+pub record After (d : DomainNo) (these : List Received) (number : ℕ) (lines lines' : List (Option Line))
+    (old new : Slab Slot) : Type 0 where
   pub sound : IsStocked (receipts_in lines') (slot_at new)
   pub kept : kept_in (shelves_by (slot_at new) lines') d ≡ these
   pub next : next_in (shelves_by (slot_at new) lines') d ≡ number
-  pub others : (e : DomainNo) → e ≢ d → (kept_in (shelves_by (slot_at new) lines') e ≡ kept_in (shelves_by (slot_at old) lines) e) × (next_in (shelves_by (slot_at new) lines') e ≡ next_in (shelves_by (slot_at old) lines) e)
+  pub others : (e : DomainNo) → e ≢ d → (kept_in (shelves_by (slot_at new) lines') e ≡ kept_in (shelves_by (slot_at old) lines) e)
+      × (next_in (shelves_by (slot_at new) lines') e ≡ next_in (shelves_by (slot_at old) lines) e)
 
-module _ (lines lines' : List (Option Line)) (old new : Slab Slot) (sound : IsStocked (receipts_in lines) (slot_at old)) (d : DomainNo) where
+module _ (lines lines' : List (Option Line)) (old new : Slab Slot) (sound : IsStocked (receipts_in lines) (slot_at old))
+    (d : DomainNo) where
   rest : (w : Option Line) → ChangesLine d w lines lines' → (e : DomainNo) → e ≢ d → receipts_in lines' e ≡ receipts_in lines e
   rest w changes e differ = ap receipts_of (changes.others e differ)
 
-  after : (w : Option Line) (these : List Received) → ChangesLine d w lines lines' → IsStocked (receipts_in lines') (slot_at new) → ((e : DomainNo) → e ≢ d → (q : Receipt) → Contains (receipts_in lines e) q → slot_at new q.slot ≡ slot_at old q.slot) → kept_by (slot_at new) (receipts_of w) ≡ these → After d these (number_in w) lines lines' old new
+  after : (w : Option Line) (these : List Received) → ChangesLine d w lines lines' → IsStocked (receipts_in lines') (slot_at new) →
+      ((e : DomainNo) → e ≢ d → (q : Receipt) → Contains (receipts_in lines e) q → slot_at new q.slot ≡ slot_at old q.slot) →
+      kept_by (slot_at new) (receipts_of w) ≡ these → After d these (number_in w) lines lines' old new
   after w these changes now stays kept = record {
     sound = now;
     kept = kept_seen (slot_at new) lines' d ∙ ap (λ o. kept_by (slot_at new) (receipts_of o)) changes.here ∙ kept;
@@ -121,28 +138,42 @@ module _ (lines lines' : List (Option Line)) (old new : Slab Slot) (sound : IsSt
   }
 
   -- a message is kept
-  pub after_put : (m : Message) (l : Line) → line_or_empty (line_of lines d) ≡ l → slot_under l.receipts l.next ≡ None → ChangesLine d (Some (with_receipt old.vacant_key m l)) lines lines' → IsFilled (slot_with d l.next m) old new →
-      After d (kept_in (shelves_by (slot_at old) lines) d ++ (record { key = record { 0 = next_in (shelves_by (slot_at old) lines) d }; message = m }) ∷ []) (next_in (shelves_by (slot_at old) lines) d + 1) lines lines' old new
+  pub after_put : (m : Message) (l : Line) → line_or_empty (line_of lines d) ≡ l → slot_under l.receipts l.next ≡ None →
+      ChangesLine d (Some (with_receipt old.vacant_key m l)) lines lines' → IsFilled (slot_with d l.next m) old new →
+      After d (kept_in (shelves_by (slot_at old) lines) d
+      ++ (record { key = record { 0 = next_in (shelves_by (slot_at old) lines) d }; message = m }) ∷ [])
+      (next_in (shelves_by (slot_at old) lines) d + 1) lines lines' old new
   after_put m l is free changes filled =
       let was : receipts_in lines d ≡ l.receipts = receipts_or_empty (line_of lines d) ∙ ap (λ (k : Line). k.receipts) is in
       let key = old.vacant_key in
       let r = receipt_of l.next key m in
       let s : Slot = slot_with d l.next m in
       let none : slot_under (receipts_in lines d) l.next ≡ None = ap (λ (xs : List Receipt). slot_under xs l.next) was ∙ free in
-      let own : receipts_in lines' d ≡ receipts_in lines d ++ r ∷ [] = ap receipts_of changes.here ∙ ap (λ (xs : List Receipt). xs ++ r ∷ []) (sym was) in
+      let own : receipts_in lines' d ≡ receipts_in lines d ++ r ∷ [] =
+      ap receipts_of changes.here ∙ ap (λ (xs : List Receipt). xs ++ r ∷ []) (sym was) in
       let apart = rest (Some (with_receipt key m l)) changes in
-      let stays = added_still (receipts_in lines) (receipts_in lines') (slot_at old) (slot_at new) sound d apart l.next key m filled.vacant none filled.slot.changed filled.slot.others own in
-      let now = added (receipts_in lines) (receipts_in lines') (slot_at old) (slot_at new) sound d apart l.next key m filled.vacant none filled.slot.changed filled.slot.others own in
+      let stays =
+      added_still (receipts_in lines) (receipts_in lines') (slot_at old) (slot_at new)
+      sound d apart l.next key m filled.vacant none filled.slot.changed filled.slot.others own in
+      let now =
+      added (receipts_in lines) (receipts_in lines') (slot_at old) (slot_at new)
+      sound d apart l.next key m filled.vacant none filled.slot.changed filled.slot.others own in
       let seen = next_seen (slot_at old) lines d ∙ number_or_empty (line_of lines d) ∙ ap (λ (k : Line). k.next) is in
-      let kept : kept_by (slot_at new) (l.receipts ++ r ∷ []) ≡ kept_in (shelves_by (slot_at old) lines) d ++ (record { key = record { 0 = l.next }; message = m }) ∷ [] =
+      let kept : kept_by (slot_at new) (l.receipts ++ r ∷ [])
+      ≡ kept_in (shelves_by (slot_at old) lines) d ++ (record { key = record { 0 = l.next }; message = m }) ∷ [] =
       kept_push (slot_at new) l.receipts r s filled.slot.changed
       ∙ ap (λ (xs : List Received). xs ++ (record { key = record { 0 = l.next }; message = m }) ∷ [])
-      (ap (kept_by (slot_at new)) (sym was) ∙ kept_still (slot_at old) (slot_at new) (receipts_in lines d) (stays d) ∙ sym (kept_seen (slot_at old) lines d)) in
-      subst (λ (n : ℕ). After d (kept_in (shelves_by (slot_at old) lines) d ++ (record { key = record { 0 = n }; message = m }) ∷ []) (n + 1) lines lines' old new) (sym seen)
-      (after (Some (with_receipt key m l)) (kept_in (shelves_by (slot_at old) lines) d ++ (record { key = record { 0 = l.next }; message = m }) ∷ []) changes now (λ e differ. stays e) kept)
+      (ap (kept_by (slot_at new)) (sym was)
+      ∙ kept_still (slot_at old) (slot_at new) (receipts_in lines d) (stays d)
+      ∙ sym (kept_seen (slot_at old) lines d)) in
+      subst (λ (n : ℕ). After d (kept_in (shelves_by (slot_at old) lines) d ++ (record { key = record { 0 = n }; message = m }) ∷ [])
+      (n + 1) lines lines' old new) (sym seen)
+      (after (Some (with_receipt key m l)) (kept_in (shelves_by (slot_at old) lines) d
+      ++ (record { key = record { 0 = l.next }; message = m }) ∷ []) changes now (λ e differ. stays e) kept)
 
   -- a message is removed, or none is under the key
-  pub after_remove : (k : Key) → ChangesLine d (option_map (without_number k.0) (line_of lines d)) lines lines' → IsEmptied old new (slot_under (receipts_in lines d) k.0) → (slot_under (receipts_in lines d) k.0 ≡ None → lines' ≡ lines) →
+  pub after_remove : (k : Key) → ChangesLine d (option_map (without_number k.0) (line_of lines d)) lines lines' →
+      IsEmptied old new (slot_under (receipts_in lines d) k.0) → (slot_under (receipts_in lines d) k.0 ≡ None → lines' ≡ lines) →
       After d (left_of k.0 (kept_in (shelves_by (slot_at old) lines) d)) (next_in (shelves_by (slot_at old) lines) d) lines lines' old new
   after_remove k changes emptied none = by (find (λ r. r.number == k.0) (receipts_in lines d)) refl
     where
@@ -157,7 +188,8 @@ module _ (lines lines' : List (Option Line)) (old new : Slab Slot) (sound : IsSt
       own : receipts_in lines' d ≡ but_number k.0 (receipts_in lines d)
       own = ap receipts_of changes.here ∙ left_receipts (line_of lines d)
 
-      by : (o : Option Receipt) → find (λ r. r.number == k.0) (receipts_in lines d) ≡ o → After d (left_of k.0 (kept_in (shelves_by (slot_at old) lines) d)) (next_in (shelves_by (slot_at old) lines) d) lines lines' old new
+      by : (o : Option Receipt) → find (λ r. r.number == k.0) (receipts_in lines d) ≡ o → After d
+          (left_of k.0 (kept_in (shelves_by (slot_at old) lines) d)) (next_in (shelves_by (slot_at old) lines) d) lines lines' old new
       by None is =
           let missing : slot_under (receipts_in lines d) k.0 ≡ None = ap (λ (o : Option Receipt). option_map (λ r. r.slot) o) is in
           let slots : new.slots ≡ old.slots = subst (IsEmptied old new) missing emptied in
@@ -176,36 +208,49 @@ module _ (lines lines' : List (Option Line)) (old new : Slab Slot) (sound : IsSt
           }
       by (Some r) found =
           let w = option_map (without_number k.0) (line_of lines d) in
-          let u : Updates old new r.slot None = subst (IsEmptied old new) (ap (λ (o : Option Receipt). option_map (λ r. r.slot) o) found) emptied in
+          let u : Updates old new r.slot None =
+          subst (IsEmptied old new) (ap (λ (o : Option Receipt). option_map (λ r. r.slot) o) found) emptied in
           let apart = rest w changes in
-          let stays = removed_still (receipts_in lines) (receipts_in lines') (slot_at old) (slot_at new) sound d apart k.0 r found u.changed u.others own in
-          let stays_own = removed_still_own (receipts_in lines) (receipts_in lines') (slot_at old) (slot_at new) sound d apart k.0 r found u.changed u.others own in
-          let now = removed (receipts_in lines) (receipts_in lines') (slot_at old) (slot_at new) sound d apart k.0 r found u.changed u.others own in
+          let stays =
+          removed_still (receipts_in lines) (receipts_in lines') (slot_at old) (slot_at new)
+          sound d apart k.0 r found u.changed u.others own in
+          let stays_own =
+          removed_still_own (receipts_in lines) (receipts_in lines') (slot_at old) (slot_at new)
+          sound d apart k.0 r found u.changed u.others own in
+          let now =
+          removed (receipts_in lines) (receipts_in lines') (slot_at old) (slot_at new) sound d apart k.0 r found u.changed u.others own in
           let kept : kept_by (slot_at new) (receipts_of w) ≡ left_of k.0 (kept_in (shelves_by (slot_at old) lines) d) =
           ap (kept_by (slot_at new)) (left_receipts (line_of lines d))
           ∙ kept_left (slot_at old) (slot_at new) k.0 (receipts_in lines d) stays_own
           ∙ ap (left_of k.0) (sym (kept_seen (slot_at old) lines d)) in
-          subst (λ (n : ℕ). After d (left_of k.0 (kept_in (shelves_by (slot_at old) lines) d)) n lines lines' old new) (left_number (line_of lines d) ∙ sym (next_seen (slot_at old) lines d))
+          subst (λ (n : ℕ). After d (left_of k.0 (kept_in (shelves_by (slot_at old) lines) d)) n lines lines' old new)
+          (left_number (line_of lines d) ∙ sym (next_seen (slot_at old) lines d))
           (after w (left_of k.0 (kept_in (shelves_by (slot_at old) lines) d)) changes now stays kept)
 
   -- where none comes back, nothing is changed
-  pub nothing_removed : (k : Key) (o : Option Message) → o ≡ message_in (slot_at old) (slot_under (receipts_in lines d) k.0) → IsEmptied old new (slot_under (receipts_in lines d) k.0) → (slot_under (receipts_in lines d) k.0 ≡ None → lines' ≡ lines) → IfNone o (shelves_by (slot_at new) lines' ≡ shelves_by (slot_at old) lines)
+  pub nothing_removed : (k : Key) (o : Option Message) → o ≡ message_in (slot_at old) (slot_under (receipts_in lines d) k.0) →
+      IsEmptied old new (slot_under (receipts_in lines d) k.0) → (slot_under (receipts_in lines d) k.0 ≡ None → lines' ≡ lines) →
+      IfNone o (shelves_by (slot_at new) lines' ≡ shelves_by (slot_at old) lines)
   nothing_removed k (Some m) is emptied none = tt
   nothing_removed k None is emptied none = by (find (λ r. r.number == k.0) (receipts_in lines d)) refl
     where
-      by : (o : Option Receipt) → find (λ r. r.number == k.0) (receipts_in lines d) ≡ o → shelves_by (slot_at new) lines' ≡ shelves_by (slot_at old) lines
+      by : (o : Option Receipt) → find (λ r. r.number == k.0) (receipts_in lines d) ≡ o →
+          shelves_by (slot_at new) lines' ≡ shelves_by (slot_at old) lines
       by None missing =
           let free : slot_under (receipts_in lines d) k.0 ≡ None = ap (λ (o : Option Receipt). option_map (λ r. r.slot) o) missing in
           shelves_still lines lines' old new (none free) (subst (IsEmptied old new) free emptied)
       by (Some r) found =
           let s = held_in (slot_at old) lines sound d r (find_there (λ r. r.number == k.0) (receipts_in lines d) r found).0 in
-          let there : message_in (slot_at old) (slot_under (receipts_in lines d) k.0) ≡ Some s.0.message = ap (λ (o : Option Receipt). message_in (slot_at old) (option_map (λ r. r.slot) o)) found ∙ ap (option_map (λ s. s.message)) s.1 in
+          let there : message_in (slot_at old) (slot_under (receipts_in lines d) k.0) ≡ Some s.0.message =
+          ap (λ (o : Option Receipt). message_in (slot_at old) (option_map (λ r. r.slot) o)) found ∙ ap (option_map (λ s. s.message)) s.1 in
           absurd (cc (is ∙ there))
 
   -- all messages of a domain are dropped
-  pub after_drop : ChangesLine d None lines lines' → new.slots ≡ map (only (λ s. not (s.domain.0 == d.0))) old.slots → After d [] 0 lines lines' old new
+  pub after_drop : ChangesLine d None lines lines' → new.slots ≡ map (only (λ s. not (s.domain.0 == d.0))) old.slots →
+      After d [] 0 lines lines' old new
   after_drop changes slots =
-      let left : (key : ℕ) → slot_at new key ≡ only (λ s. not (s.domain.0 == d.0)) (slot_at old key) = λ key. ap (λ (xs : List (Option Slot)). get_or xs key None) slots ∙ only_at (λ s. not (s.domain.0 == d.0)) old.slots key in
+      let left : (key : ℕ) → slot_at new key ≡ only (λ s. not (s.domain.0 == d.0)) (slot_at old key) =
+      λ key. ap (λ (xs : List (Option Slot)). get_or xs key None) slots ∙ only_at (λ s. not (s.domain.0 == d.0)) old.slots key in
       let apart = rest None changes in
       let own : receipts_in lines' d ≡ [] = ap receipts_of changes.here in
       let stays = dropped_still (receipts_in lines) (receipts_in lines') (slot_at old) (slot_at new) sound d apart left own in
@@ -243,7 +288,8 @@ on_err_both (Err y) f p q = f p q
 
 -- what a slab's `retain` leaves, where the closure keeps no state and leaves each value as it was
 module _ {T F : Type 0} (step : F → ℕ → MutBor T → Bool → MutBor T → F → Type 0) (test : T → Bool) (f : F)
-    (says : (key : ℕ) (old : T) (keep : Bool) (new : T) (next : F) → CalledAt step f key old keep new next → (keep ≡ test old) × (new ≡ old) × (next ≡ f)) where
+    (says : (key : ℕ) (old : T) (keep : Bool) (new : T) (next : F) → CalledAt step f key old keep new next →
+    (keep ≡ test old) × (new ≡ old) × (next ≡ f)) where
   pub retained : (key : ℕ) (old kept : List (Option T)) → RetainsFrom step f key old kept → kept ≡ map (only test) old
   retained key [] kept is = is
   retained key (None ∷ rest) kept is = is.1 ∙ ap (λ xs. None ∷ xs) (retained (key + 1) rest is.0 is.2)

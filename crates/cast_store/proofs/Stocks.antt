@@ -1,5 +1,6 @@
 -- The receipts of all domains and the slots that they name, after a message is added, taken out, or all of a domain are.
-use Rattle.std.proofs.Common.{◌≡◌, ◌≢◌, ℕ, zero, suc, Bool, true, false, not, cond, List, [], ◌∷◌, ◌++◌, Option, Some, None, refl, sym, ap, subst, ◌∙◌, inl, inr, true≢false, arith, Contains, filter}
+use Rattle.std.proofs.Common.{◌≡◌, ◌≢◌, ℕ, zero, suc, Bool, true, false, not, cond, List, [], ◌∷◌, ◌++◌, Option}
+use Rattle.std.proofs.Common.{Some, None, refl, sym, ap, subst, ◌∙◌, inl, inr, true≢false, arith, Contains, filter}
 use Rattle.std.specs.Prelude.{◌==◌}
 use Rattle.std.specs.Option.{option_map, option_or}
 use Rattle.std.specs.List.{find}
@@ -33,13 +34,15 @@ find_there p (y ∷ ys) x found = elim (cases_Bool (p y)) [
 filter_there : {X : Type 0} (p : X → Bool) (xs : List X) (x : X) → Contains (filter p xs) x → Contains xs x × (p x ≡ true)
 filter_there p [] x (k, lt, at) = absurd (omega (arith, lt))
 filter_there p (y ∷ ys) x there = elim (cases_Bool (p y)) [
-  | inl passes ↦ first passes (λ later. filter_there p ys x later) (subst (λ b. Contains (cond b (y ∷ filter p ys) (filter p ys)) x) passes there)
+  | inl passes ↦
+      first passes (λ later. filter_there p ys x later) (subst (λ b. Contains (cond b (y ∷ filter p ys) (filter p ys)) x) passes there)
   | inr fails ↦
       let later = filter_there p ys x (subst (λ b. Contains (cond b (y ∷ filter p ys) (filter p ys)) x) fails there) in
       (contains_later x y ys later.0, later.1)
 ]
   where
-    first : p y ≡ true → (Contains (filter p ys) x → Contains ys x × (p x ≡ true)) → Contains (y ∷ filter p ys) x → Contains (y ∷ ys) x × (p x ≡ true)
+    first : p y ≡ true → (Contains (filter p ys) x → Contains ys x × (p x ≡ true)) → Contains (y ∷ filter p ys) x →
+        Contains (y ∷ ys) x × (p x ≡ true)
     first passes behind (zero, lt, at) = (subst (λ z. Contains (y ∷ ys) z) at (contains_here y ys), ap p (sym at) ∙ passes)
     first passes behind (suc k, lt, at) =
         let later = behind (k, omega (arith, lt), at) in
@@ -58,17 +61,20 @@ under_more : (xs ys : List Receipt) (n key : ℕ) → slot_under xs n ≡ Some k
 under_more xs ys n key is =
     ap (λ (o : Option Receipt). option_map (λ r. r.slot) o) (find-append (λ r. r.number == n) xs ys) ∙ by (find (λ r. r.number == n) xs) is
   where
-    by : (o : Option Receipt) → option_map (λ r. r.slot) o ≡ Some key → option_map (λ r. r.slot) (option_or o (find (λ r. r.number == n) ys)) ≡ Some key
+    by : (o : Option Receipt) → option_map (λ r. r.slot) o ≡ Some key →
+        option_map (λ r. r.slot) (option_or o (find (λ r. r.number == n) ys)) ≡ Some key
     by None is = absurd (cc is)
     by (Some r) is = is
 
 under_push : (xs : List Receipt) (r : Receipt) → slot_under xs r.number ≡ None → slot_under (xs ++ r ∷ []) r.number ≡ Some r.slot
 under_push xs r none =
-    ap (λ (o : Option Receipt). option_map (λ r. r.slot) o) (find_push_yes (λ q. q.number == r.number) xs r (found_slot xs r.number none) (eq-eqb r.number r.number refl))
+    ap (λ (o : Option Receipt). option_map (λ r. r.slot) o)
+    (find_push_yes (λ q. q.number == r.number) xs r (found_slot xs r.number none) (eq-eqb r.number r.number refl))
 
 under_left : (xs : List Receipt) (n m : ℕ) → n ≢ m → slot_under (but_number m xs) n ≡ slot_under xs n
 under_left xs n m differ =
-    ap (λ (o : Option Receipt). option_map (λ r. r.slot) o) (find_filter (λ r. r.number == n) (λ r. not (r.number == m)) (λ r out. ne_eqb r.number n (λ same. differ (sym same ∙ eqb-true r.number m (passed (r.number == m) out)))) xs)
+    ap (λ (o : Option Receipt). option_map (λ r. r.slot) o) (find_filter (λ r. r.number == n) (λ r. not (r.number == m))
+    (λ r out. ne_eqb r.number n (λ same. differ (sym same ∙ eqb-true r.number m (passed (r.number == m) out)))) xs)
   where
     passed : (b : Bool) → not b ≡ false → b ≡ true
     passed true h = refl
@@ -85,7 +91,8 @@ other_domain d e differ same = true≢false (sym (eq-eqb e.0 d.0 (ap (λ (n : Do
 
 -- a receipt names a slot that is taken for it
 abbrev IsTaken : (ℕ → Option Slot) → DomainNo → Receipt → Type 0
-IsTaken slots d r = (s : Slot) × (slots r.slot ≡ Some s) × (s.domain ≡ d) × (s.number ≡ r.number) × (s.message.id ≡ r.id) × (is_abcast s.message ≡ r.atomic)
+IsTaken slots d r =
+    (s : Slot) × (slots r.slot ≡ Some s) × (s.domain ≡ d) × (s.number ≡ r.number) × (s.message.id ≡ r.id) × (is_abcast s.message ≡ r.atomic)
 
 module _ (receipts receipts' : DomainNo → List Receipt) (slots slots' : ℕ → Option Slot) (sound : IsStocked receipts slots)
     (d : DomainNo) (rest : (e : DomainNo) → e ≢ d → receipts' e ≡ receipts e) where
@@ -113,7 +120,9 @@ module _ (receipts receipts' : DomainNo → List Receipt) (slots slots' : ℕ �
           let is = same_domain d e same in
           elim (Contains-push_cases (receipts d) r q (subst (λ (xs : List Receipt). Contains xs q) (ap receipts' is ∙ own) there)) [
             | inl before ↦ subst (λ f. IsTaken slots' f q) (sym is) (taken_still d q before (added_still d q before))
-            | inr last ↦ subst (λ f. IsTaken slots' f q) (sym is) (subst (λ p. IsTaken slots' d p) last (slot_with d n m, slot, refl, refl, refl, refl))
+            | inr last ↦
+                subst (λ f. IsTaken slots' f q) (sym is)
+                (subst (λ p. IsTaken slots' d p) last (slot_with d n m, slot, refl, refl, refl, refl))
           ]
       | inr differ ↦
           let before = subst (λ (xs : List Receipt). Contains xs q) (rest e (other_domain d e differ)) there in
@@ -133,7 +142,8 @@ module _ (receipts receipts' : DomainNo → List Receipt) (slots slots' : ℕ �
             | inl here ↦
                 let its = same_domain d s.domain here in
                 ap (λ (xs : List Receipt). slot_under xs s.number) (ap receipts' its ∙ own)
-                ∙ under_more (receipts d) (r ∷ []) s.number k (ap (λ f. slot_under (receipts f) s.number) (sym its) ∙ sound.named k s before)
+                ∙ under_more (receipts d) (r ∷ [])
+                s.number k (ap (λ f. slot_under (receipts f) s.number) (sym its) ∙ sound.named k s before)
             | inr away ↦ named_still k s before (other_domain d s.domain away)
           ]
     ]
@@ -164,7 +174,9 @@ module _ (receipts receipts' : DomainNo → List Receipt) (slots slots' : ℕ �
     removed_taken e q there = elim (cases_Bool (e.0 == d.0)) [
       | inl same ↦
           let is = same_domain d e same in
-          let before = filter_there (λ q. not (q.number == n)) (receipts d) q (subst (λ (xs : List Receipt). Contains xs q) (ap receipts' is ∙ own) there) in
+          let before =
+          filter_there (λ q. not (q.number == n)) (receipts d)
+          q (subst (λ (xs : List Receipt). Contains xs q) (ap receipts' is ∙ own) there) in
           subst (λ f. IsTaken slots' f q) (sym is) (taken_still d q before.0 (removed_still_own q before.0 (left (q.number == n) before.1)))
       | inr differ ↦
           let away = other_domain d e differ in
@@ -184,8 +196,11 @@ module _ (receipts receipts' : DomainNo → List Receipt) (slots slots' : ℕ �
           | inl here ↦
               let its = same_domain d s.domain here in
               let named = ap (λ f. slot_under (receipts f) s.number) (sym its) ∙ sound.named k s before in
-              let differ : s.number ≢ n = λ same. away (cc (sym named ∙ ap (slot_under (receipts d)) same ∙ ap (λ (o : Option Receipt). option_map (λ r. r.slot) o) found)) in
-              ap (λ (xs : List Receipt). slot_under xs s.number) (ap receipts' its ∙ own) ∙ under_left (receipts d) s.number n differ ∙ named
+              let differ : s.number ≢ n = λ same.
+              away (cc (sym named ∙ ap (slot_under (receipts d)) same ∙ ap (λ (o : Option Receipt). option_map (λ r. r.slot) o) found)) in
+              ap (λ (xs : List Receipt). slot_under xs s.number) (ap receipts' its ∙ own)
+              ∙ under_left (receipts d) s.number n differ
+              ∙ named
           | inr there ↦ named_still k s before (other_domain d s.domain there)
         ]
 

@@ -1,6 +1,8 @@
 -- How a store keeps messages: each in a slot, and receipts that name the slots.
 -- It has for each domain the receipts of its messages, in order.
-use Rattle.std.specs.Prelude.{◌≡◌, ◌≢◌, ℕ, ◌+◌, ◌≤◌, ◌==◌, ◌&&◌, IsTrue, Bool, true, false, not, cond, List, [], ◌∷◌, ◌++◌, get_or, replicate, Option, Some, None, Contains, filter, filter_map}
+use Rattle.std.specs.Prelude.{◌≡◌, ◌≢◌, ℕ, ◌+◌, ◌≤◌, ◌==◌, ◌&&◌, IsTrue, Bool, true}
+use Rattle.std.specs.Prelude.{false, not, cond, List, [], ◌∷◌, ◌++◌, get_or, replicate}
+use Rattle.std.specs.Prelude.{Option, Some, None, Contains, filter, filter_map}
 use Rattle.std.specs.List.{find, list_any}
 use Rattle.std.specs.Option.{option_map, option_map_or, unwrap_or}
 use Rattle.cast_types.specs.declared.names.DomainNo.{DomainNo}
@@ -49,11 +51,18 @@ is_numbered next receipts = rises number_of receipts && all_below number_of next
 
 -- a receipt under the key, of an id that a test is true of
 abbrev pub IsReceivedOf : (Uid → Type 0) → List Receipt → Key → Type 0
-IsReceivedOf Passes receipts key = (r : Receipt) × Contains receipts r × (record { 0 = r.number } ≡ key) × Passes r.id
+IsReceivedOf Passes receipts key =
+    (r : Receipt) × Contains receipts r × (record { 0 = r.number } ≡ key) × Passes r.id
 
--- of each receipt's source there is a receipt that has no greater count, and whose id a test is true of
+-- of each receipt's source there is a receipt that has no greater count, and whose id a test is
+-- true of
 abbrev pub IsLedByReceipts : (Uid → Type 0) → List Receipt → Type 0
-IsLedByReceipts Fails receipts = (r : Receipt) → Contains receipts r → (s : Receipt) × Contains receipts s × (source_of s.id ≡ source_of r.id) × (s.id.count ≤ r.id.count) × Fails s.id
+IsLedByReceipts Fails receipts =
+    (r : Receipt) → Contains receipts r → (s : Receipt)
+    × Contains receipts s
+    × (source_of s.id ≡ source_of r.id)
+    × (s.id.count ≤ r.id.count)
+    × Fails s.id
 
 -- a receipt of a source has this id and number, and none of the source has a lower count
 pub record IsFirstReceipt (receipts : List Receipt) (s : Source) (first : Uid × Key) : Type 0 where
@@ -79,7 +88,8 @@ HasIdsOf entries receipts = (u : Uid) (k : Key) → has entries u k ≡ list_any
 
 -- and those of the ABCASTs alone
 abbrev pub HasAbcastsOf : List Entry → List Receipt → Type 0
-HasAbcastsOf entries receipts = (u : Uid) (k : Key) → has entries u k ≡ list_any (is_abcast_named u k) receipts
+HasAbcastsOf entries receipts =
+    (u : Uid) (k : Key) → has entries u k ≡ list_any (is_abcast_named u k) receipts
 
 -- numbers rise below the next one, one index has the ids, and another those of the ABCASTs
 pub record IsInOrder (next : ℕ) (receipts : List Receipt) (names : Ids) : Type 0 where
@@ -89,13 +99,16 @@ pub record IsInOrder (next : ℕ) (receipts : List Receipt) (names : Ids) : Type
 
 -- a receipt of an ABCAST of a source, with this count
 abbrev pub HasAbcast : List Receipt → Source → ℕ → Type 0
-HasAbcast receipts s count = (r : Receipt) × Contains receipts r × (r.atomic ≡ true) × (source_of r.id ≡ s) × (r.id.count ≡ count)
+HasAbcast receipts s count =
+    (r : Receipt) × Contains receipts r × (r.atomic ≡ true) × (source_of r.id ≡ s)
+    × (r.id.count ≡ count)
 
 -- the least and the greatest count of the ABCASTs of a source that have receipts
 pub record HasAbcastRange (receipts : List Receipt) (s : Source) (range : ℕ × ℕ) : Type 0 where
   pub least : HasAbcast receipts s range.0
   pub greatest : HasAbcast receipts s range.1
-  pub within : (r : Receipt) → Contains receipts r → r.atomic ≡ true → source_of r.id ≡ s → (range.0 ≤ r.id.count) × (r.id.count ≤ range.1)
+  pub within : (r : Receipt) → Contains receipts r → r.atomic ≡ true → source_of r.id ≡ s
+      → (range.0 ≤ r.id.count) × (r.id.count ≤ range.1)
 
 -- no receipt of a source is of an ABCAST
 abbrev pub HasNoAbcast : List Receipt → Source → Type 0
@@ -106,7 +119,10 @@ abbrev pub receipt_of : ℕ → ℕ → Message → Receipt
 receipt_of n slot m = record { number = n; slot = slot; id = m.id; atomic = is_abcast m }
 
 abbrev pub with_receipt : ℕ → Message → Line → Line
-with_receipt slot m l = record l { next = l.next + 1; receipts = l.receipts ++ receipt_of l.next slot m ∷ [] }
+with_receipt slot m l = record l {
+  next = l.next + 1;
+  receipts = l.receipts ++ receipt_of l.next slot m ∷ [];
+}
 
 -- none of a number
 abbrev pub but_number : ℕ → List Receipt → List Receipt
@@ -144,14 +160,19 @@ only test (Some x) = cond (test x) (Some x) None
 
 -- the message of a receipt
 abbrev pub received_by : (ℕ → Option Slot) → Receipt → Option Received
-received_by slots r = option_map (λ s. record { key = record { 0 = r.number }; message = s.message }) (slots r.slot)
+received_by slots r =
+    option_map (λ s. record { key = record { 0 = r.number }; message = s.message }) (slots r.slot)
 
 abbrev pub kept_by : (ℕ → Option Slot) → List Receipt → List Received
 kept_by slots receipts = filter_map (received_by slots) receipts
 
 -- of the line of a domain, given the domain's number
 abbrev pub shelf_by : (ℕ → Option Slot) → ℕ → Line → Shelf
-shelf_by slots n l = record { domain = record { 0 = n }; next = l.next; kept = kept_by slots l.receipts }
+shelf_by slots n l = record {
+  domain = record { 0 = n };
+  next = l.next;
+  kept = kept_by slots l.receipts;
+}
 
 -- of lines that stand in order of the numbers of their domains, the first of them at this number
 abbrev pub shelves_from : (ℕ → Option Slot) → ℕ → List (Option Line) → List Shelf
@@ -165,7 +186,11 @@ shelves_by slots lines = shelves_from slots 0 lines
 
 -- each receipt's slot holds a message, of its id, which is an ABCAST where the receipt says so
 abbrev pub IsHeld : (ℕ → Option Slot) → List Receipt → Type 0
-IsHeld slots receipts = (r : Receipt) → Contains receipts r → (s : Slot) × (slots r.slot ≡ Some s) × (s.message.id ≡ r.id) × (is_abcast s.message ≡ r.atomic)
+IsHeld slots receipts =
+    (r : Receipt) → Contains receipts r → (s : Slot)
+    × (slots r.slot ≡ Some s)
+    × (s.message.id ≡ r.id)
+    × (is_abcast s.message ≡ r.atomic)
 
 -- What is kept
 
@@ -187,7 +212,8 @@ abbrev pub line_or_empty : Option Line → Line
 line_or_empty o = unwrap_or o (record { next = 0; receipts = [] })
 
 -- the line of one domain is another, and those of the others stay
-pub record ChangesLine (d : DomainNo) (w : Option Line) (lines lines' : List (Option Line)) : Type 0 where
+pub record ChangesLine (d : DomainNo) (w : Option Line)
+    (lines lines' : List (Option Line)) : Type 0 where
   pub here : line_of lines' d ≡ w
   pub others : (e : DomainNo) → e ≢ d → line_of lines' e ≡ line_of lines e
 
@@ -195,8 +221,16 @@ pub record ChangesLine (d : DomainNo) (w : Option Line) (lines lines' : List (Op
 abbrev pub IsPadded : List (Option Line) → List (Option Line) → Type 0
 IsPadded lines lines' = (n : ℕ) × (lines' ≡ lines ++ replicate n None)
 
--- Each receipt of a domain names a slot that holds a message of this domain, of this number and this id, which is an ABCAST where
--- the receipt says so. Each slot that holds a message is the one that the receipt of its domain and number names: so no slot is named twice.
+-- Each receipt of a domain names a slot that holds a message of this domain, of this number and
+-- this id, which is an ABCAST where the receipt says so. Each slot that holds a message is the one
+-- that the receipt of its domain and number names: so no slot is named twice.
 pub record IsStocked (receipts : DomainNo → List Receipt) (slots : ℕ → Option Slot) : Type 0 where
-  pub taken : (d : DomainNo) (r : Receipt) → Contains (receipts d) r → (s : Slot) × (slots r.slot ≡ Some s) × (s.domain ≡ d) × (s.number ≡ r.number) × (s.message.id ≡ r.id) × (is_abcast s.message ≡ r.atomic)
-  pub named : (key : ℕ) (s : Slot) → slots key ≡ Some s → slot_under (receipts s.domain) s.number ≡ Some key
+  pub taken : (d : DomainNo) (r : Receipt) → Contains (receipts d) r
+      → (s : Slot)
+      × (slots r.slot ≡ Some s)
+      × (s.domain ≡ d)
+      × (s.number ≡ r.number)
+      × (s.message.id ≡ r.id)
+      × (is_abcast s.message ≡ r.atomic)
+  pub named : (key : ℕ) (s : Slot) → slots key ≡ Some s
+      → slot_under (receipts s.domain) s.number ≡ Some key

@@ -68,7 +68,8 @@ impl<'a> Kept<'a> {
     /// The message of a place, counted from 0, with its key.
     pub fn at(&self, place: usize) -> (Key, &'a Message)
         requires { place < length self.now }
-        ensures { slice_get self.now place ≡ Some (record { key = result.0; message = result.1.now }) }
+        ensures { slice_get self.now place
+            ≡ Some (record { key = result.0; message = result.1.now }) }
     {
         let receipt = receipt_at(self.front, self.back, place);
         (Key(receipt.number), &self.slots[receipt.slot].message)

@@ -1,4 +1,6 @@
-ghost use Rattle.std.specs.Prelude.{◌≡◌, ◌<◌, ◌==◌, ◌++◌, ◌∷◌, [], cond, false, get_or, IfOk, IfErr, IfNone, IfSome, OnOk, OnErr, OnSome, Some, None, IsTrue, true, length};
+ghost use Rattle.std.specs.Prelude.{◌≡◌, ◌<◌, ◌==◌, ◌++◌, ◌∷◌, [], cond, false};
+ghost use Rattle.std.specs.Prelude.{get_or, IfOk, IfErr, IfNone, IfSome, OnOk};
+ghost use Rattle.std.specs.Prelude.{OnErr, OnSome, Some, None, IsTrue, true, length};
 ghost use Rattle.std.specs.List.{position, remove};
 ghost use Rattle.std.specs.VecDeque.{deque_len};
 ghost use Rattle.cast_types.specs.declared.names.Key.{Key};
@@ -6,7 +8,10 @@ ghost use Rattle.cast_types.specs.declared.names.Uid.{Uid};
 ghost use Rattle.cast_index.specs.Index.{has};
 ghost use Rattle.cast_index.specs.Rises.{rises};
 ghost use Rattle.cast_store.specs.declared.receipt.Receipt.{Receipt};
-ghost use Rattle.cast_store.specs.Lines.{is_abcast_named, is_named, is_numbered, key_of, number_of, slot_of, slot_with, slot_under, with_receipt, without_number, HasAbcastRange, HasNoAbcast, HasNoneOf, IsFilled, IsFirstReceipt, IsLedByReceipts, IsReceivedOf};
+ghost use Rattle.cast_store.specs.Lines.{is_abcast_named, is_named, is_numbered, key_of};
+ghost use Rattle.cast_store.specs.Lines.{number_of, slot_of, slot_with, slot_under, with_receipt};
+ghost use Rattle.cast_store.specs.Lines.{without_number, HasAbcastRange, HasNoAbcast, HasNoneOf};
+ghost use Rattle.cast_store.specs.Lines.{IsFilled, IsFirstReceipt, IsLedByReceipts, IsReceivedOf};
 ghost use Rattle.slab.specs.Slab.{get as slot_at};
 
 use crate::receipt::Receipt;
@@ -78,8 +83,8 @@ impl Row {
         Key(self.next)
     }
 
-    /// Keeps a message of a domain in a slot of its own, under the next key. It comes back, and nothing is changed, where there is no
-    /// memory or no key is left.
+    /// Keeps a message of a domain in a slot of its own, under the next key. It comes back, and
+    /// nothing is changed, where there is no memory or no key is left.
     pub(crate) fn put(
         &mut self,
         slots: &mut Slab<Slot>,
@@ -88,7 +93,8 @@ impl Row {
     ) -> Result<Key, Message>
         ensures key { IfOk result (λ key. key ≡ record { 0 = self.old.next }) }
         ensures ok { OnOk result (self.new ≡ with_receipt slots.old.vacant_key message self.old) }
-        ensures filled { OnOk result (IsFilled (slot_with domain self.old.next message) slots.old slots.new) }
+        ensures filled { OnOk result
+            (IsFilled (slot_with domain self.old.next message) slots.old slots.new) }
         ensures free { slot_under self.old.receipts self.old.next ≡ None }
         ensures back { IfErr result (λ back. back ≡ message) }
         ensures err { OnErr result (self.new ≡ self.old) }
@@ -127,7 +133,8 @@ impl Row {
         Some(self.receipts[place].slot)
     }
 
-    /// Takes out the receipt of the message under a key, and gives its slot; `None` changes nothing.
+    /// Takes out the receipt of the message under a key, and gives its slot; `None` changes
+    /// nothing.
     pub(crate) fn remove(&mut self, key: Key) -> Option<usize>
         ensures value { result ≡ slot_under self.old.receipts key.0 }
         ensures left { self.new ≡ without_number key.0 self.old }
@@ -145,11 +152,14 @@ impl Row {
         self.slot_under(key)
     }
 
-    /// The key of a message that passes. `None` says that each message has one of its source, with no greater count, that fails.
+    /// The key of a message that passes. `None` says that each message has one of its source, with
+    /// no greater count, that fails.
     pub(crate) fn first_passing<F: Fn(Uid) -> bool>(&self, passes: F) -> Option<Key>
         requires { F.IsAlwaysCallable passes }
-        ensures some { IfSome result (IsReceivedOf (λ id. F.post passes id true) self.now.receipts) }
-        ensures none { IfNone result (IsLedByReceipts (λ id. F.post passes id false) self.now.receipts) }
+        ensures some { IfSome result
+            (IsReceivedOf (λ id. F.post passes id true) self.now.receipts) }
+        ensures none { IfNone result
+            (IsLedByReceipts (λ id. F.post passes id false) self.now.receipts) }
     {
         let mut after = None;
         while let Some(id) = self.ids.all.first_behind(after) {
@@ -189,13 +199,17 @@ impl Row {
     }
 }
 
-// Adds a receipt, and its id. `NoMemory` leaves the receipts, and all ids but this one under this number.
+// Adds a receipt, and its id. `NoMemory` leaves the receipts, and all ids but this one under this
+// number.
 fn add(receipts: &mut VecDeque<Receipt>, ids: &mut Ids, receipt: Receipt) -> Result<(), NoMemory>
     ensures added { OnOk result (receipts.new.items ≡ receipts.old.items ++ receipt ∷ []) }
-    ensures named { OnOk result ((u : Uid) (k : Key) → has ids.new.all u k ≡ cond (is_named u k receipt) true (has ids.old.all u k)) }
-    ensures named_abcast { OnOk result ((u : Uid) (k : Key) → has ids.new.abcasts u k ≡ cond (is_abcast_named u k receipt) true (has ids.old.abcasts u k)) }
+    ensures named { OnOk result ((u : Uid) (k : Key)
+        → has ids.new.all u k ≡ cond (is_named u k receipt) true (has ids.old.all u k)) }
+    ensures named_abcast { OnOk result ((u : Uid) (k : Key) → has ids.new.abcasts u k
+        ≡ cond (is_abcast_named u k receipt) true (has ids.old.abcasts u k)) }
     ensures same { OnErr result (receipts.new.items ≡ receipts.old.items) }
-    ensures unnamed { OnErr result (has ids.old.all receipt.id (key_of receipt) ≡ false → (u : Uid) (k : Key) → has ids.new.all u k ≡ has ids.old.all u k) }
+    ensures unnamed { OnErr result (has ids.old.all receipt.id (key_of receipt) ≡ false
+        → (u : Uid) (k : Key) → has ids.new.all u k ≡ has ids.old.all u k) }
     ensures no_abcast { OnErr result (ids.new.abcasts ≡ ids.old.abcasts) }
 {
     receipts.reserve(1)?;
@@ -209,8 +223,11 @@ fn take_out(receipts: &mut VecDeque<Receipt>, ids: &mut Ids, place: usize) -> Op
     requires { place < deque_len receipts.old }
     ensures value { (r : Receipt) → result ≡ Some (get_or receipts.old.items place r).slot }
     ensures left { receipts.new.items ≡ remove receipts.old.items place }
-    ensures unnamed { (r : Receipt) (u : Uid) (k : Key) → has ids.new.all u k ≡ cond (is_named u k (get_or receipts.old.items place r)) false (has ids.old.all u k) }
-    ensures no_abcast { (r : Receipt) (u : Uid) (k : Key) → has ids.new.abcasts u k ≡ cond (is_abcast_named u k (get_or receipts.old.items place r)) false (has ids.old.abcasts u k) }
+    ensures unnamed { (r : Receipt) (u : Uid) (k : Key) → has ids.new.all u k
+        ≡ cond (is_named u k (get_or receipts.old.items place r)) false (has ids.old.all u k) }
+    ensures no_abcast { (r : Receipt) (u : Uid) (k : Key)
+        → has ids.new.abcasts u k ≡ cond (is_abcast_named u k (get_or receipts.old.items place r))
+        false (has ids.old.abcasts u k) }
 {
     let receipt = receipts.remove(place)?;
     ids.remove(receipt);

@@ -41,9 +41,12 @@ impl Ids {
 
     /// Adds the id of a receipt. `NoMemory` leaves all ids but this one under this number.
     pub(crate) fn insert(&mut self, receipt: Receipt) -> Result<(), NoMemory>
-        ensures all { OnOk result ((u : Uid) (k : Key) → has self.new.all u k ≡ cond (is_named u k receipt) true (has self.old.all u k)) }
-        ensures abcasts { OnOk result ((u : Uid) (k : Key) → has self.new.abcasts u k ≡ cond (is_abcast_named u k receipt) true (has self.old.abcasts u k)) }
-        ensures unnamed { OnErr result (has self.old.all receipt.id (key_of receipt) ≡ false → (u : Uid) (k : Key) → has self.new.all u k ≡ has self.old.all u k) }
+        ensures all { OnOk result ((u : Uid) (k : Key)
+            → has self.new.all u k ≡ cond (is_named u k receipt) true (has self.old.all u k)) }
+        ensures abcasts { OnOk result ((u : Uid) (k : Key) → has self.new.abcasts u k
+            ≡ cond (is_abcast_named u k receipt) true (has self.old.abcasts u k)) }
+        ensures unnamed { OnErr result (has self.old.all receipt.id (key_of receipt) ≡ false
+            → (u : Uid) (k : Key) → has self.new.all u k ≡ has self.old.all u k) }
         ensures no_abcast { OnErr result (self.new.abcasts ≡ self.old.abcasts) }
     {
         let key = Key(receipt.number);
@@ -59,8 +62,10 @@ impl Ids {
 
     /// Removes the id of a receipt. Takes no memory.
     pub(crate) fn remove(&mut self, receipt: Receipt)
-        ensures all { (u : Uid) (k : Key) → has self.new.all u k ≡ cond (is_named u k receipt) false (has self.old.all u k) }
-        ensures abcasts { (u : Uid) (k : Key) → has self.new.abcasts u k ≡ cond (is_abcast_named u k receipt) false (has self.old.abcasts u k) }
+        ensures all { (u : Uid) (k : Key)
+            → has self.new.all u k ≡ cond (is_named u k receipt) false (has self.old.all u k) }
+        ensures abcasts { (u : Uid) (k : Key) → has self.new.abcasts u k
+            ≡ cond (is_abcast_named u k receipt) false (has self.old.abcasts u k) }
     {
         let key = Key(receipt.number);
         self.all.remove(receipt.id, key);

@@ -1,10 +1,16 @@
-ghost use Rattle.std.specs.Prelude.{◌≡◌, ◌≢◌, ◌<◌, ◌+◌, ◌∷◌, ◌++◌, ◌==◌, [], IfOk, IfErr, IfNone, IfSome, OnOk, OnErr, IsTrue, None, Some, true, false, not, filter, length, map, vec_len};
+ghost use Rattle.std.specs.Prelude.{◌≡◌, ◌≢◌, ◌<◌, ◌+◌, ◌∷◌, ◌++◌, ◌==◌, [], IfOk, IfErr};
+ghost use Rattle.std.specs.Prelude.{IfNone, IfSome, OnOk, OnErr, IsTrue, None, Some};
+ghost use Rattle.std.specs.Prelude.{true, false, not, filter, length, map, vec_len};
 ghost use Rattle.std.specs.Option.{option_copied, option_map};
 ghost use Rattle.cast_types.specs.declared.names.DomainNo.{DomainNo};
 ghost use Rattle.cast_message.specs.Receipts.{key_eq, message_under};
-ghost use Rattle.cast_store.specs.Ids.{IsKeptOf, IsLedBy, KeepsAbcastRange, KeepsFirst, KeepsNoAbcast, KeepsNoneOf, message_of};
+ghost use Rattle.cast_store.specs.Ids.{IsKeptOf, IsLedBy, KeepsAbcastRange, KeepsFirst};
+ghost use Rattle.cast_store.specs.Ids.{KeepsNoAbcast, KeepsNoneOf, message_of};
 ghost use Rattle.cast_store.specs.Store.{kept_in, next_in, is_rising};
-ghost use Rattle.cast_store.specs.Lines.{line_of, line_or_empty, message_in, only, receipts_in, receipts_of, slot_under, slot_with, with_receipt, without_number, ChangesLine, IsEmptied, IsFilled, IsPadded};
+ghost use Rattle.cast_store.specs.Lines.{line_of, line_or_empty, message_in, only};
+ghost use Rattle.cast_store.specs.Lines.{receipts_in, receipts_of, slot_under};
+ghost use Rattle.cast_store.specs.Lines.{slot_with, with_receipt, without_number};
+ghost use Rattle.cast_store.specs.Lines.{ChangesLine, IsEmptied, IsFilled, IsPadded};
 ghost use Rattle.slab.specs.Slab.{get as slot_at, Updates};
 
 use crate::kept::Kept;
@@ -16,8 +22,9 @@ use slab::Slab;
 use std::alloc::Global;
 use std::marker::Model;
 
-/// The messages that domains keep, each under a key of its domain. Contracts say `kept_in` of it and a domain: the list
-/// of the domain's messages with their keys, in order of receipt; and `next_in`: the number of the domain's next key.
+/// The messages that domains keep, each under a key of its domain. Contracts say `kept_in` of it
+/// and a domain: the list of the domain's messages with their keys, in order of receipt; and
+/// `next_in`: the number of the domain's next key.
 #[derive(Drop)]
 pub struct Store {
     // Of each domain the receipts of its messages, in order, at the place of its number.
@@ -62,21 +69,26 @@ impl Store {
         })
     }
 
-    /// Keeps a message for a domain, the last one in order of receipt, under the domain's next key, under which it kept
-    /// none. The message comes back, and nothing is changed, where there is no memory or no key is left.
+    /// Keeps a message for a domain, the last one in order of receipt, under the domain's next key,
+    /// under which it kept none. The message comes back, and nothing is changed, where there is no
+    /// memory or no key is left.
     pub fn put(&mut self, domain: DomainNo, message: Message) -> Result<Key, Message>
         ensures key { IfOk result (λ key. key ≡ record { 0 = next_in self.old domain }) }
-        ensures kept { IfOk result (λ key. kept_in self.new domain ≡ kept_in self.old domain ++ record { key = key; message = message } ∷ []) }
+        ensures kept { IfOk result (λ key. kept_in self.new domain
+            ≡ kept_in self.old domain ++ record { key = key; message = message } ∷ []) }
         ensures next { OnOk result (next_in self.new domain ≡ next_in self.old domain + 1) }
-        ensures free { message_under (kept_in self.old domain) (record { 0 = next_in self.old domain }) ≡ None }
+        ensures free { message_under (kept_in self.old domain)
+            (record { 0 = next_in self.old domain }) ≡ None }
         ensures back { IfErr result (λ back. back ≡ message) }
         ensures err { OnErr result (self.new ≡ self.old) }
-        ensures others { (e : DomainNo) → e ≢ domain → (kept_in self.new e ≡ kept_in self.old e) × (next_in self.new e ≡ next_in self.old e) }
+        ensures others { (e : DomainNo) → e ≢ domain → (kept_in self.new e ≡ kept_in self.old e)
+            × (next_in self.new e ≡ next_in self.old e) }
     {
         put_in(&mut self.rows, &mut self.slots, domain, message)
     }
 
-    /// The message that a domain keeps under a key, `None` where it keeps none there. Takes no memory.
+    /// The message that a domain keeps under a key, `None` where it keeps none there. Takes no
+    /// memory.
     pub fn get(&self, domain: DomainNo, key: Key) -> Option<&Message>
         ensures { option_copied result ≡ message_under (kept_in self.now domain) key }
     {
@@ -96,12 +108,15 @@ impl Store {
         }
     }
 
-    /// The key of a message that a domain keeps and whose id passes. `None` says that each message has one of its source, with
-    /// no greater count, whose id fails. Only the id with the least count of each source is asked for. Takes no memory.
+    /// The key of a message that a domain keeps and whose id passes. `None` says that each message
+    /// has one of its source, with no greater count, whose id fails. Only the id with the least
+    /// count of each source is asked for. Takes no memory.
     pub fn first_passing<F: Fn(Uid) -> bool>(&self, domain: DomainNo, passes: F) -> Option<Key>
         requires { F.IsAlwaysCallable passes }
-        ensures some { IfSome result (IsKeptOf (λ id. F.post passes id true) (kept_in self.now domain)) }
-        ensures none { IfNone result (IsLedBy (λ id. F.post passes id false) (kept_in self.now domain)) }
+        ensures some { IfSome result
+            (IsKeptOf (λ id. F.post passes id true) (kept_in self.now domain)) }
+        ensures none { IfNone result
+            (IsLedBy (λ id. F.post passes id false) (kept_in self.now domain)) }
     {
         match row_of(&self.rows, domain) {
             Some(row) => row.first_passing(passes),
@@ -109,8 +124,8 @@ impl Store {
         }
     }
 
-    /// Of the messages of a source that a domain keeps, the id and the key of the one with the least count. `None` where it
-    /// keeps none. Takes no memory.
+    /// Of the messages of a source that a domain keeps, the id and the key of the one with the
+    /// least count. `None` where it keeps none. Takes no memory.
     pub fn first_of(&self, domain: DomainNo, source: Source) -> Option<(Uid, Key)>
         ensures some { IfSome result (KeepsFirst (kept_in self.now domain) source) }
         ensures none { IfNone result (KeepsNoneOf (kept_in self.now domain) source) }
@@ -121,8 +136,8 @@ impl Store {
         }
     }
 
-    /// The least and the greatest count of the ABCASTs of a source that a domain keeps, `None` where it keeps none. Takes no
-    /// memory.
+    /// The least and the greatest count of the ABCASTs of a source that a domain keeps, `None`
+    /// where it keeps none. Takes no memory.
     pub fn atomic_counts(&self, domain: DomainNo, source: Source) -> Option<(u32, u32)>
         ensures some { IfSome result (KeepsAbcastRange (kept_in self.now domain) source) }
         ensures none { IfNone result (KeepsNoAbcast (kept_in self.now domain) source) }
@@ -133,14 +148,16 @@ impl Store {
         }
     }
 
-    /// Gives back the message that a domain keeps under a key, and keeps it no longer; `None` changes nothing, where
-    /// the domain keeps none there. Takes no memory.
+    /// Gives back the message that a domain keeps under a key, and keeps it no longer; `None`
+    /// changes nothing, where the domain keeps none there. Takes no memory.
     pub fn remove(&mut self, domain: DomainNo, key: Key) -> Option<Message>
         ensures value { result ≡ message_under (kept_in self.old domain) key }
-        ensures kept { kept_in self.new domain ≡ filter (λ r. not (key_eq r.key key)) (kept_in self.old domain) }
+        ensures kept { kept_in self.new domain
+            ≡ filter (λ r. not (key_eq r.key key)) (kept_in self.old domain) }
         ensures next { next_in self.new domain ≡ next_in self.old domain }
         ensures none { IfNone result (self.new ≡ self.old) }
-        ensures others { (e : DomainNo) → e ≢ domain → (kept_in self.new e ≡ kept_in self.old e) × (next_in self.new e ≡ next_in self.old e) }
+        ensures others { (e : DomainNo) → e ≢ domain → (kept_in self.new e ≡ kept_in self.old e)
+            × (next_in self.new e ≡ next_in self.old e) }
     {
         remove_in(&mut self.rows, &mut self.slots, domain, key)
     }
@@ -162,8 +179,8 @@ impl Store {
         self.messages(domain).len()
     }
 
-    /// The messages that a domain keeps, each with its key, in order of receipt. Their keys rise, and are below the
-    /// next one. Takes no memory.
+    /// The messages that a domain keeps, each with its key, in order of receipt. Their keys rise,
+    /// and are below the next one. Takes no memory.
     pub fn messages(&self, domain: DomainNo) -> Kept<'_>
         ensures value { result ≡ kept_in self.now domain }
         ensures rising { IsTrue (is_rising (next_in self.now domain) (kept_in self.now domain)) }
@@ -178,7 +195,8 @@ impl Store {
     pub fn drop_domain(&mut self, domain: DomainNo)
         ensures kept { kept_in self.new domain ≡ [] }
         ensures next { next_in self.new domain ≡ 0 }
-        ensures others { (e : DomainNo) → e ≢ domain → (kept_in self.new e ≡ kept_in self.old e) × (next_in self.new e ≡ next_in self.old e) }
+        ensures others { (e : DomainNo) → e ≢ domain → (kept_in self.new e ≡ kept_in self.old e)
+            × (next_in self.new e ≡ next_in self.old e) }
     {
         drop_row(&mut self.rows, domain);
         drop_slots(&mut self.slots, domain);
@@ -207,10 +225,15 @@ fn put_in(
     domain: DomainNo,
     message: Message,
 ) -> Result<Key, Message>
-    ensures key { IfOk result (λ key. key ≡ record { 0 = (line_or_empty (line_of rows.old.items domain)).next }) }
-    ensures ok { OnOk result (ChangesLine domain (Some (with_receipt slots.old.vacant_key message (line_or_empty (line_of rows.old.items domain)))) rows.old.items rows.new.items) }
-    ensures filled { OnOk result (IsFilled (slot_with domain (line_or_empty (line_of rows.old.items domain)).next message) slots.old slots.new) }
-    ensures free { slot_under (line_or_empty (line_of rows.old.items domain)).receipts (line_or_empty (line_of rows.old.items domain)).next ≡ None }
+    ensures key { IfOk result
+        (λ key. key ≡ record { 0 = (line_or_empty (line_of rows.old.items domain)).next }) }
+    ensures ok { OnOk result (ChangesLine domain (Some (with_receipt slots.old.vacant_key message
+        (line_or_empty (line_of rows.old.items domain)))) rows.old.items rows.new.items) }
+    ensures filled { OnOk result
+        (IsFilled (slot_with domain (line_or_empty (line_of rows.old.items domain)).next message)
+        slots.old slots.new) }
+    ensures free { slot_under (line_or_empty (line_of rows.old.items domain)).receipts
+        (line_or_empty (line_of rows.old.items domain)).next ≡ None }
     ensures back { IfErr result (λ back. back ≡ message) }
     ensures err { OnErr result (IsPadded rows.old.items rows.new.items) }
     ensures slots_stay { OnErr result (slots.new.slots ≡ slots.old.slots) }
@@ -232,9 +255,12 @@ fn put_at(
     message: Message,
 ) -> Result<Key, Message>
     ensures key { IfOk result (λ key. key ≡ record { 0 = (line_or_empty place.old).next }) }
-    ensures ok { OnOk result (place.new ≡ Some (with_receipt slots.old.vacant_key message (line_or_empty place.old))) }
-    ensures filled { OnOk result (IsFilled (slot_with domain (line_or_empty place.old).next message) slots.old slots.new) }
-    ensures free { slot_under (line_or_empty place.old).receipts (line_or_empty place.old).next ≡ None }
+    ensures ok { OnOk result
+        (place.new ≡ Some (with_receipt slots.old.vacant_key message (line_or_empty place.old))) }
+    ensures filled { OnOk result
+        (IsFilled (slot_with domain (line_or_empty place.old).next message) slots.old slots.new) }
+    ensures free { slot_under (line_or_empty place.old).receipts (line_or_empty place.old).next
+        ≡ None }
     ensures back { IfErr result (λ back. back ≡ message) }
     ensures err { OnErr result (place.new ≡ place.old) }
     ensures slots_stay { OnErr result (slots.new.slots ≡ slots.old.slots) }
@@ -279,10 +305,15 @@ fn remove_in(
     domain: DomainNo,
     key: Key,
 ) -> Option<Message>
-    ensures value { result ≡ message_in (slot_at slots.old) (slot_under (receipts_in rows.old.items domain) key.0) }
-    ensures left { ChangesLine domain (option_map (without_number key.0) (line_of rows.old.items domain)) rows.old.items rows.new.items }
-    ensures gone { IsEmptied slots.old slots.new (slot_under (receipts_in rows.old.items domain) key.0) }
-    ensures none { slot_under (receipts_in rows.old.items domain) key.0 ≡ None → rows.new.items ≡ rows.old.items }
+    ensures value { result
+        ≡ message_in (slot_at slots.old) (slot_under (receipts_in rows.old.items domain) key.0) }
+    ensures left { ChangesLine domain
+        (option_map (without_number key.0) (line_of rows.old.items domain))
+        rows.old.items rows.new.items }
+    ensures gone { IsEmptied slots.old slots.new
+        (slot_under (receipts_in rows.old.items domain) key.0) }
+    ensures none { slot_under (receipts_in rows.old.items domain) key.0 ≡ None
+        → rows.new.items ≡ rows.old.items }
 {
     match rows.get_mut(usize::from(domain.0)) {
         Some(row) => remove_at(row, slots, key),
@@ -292,7 +323,8 @@ fn remove_in(
 
 // Takes out a message of the row of a domain, if there is one.
 fn remove_at(place: &mut Option<Row>, slots: &mut Slab<Slot>, key: Key) -> Option<Message>
-    ensures value { result ≡ message_in (slot_at slots.old) (slot_under (receipts_of place.old) key.0) }
+    ensures value { result
+        ≡ message_in (slot_at slots.old) (slot_under (receipts_of place.old) key.0) }
     ensures left { place.new ≡ option_map (without_number key.0) place.old }
     ensures gone { IsEmptied slots.old slots.new (slot_under (receipts_of place.old) key.0) }
     ensures none { slot_under (receipts_of place.old) key.0 ≡ None → place.new ≡ place.old }

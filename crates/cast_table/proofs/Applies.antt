@@ -1,5 +1,6 @@
 -- What one event does to the domains of a table.
-use Rattle.std.proofs.Common.{◌≡◌, ℕ, zero, suc, ◌<◌, List, [], ◌∷◌, ◌++◌, length, get_or, Some, Result, Ok, Err, slice_set, refl, ap, subst, ◌∙◌, arith}
+use Rattle.std.proofs.Common.{◌≡◌, ℕ, zero, suc, ◌<◌, List, [], ◌∷◌, ◌++◌, length, get_or}
+use Rattle.std.proofs.Common.{Some, Result, Ok, Err, slice_set, refl, ap, subst, ◌∙◌, arith}
 use Rattle.std.specs.Prelude.{slice_get}
 use Rattle.std.proofs.lemmas.List.{append-nil}
 use Rattle.cast_types.specs.declared.names.DomainNo.{DomainNo}
@@ -19,23 +20,29 @@ at_place (x ∷ xs) zero below = (x, refl, refl)
 at_place (x ∷ xs) (suc i) below = let later = at_place xs i (omega arith) in (later.0, later.1, ap (λ rest. x ∷ rest) later.2)
 
 -- the number of a domain that is halted
-noted_one : (b : Result Taken Fault) (event : Event) (old new : Domain) (first last : Lent) → IsTurn b event old new first last → (number : DomainNo) → number_of old ≡ number → (before after : List DomainNo) → after ≡ before ++ halted_by b → NotesOne b number before after
+noted_one : (b : Result Taken Fault) (event : Event) (old new : Domain) (first last : Lent) → IsTurn b event old new first last →
+    (number : DomainNo) → number_of old ≡ number → (before after : List DomainNo) → after ≡ before ++ halted_by b →
+    NotesOne b number before after
 noted_one (Ok t) event old new first last turn number named before after noted = noted ∙ append-nil before
 noted_one (Err NoMemory) event old new first last turn number named before after noted = noted ∙ append-nil before
 noted_one (Err (Halted d)) event old new first last turn number named before after noted = (turn.0 ∙ named, noted)
 noted_one (Err NoDomain) event old new first last turn number named before after noted = absurd turn
 
-module _ (number : DomainNo) (place : ℕ) (event : Event) (domains : List Domain) (found : Some place ≡ place_named number domains) (below : place < length domains) where
+module _ (number : DomainNo) (place : ℕ) (event : Event) (domains : List Domain) (found : Some place ≡ place_named number domains)
+    (below : place < length domains) where
   -- there is no memory to begin with
-  pub not_begun : (before after : Lent) → after ≡ before → IsAppliedAt (place_named number domains) (Err NoMemory) event domains domains before after
+  pub not_begun : (before after : Lent) → after ≡ before →
+      IsAppliedAt (place_named number domains) (Err NoMemory) event domains domains before after
   not_begun before after same =
       let at = at_place domains place below in
       subst (λ o. IsAppliedAt o (Err NoMemory) event domains domains before after) found
       (record { domain = at.0; next = at.0; stands = at.1; others = at.2; turn = (refl, same) })
 
-  module _ (old new : Domain) (read : old ≡ get_or domains place old) (b : Result Taken Fault) (first last : Lent) (turn : IsTurn b event old new first last) where
+  module _ (old new : Domain) (read : old ≡ get_or domains place old) (b : Result Taken Fault) (first last : Lent)
+      (turn : IsTurn b event old new first last) where
     -- the domain takes its turn
-    pub turn_applied : (before after : Lent) → first ≡ before → last ≡ after → IsAppliedAt (place_named number domains) b event domains (slice_set domains place new) before after
+    pub turn_applied : (before after : Lent) → first ≡ before → last ≡ after →
+        IsAppliedAt (place_named number domains) b event domains (slice_set domains place new) before after
     turn_applied before after begins ends =
         subst (λ o. IsAppliedAt o b event domains (slice_set domains place new) before after) found
         (record {

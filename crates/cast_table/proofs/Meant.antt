@@ -32,7 +32,8 @@ shown_meant d part s means =
 
 groups_meant : (d : Domain) (part : Part) (s : State) → Represents d part s → groups_shown d ≡ groups_by s
 groups_meant d part s means =
-    ap (map (λ (x : GroupRecord). group_shown x.name x.here)) means.fits.groups ∙ map-map (λ (x : GroupRecord). group_shown x.name x.here) (record_for (before_event s)) s.config.groups
+    ap (map (λ (x : GroupRecord). group_shown x.name x.here)) means.fits.groups
+    ∙ map-map (λ (x : GroupRecord). group_shown x.name x.here) (record_for (before_event s)) s.config.groups
 
 pub shows_history : (n : DomainNo) (table : Table) → ShowsHistory n table (shown_at n table)
 shows_history n table d s there means =

@@ -1,7 +1,9 @@
 -- Domains in order of number.
-use Rattle.std.proofs.Common.{◌≡◌, ℕ, suc, ◌+◌, Bool, true, false, cond, not, ◌&&◌, ◌||◌, List, [], ◌∷◌, ◌++◌, length, Some, unwrap_or, nat_le, nat_lt, insert, refl, sym, ap, subst, ◌∙◌, inl, inr, arith}
+use Rattle.std.proofs.Common.{◌≡◌, ℕ, suc, ◌+◌, Bool, true, false, cond, not, ◌&&◌, ◌||◌, List, [], ◌∷◌, ◌++◌, length}
+use Rattle.std.proofs.Common.{Some, unwrap_or, nat_le, nat_lt, insert, refl, sym, ap, subst, ◌∙◌, inl, inr, arith}
 use Rattle.std.specs.List.{AllZip, position_from}
-use Rattle.std.proofs.lemmas.Bool.{cases_Bool, and_parts, and_from, or_from, or_parts, not-true, not_from_false, ltb-true, ltb-false, le-ltb, leb-true, leb-false, le-leb, lt-leb}
+use Rattle.std.proofs.lemmas.Bool.{cases_Bool, and_parts, and_from, or_from, or_parts, not-true, not_from_false}
+use Rattle.std.proofs.lemmas.Bool.{ltb-true, ltb-false, le-ltb, leb-true, leb-false, le-leb, lt-leb}
 use Rattle.cast_types.specs.declared.names.DomainNo.{DomainNo}
 use Rattle.cast_types.specs.Names.{group_cmp}
 use Rattle.cast_types.specs.Rising.{is_rising}
@@ -39,29 +41,37 @@ configured_same d [] = refl
 configured_same d (c ∷ cs) =
     configured_in d c (by_number cs) ∙ ap (λ rest. domain_eq c.domain d || rest) (configured_same d cs)
 
-distinct_in : (c : DomainConfig) (xs : List DomainConfig) → is_configured c.domain xs ≡ false → are_distinct xs ≡ true → are_distinct (put_in c xs) ≡ true
+distinct_in : (c : DomainConfig) (xs : List DomainConfig) → is_configured c.domain xs ≡ false → are_distinct xs ≡ true →
+    are_distinct (put_in c xs) ≡ true
 distinct_in c [] apart distinct = refl
 distinct_in c (x ∷ xs) apart distinct =
     let parts = and_parts (not (is_configured x.domain xs)) (are_distinct xs) distinct in
     let aparts = or_parts (domain_eq x.domain c.domain) (is_configured c.domain xs) apart in
     let later : is_configured x.domain (put_in c xs) ≡ false =
     configured_in x.domain c xs
-    ∙ or_from (domain_eq c.domain x.domain) (is_configured x.domain xs) (domain_flipped x.domain c.domain aparts.0) (not-true (is_configured x.domain xs) parts.0) in
+    ∙ or_from (domain_eq c.domain x.domain) (is_configured x.domain xs) (domain_flipped x.domain c.domain aparts.0)
+    (not-true (is_configured x.domain xs) parts.0) in
     elim (nat_le c.domain.0 x.domain.0) as (λ b. are_distinct (cond b (c ∷ x ∷ xs) (x ∷ put_in c xs)) ≡ true) [
-      | true ↦ and_from (not (is_configured c.domain (x ∷ xs))) (are_distinct (x ∷ xs)) (not_from_false (is_configured c.domain (x ∷ xs)) apart) distinct
-      | false ↦ and_from (not (is_configured x.domain (put_in c xs))) (are_distinct (put_in c xs)) (not_from_false (is_configured x.domain (put_in c xs)) later) (distinct_in c xs aparts.1 parts.1)
+      | true ↦
+          and_from (not (is_configured c.domain (x ∷ xs))) (are_distinct (x ∷ xs))
+          (not_from_false (is_configured c.domain (x ∷ xs)) apart) distinct
+      | false ↦
+          and_from (not (is_configured x.domain (put_in c xs))) (are_distinct (put_in c xs))
+          (not_from_false (is_configured x.domain (put_in c xs)) later) (distinct_in c xs aparts.1 parts.1)
     ]
 
 pub distinct_by_number : (cs : List DomainConfig) → are_distinct cs ≡ true → are_distinct (by_number cs) ≡ true
 distinct_by_number [] distinct = refl
 distinct_by_number (c ∷ cs) distinct =
     let parts = and_parts (not (is_configured c.domain cs)) (are_distinct cs) distinct in
-    distinct_in c (by_number cs) (configured_same c.domain cs ∙ not-true (is_configured c.domain cs) parts.0) (distinct_by_number cs parts.1)
+    distinct_in c (by_number cs) (configured_same c.domain cs ∙ not-true (is_configured c.domain cs) parts.0)
+    (distinct_by_number cs parts.1)
 
 rising_in : (c : DomainConfig) (xs : List DomainConfig) → have_rising_groups (put_in c xs) ≡ have_rising_groups (c ∷ xs)
 rising_in c [] = refl
 rising_in c (x ∷ xs) =
-    elim (nat_le c.domain.0 x.domain.0) as (λ b. have_rising_groups (cond b (c ∷ x ∷ xs) (x ∷ put_in c xs)) ≡ have_rising_groups (c ∷ x ∷ xs)) [
+    elim (nat_le c.domain.0 x.domain.0)
+    as (λ b. have_rising_groups (cond b (c ∷ x ∷ xs) (x ∷ put_in c xs)) ≡ have_rising_groups (c ∷ x ∷ xs)) [
       | true ↦ refl
       | false ↦
           ap (λ rest. is_rising group_cmp x.groups && rest) (rising_in c xs)
@@ -80,22 +90,27 @@ put_behind_equal c [] = c ∷ []
 put_behind_equal c (x ∷ xs) = cond (nat_lt c.domain.0 x.domain.0) (c ∷ x ∷ xs) (x ∷ put_behind_equal c xs)
 
 -- the same where the tests are known
-put_at : (c x : DomainConfig) (xs : List DomainConfig) (b : Bool) → nat_le c.domain.0 x.domain.0 ≡ b → put_in c (x ∷ xs) ≡ cond b (c ∷ x ∷ xs) (x ∷ put_in c xs)
+put_at : (c x : DomainConfig) (xs : List DomainConfig) (b : Bool) → nat_le c.domain.0 x.domain.0 ≡ b →
+    put_in c (x ∷ xs) ≡ cond b (c ∷ x ∷ xs) (x ∷ put_in c xs)
 put_at c x xs b is = ap (λ t. cond t (c ∷ x ∷ xs) (x ∷ put_in c xs)) is
 
-behind_at : (c x : DomainConfig) (xs : List DomainConfig) (b : Bool) → nat_lt c.domain.0 x.domain.0 ≡ b → put_behind_equal c (x ∷ xs) ≡ cond b (c ∷ x ∷ xs) (x ∷ put_behind_equal c xs)
+behind_at : (c x : DomainConfig) (xs : List DomainConfig) (b : Bool) → nat_lt c.domain.0 x.domain.0 ≡ b →
+    put_behind_equal c (x ∷ xs) ≡ cond b (c ∷ x ∷ xs) (x ∷ put_behind_equal c xs)
 behind_at c x xs b is = ap (λ t. cond t (c ∷ x ∷ xs) (x ∷ put_behind_equal c xs)) is
 
 -- two of them, whose tests agree
-two_alike : (c x : DomainConfig) (xs : List DomainConfig) → cond (nat_lt c.domain.0 x.domain.0) (c ∷ x ∷ xs) (x ∷ c ∷ xs) ≡ cond (nat_le x.domain.0 c.domain.0) (x ∷ c ∷ xs) (c ∷ x ∷ xs)
+two_alike : (c x : DomainConfig) (xs : List DomainConfig) →
+    cond (nat_lt c.domain.0 x.domain.0) (c ∷ x ∷ xs) (x ∷ c ∷ xs) ≡ cond (nat_le x.domain.0 c.domain.0) (x ∷ c ∷ xs) (c ∷ x ∷ xs)
 two_alike c x xs =
     elim (cases_Bool (nat_lt c.domain.0 x.domain.0)) [
       | inl below ↦
           let lt = ltb-true c.domain.0 x.domain.0 below in
-          ap (λ t. cond t (c ∷ x ∷ xs) (x ∷ c ∷ xs)) below ∙ sym (ap (λ t. cond t (x ∷ c ∷ xs) (c ∷ x ∷ xs)) (lt-leb x.domain.0 c.domain.0 lt))
+          ap (λ t. cond t (c ∷ x ∷ xs) (x ∷ c ∷ xs)) below
+          ∙ sym (ap (λ t. cond t (x ∷ c ∷ xs) (c ∷ x ∷ xs)) (lt-leb x.domain.0 c.domain.0 lt))
       | inr above ↦
           let le = ltb-false c.domain.0 x.domain.0 above in
-          ap (λ t. cond t (c ∷ x ∷ xs) (x ∷ c ∷ xs)) above ∙ sym (ap (λ t. cond t (x ∷ c ∷ xs) (c ∷ x ∷ xs)) (le-leb x.domain.0 c.domain.0 le))
+          ap (λ t. cond t (c ∷ x ∷ xs) (x ∷ c ∷ xs)) above
+          ∙ sym (ap (λ t. cond t (x ∷ c ∷ xs) (c ∷ x ∷ xs)) (le-leb x.domain.0 c.domain.0 le))
     ]
 
 -- it is the same which of two is put in first, where each keeps its side of its equals
@@ -148,7 +163,8 @@ abbrev place_from : DomainNo → List Domain → ℕ
 place_from n [] = 0
 place_from n (d ∷ ds) = cond (nat_lt n.0 (number_of d).0) 0 (suc (place_from n ds))
 
-counted_from : (n : DomainNo) (i : ℕ) (ds : List Domain) → unwrap_or (position_from (λ d. nat_lt n.0 (number_of d).0) i ds) (i + length ds) ≡ i + place_from n ds
+counted_from : (n : DomainNo) (i : ℕ) (ds : List Domain) →
+    unwrap_or (position_from (λ d. nat_lt n.0 (number_of d).0) i ds) (i + length ds) ≡ i + place_from n ds
 counted_from n i [] = refl
 counted_from n i (d ∷ ds) =
     elim (cases_Bool (nat_lt n.0 (number_of d).0)) [
@@ -173,21 +189,27 @@ place_for_is n ds =
     let some : 0 + place_from n ds ≡ place_from n ds = omega arith in
     ap (unwrap_or (position_from (λ d. nat_lt n.0 (number_of d).0) 0 ds)) all ∙ counted_from n 0 ds ∙ some
 
-module _ (R : DomainConfig → Domain → Type 0) (number : (c : DomainConfig) (d : Domain) → R c d → number_of d ≡ c.domain) (c : DomainConfig) (d : Domain) (its : R c d) where
-  put_counted : (xs : List DomainConfig) (ds : List Domain) → AllZip R xs ds → AllZip R (put_behind_equal c xs) (insert ds (place_from c.domain ds) d)
+module _ (R : DomainConfig → Domain → Type 0) (number : (c : DomainConfig) (d : Domain) → R c d → number_of d ≡ c.domain) (c : DomainConfig)
+    (d : Domain) (its : R c d) where
+  put_counted : (xs : List DomainConfig) (ds : List Domain) → AllZip R xs ds →
+      AllZip R (put_behind_equal c xs) (insert ds (place_from c.domain ds) d)
   put_counted [] [] given = (its, tt)
   put_counted [] (e ∷ ds) given = absurd given
   put_counted (x ∷ xs) [] given = absurd given
   put_counted (x ∷ xs) (e ∷ ds) given =
-      let test : nat_lt c.domain.0 (number_of e).0 ≡ nat_lt c.domain.0 x.domain.0 = ap (λ (n : DomainNo). nat_lt c.domain.0 n.0) (number x e given.0) in
+      let test : nat_lt c.domain.0 (number_of e).0 ≡ nat_lt c.domain.0 x.domain.0 =
+      ap (λ (n : DomainNo). nat_lt c.domain.0 n.0) (number x e given.0) in
       subst (λ t. AllZip R (put_behind_equal c (x ∷ xs)) (insert (e ∷ ds) (cond t 0 (suc (place_from c.domain ds))) d)) (sym test)
-      (elim (nat_lt c.domain.0 x.domain.0) as (λ t. AllZip R (cond t (c ∷ x ∷ xs) (x ∷ put_behind_equal c xs)) (insert (e ∷ ds) (cond t 0 (suc (place_from c.domain ds))) d)) [
+      (elim (nat_lt c.domain.0 x.domain.0)
+      as (λ t. AllZip R (cond t (c ∷ x ∷ xs) (x ∷ put_behind_equal c xs)) (insert (e ∷ ds) (cond t 0 (suc (place_from c.domain ds))) d)) [
         | true ↦ (its, given)
         | false ↦ (given.0, put_counted xs ds given.1)
       ])
 
   -- one more domain
-  pub put_more : (cs : List DomainConfig) (ds : List Domain) → AllZip R (by_number cs) ds → AllZip R (by_number (cs ++ c ∷ [])) (insert ds (place_for c.domain ds) d)
+  pub put_more : (cs : List DomainConfig) (ds : List Domain) → AllZip R (by_number cs) ds →
+      AllZip R (by_number (cs ++ c ∷ [])) (insert ds (place_for c.domain ds) d)
   put_more cs ds given =
       subst (λ xs. AllZip R xs (insert ds (place_for c.domain ds) d)) (sym (by_number_more cs c))
-      (subst (λ k. AllZip R (put_behind_equal c (by_number cs)) (insert ds k d)) (sym (place_for_is c.domain ds)) (put_counted (by_number cs) ds given))
+      (subst (λ k. AllZip R (put_behind_equal c (by_number cs)) (insert ds k d)) (sym (place_for_is c.domain ds))
+      (put_counted (by_number cs) ds given))

@@ -20,4 +20,5 @@ backlog_of d part =
 
 -- of the first domain of a number
 abbrev pub backlog_at : DomainNo → Table → Option Backlog
-backlog_at n table = option_map (λ d. backlog_of d (part_of (number_of d) table.shared)) (domain_at n table)
+backlog_at n table =
+    option_map (λ d. backlog_of d (part_of (number_of d) table.shared)) (domain_at n table)

@@ -20,7 +20,8 @@ domain_at n table = find (λ d. domain_eq (number_of d) n) (domains_of table)
 
 -- what it shows of its records
 abbrev pub shown_at : DomainNo → Table → Option Shown
-shown_at n table = option_map (λ d. shown_of d (part_of (number_of d) table.shared)) (domain_at n table)
+shown_at n table =
+    option_map (λ d. shown_of d (part_of (number_of d) table.shared)) (domain_at n table)
 
 abbrev pub groups_at : DomainNo → Table → Option (List GroupShown)
 groups_at n table = option_map groups_shown (domain_at n table)
@@ -28,7 +29,13 @@ groups_at n table = option_map groups_shown (domain_at n table)
 -- what a history says of the same
 abbrev pub shown_by : State → Bool → Shown
 shown_by s halted =
-    record { sessions = sessions s; held = held_count s; casts = s.casts; moment = s.moment; halted = halted }
+    record {
+      sessions = sessions s;
+      held = held_count s;
+      casts = s.casts;
+      moment = s.moment;
+      halted = halted;
+    }
 
 abbrev pub groups_by : State → List GroupShown
 groups_by s = map (λ g. group_shown g (s.group g)) s.config.groups
@@ -37,9 +44,11 @@ groups_by s = map (λ g. group_shown g (s.group g)) s.config.groups
 abbrev pub ShowsHistory : DomainNo → Table → Option Shown → Type 0
 ShowsHistory n table shown =
     (d : Domain) (s : State)
-    → domain_at n table ≡ Some d → Represents d (part_of (number_of d) table.shared) s → shown ≡ Some (shown_by s (is_halted d))
+    → domain_at n table ≡ Some d → Represents d (part_of (number_of d) table.shared) s
+    → shown ≡ Some (shown_by s (is_halted d))
 
 abbrev pub ShowsGroups : DomainNo → Table → Option (List GroupShown) → Type 0
 ShowsGroups n table groups =
     (d : Domain) (s : State)
-    → domain_at n table ≡ Some d → Represents d (part_of (number_of d) table.shared) s → groups ≡ Some (groups_by s)
+    → domain_at n table ≡ Some d → Represents d (part_of (number_of d) table.shared) s
+    → groups ≡ Some (groups_by s)

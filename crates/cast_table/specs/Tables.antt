@@ -1,5 +1,7 @@
 -- What events do to a table of domains: each alone, and one after another.
-use Rattle.std.specs.Prelude.{◌≡◌, ◌≢◌, ◌==◌, nat_eq, nat_le, nat_lt, if◌then◌else◌, ℕ, Bool, true, false, List, [], ◌∷◌, ◌++◌, length, Option, Some, None, unwrap_or, Result, Ok, Err, slice_get, slice_set}
+use Rattle.std.specs.Prelude.{◌≡◌, ◌≢◌, ◌==◌, nat_eq, nat_le, nat_lt, if◌then◌else◌, ℕ}
+use Rattle.std.specs.Prelude.{Bool, true, false, List, [], ◌∷◌, ◌++◌, length, Option, Some}
+use Rattle.std.specs.Prelude.{None, unwrap_or, Result, Ok, Err, slice_get, slice_set}
 use Rattle.std.specs.Option.{option_to_list}
 use Rattle.std.specs.List.{find, list_any, list_all, position_from}
 use Rattle.indexmap.specs.IndexMap.{IndexMap, get as place_at}
@@ -38,10 +40,12 @@ shared_of table = table.shared
 
 -- In order of number
 
--- a domain with others that stand behind it in the configuration: before the first whose number is not below its own
+-- a domain with others that stand behind it in the configuration: before the first whose number is
+-- not below its own
 abbrev pub put_in : DomainConfig → List DomainConfig → List DomainConfig
 put_in c [] = c ∷ []
-put_in c (x ∷ configs) = if nat_le c.domain.0 x.domain.0 then c ∷ x ∷ configs else x ∷ put_in c configs
+put_in c (x ∷ configs) =
+    if nat_le c.domain.0 x.domain.0 then c ∷ x ∷ configs else x ∷ put_in c configs
 
 -- domains by their numbers; those of one number stay in their order
 abbrev pub by_number : List DomainConfig → List DomainConfig
@@ -65,7 +69,8 @@ without n (d ∷ domains) = if domain_eq (number_of d) n then domains else d ∷
 abbrev pub pick_domains : List DomainConfig → List Domain → List Domain
 pick_domains [] domains = []
 pick_domains (c ∷ configs) domains =
-    option_to_list (find (λ d. domain_eq (number_of d) c.domain) domains) ++ pick_domains configs (without c.domain domains)
+    option_to_list (find (λ d. domain_eq (number_of d) c.domain) domains)
+    ++ pick_domains configs (without c.domain domains)
 
 -- Domains, and what they are lent
 
@@ -75,7 +80,8 @@ place_named number domains = position_from (λ d. domain_eq (number_of d) number
 
 -- each number is kept with the place of its first domain
 abbrev pub ArePlaces : {S : Type 0} → IndexMap ℕ ℕ S → List Domain → Type 0
-ArePlaces places domains = (number : DomainNo) → place_at nat_eq places number.0 ≡ place_named number domains
+ArePlaces places domains =
+    (number : DomainNo) → place_at nat_eq places number.0 ≡ place_named number domains
 
 -- nothing of any domain is among what is shared
 abbrev pub SharesNothing : Table → Type 0
@@ -88,7 +94,8 @@ pub record IsNew (here : SiteNo) (config : DomainConfig) (d : Domain) : Type 0 w
   pub placed : IsFor here config d
   pub begins : is_rising group_cmp config.groups ≡ true → Represents d no_part (opening here config)
 
--- what domains are lent for their steps: what they share, and where they add what they send, deliver and push
+-- what domains are lent for their steps: what they share, and where they add what they send,
+-- deliver and push
 pub record Lent : Type 0 where
   pub shared : Shared
   pub outs : Outs
@@ -101,27 +108,35 @@ abbrev pub lending : Shared → Outs → List DomainNo → Lent
 lending shared outs halted = record { shared = shared; outs = record outs { halted = halted } }
 
 -- a relation of what is lent before and after, where the halted domains are noted apart
-abbrev pub OnLent : (Lent → Lent → Type 0) → Shared → Outs → List DomainNo → Shared → Outs → List DomainNo → Type 0
-OnLent Related shared before halted later after more = Related (lending shared before halted) (lending later after more)
+abbrev pub OnLent : (Lent → Lent → Type 0) → Shared → Outs → List DomainNo → Shared → Outs
+    → List DomainNo → Type 0
+OnLent Related shared before halted later after more =
+    Related (lending shared before halted) (lending later after more)
 
 -- and of a table's domains and what these are lent
-abbrev pub InTable : (List Domain → List Domain → Lent → Lent → Type 0) → Table → Outs → Table → Outs → Type 0
-InTable Related old before new after = Related (domains_of old) (domains_of new) (lent_of old before) (lent_of new after)
+abbrev pub InTable : (List Domain → List Domain → Lent → Lent → Type 0) → Table → Outs → Table
+    → Outs → Type 0
+InTable Related old before new after =
+    Related (domains_of old) (domains_of new) (lent_of old before) (lent_of new after)
 
 -- the part of a domain in what is lent
 abbrev pub part_in : Lent → Domain → Part
 part_in l d = part_of (number_of d) l.shared
 
--- a domain answers an event: it makes its step, or, where it is halted, refuses and is left as it is
-pub record IsTaken (old : Domain) (event : Event) (taken : Taken) (new : Domain) (before : Lent) (after : Lent) : Type 0 where
+-- a domain answers an event: it makes its step, or, where it is halted, refuses and is left as it
+-- is
+pub record IsTaken (old : Domain) (event : Event) (taken : Taken) (new : Domain) (before : Lent)
+    (after : Lent) : Type 0 where
   pub number : number_of new ≡ number_of old
   pub halted : is_halted new ≡ is_halted old
-  pub steps : is_halted old ≡ false → IsStepped old (part_in before old) event taken new (part_in after old) before.outs after.outs
-  pub refuses : is_halted old ≡ true → (taken ≡ Refused refusal.Halted) × (new ≡ old) × (after ≡ before)
+  pub steps : is_halted old ≡ false → IsStepped old (part_in before old)
+      event taken new (part_in after old) before.outs after.outs
+  pub refuses : is_halted old ≡ true
+      → (taken ≡ Refused refusal.Halted) × (new ≡ old) × (after ≡ before)
   pub others : LeavesOthers (number_of old) before.shared after.shared
 
--- a domain finds no memory in its step: it is halted and noted, nothing is sent, delivered or pushed, and of what is shared nothing is left to
--- it
+-- a domain finds no memory in its step: it is halted and noted, nothing is sent, delivered or
+-- pushed, and of what is shared nothing is left to it
 pub record IsHalting (old : Domain) (new : Domain) (before : Lent) (after : Lent) : Type 0 where
   pub number : number_of new ≡ number_of old
   pub ran : is_halted old ≡ false
@@ -134,13 +149,15 @@ pub record IsHalting (old : Domain) (new : Domain) (before : Lent) (after : Lent
 abbrev pub IsTurn : Result Taken Fault → Event → Domain → Domain → Lent → Lent → Type 0
 IsTurn (Ok taken) event old new before after = IsTaken old event taken new before after
 IsTurn (Err NoMemory) event old new before after = (new ≡ old) × (after ≡ before)
-IsTurn (Err (Halted d)) event old new before after = (d ≡ number_of old) × IsHalting old new before after
+IsTurn (Err (Halted d)) event old new before after =
+    (d ≡ number_of old) × IsHalting old new before after
 IsTurn (Err NoDomain) event old new before after = ⊥
 
 -- An event that names a domain
 
 -- one domain takes an event, and every other domain stays as it is
-pub record IsTurnAt (place : ℕ) (answer : Result Taken Fault) (event : Event) (old : List Domain) (new : List Domain) (before : Lent) (after : Lent) : Type 0 where
+pub record IsTurnAt (place : ℕ) (answer : Result Taken Fault) (event : Event) (old : List Domain)
+    (new : List Domain) (before : Lent) (after : Lent) : Type 0 where
   pub domain : Domain
   pub next : Domain
   pub stands : slice_get old place ≡ Some domain
@@ -148,16 +165,20 @@ pub record IsTurnAt (place : ℕ) (answer : Result Taken Fault) (event : Event) 
   pub turn : IsTurn answer event domain next before after
 
 -- what an event does where the domain that it names stands here, or nowhere
-abbrev pub IsAppliedAt : Option ℕ → Result Taken Fault → Event → List Domain → List Domain → Lent → Lent → Type 0
-IsAppliedAt None answer event old new before after = (answer ≡ Err NoDomain) × (new ≡ old) × (after ≡ before)
-IsAppliedAt (Some place) answer event old new before after = IsTurnAt place answer event old new before after
+abbrev pub IsAppliedAt : Option ℕ → Result Taken Fault → Event → List Domain → List Domain → Lent
+    → Lent → Type 0
+IsAppliedAt None answer event old new before after =
+    (answer ≡ Err NoDomain) × (new ≡ old) × (after ≡ before)
+IsAppliedAt (Some place) answer event old new before after =
+    IsTurnAt place answer event old new before after
 
 -- A tick
 
 -- what a domain answers in its turn, by whether it was halted and whether it is now
 abbrev pub answer_in_turn : Domain → Domain → Result Taken Fault
 answer_in_turn old new =
-    if is_halted old then Ok (Refused refusal.Halted) else if is_halted new then Err (Halted (number_of old)) else Ok Nothing
+    if is_halted old then Ok (Refused refusal.Halted)
+    else if is_halted new then Err (Halted (number_of old)) else Ok Nothing
 
 -- each domain takes the event in its turn, with what the ones before it left of what is lent
 abbrev pub AreTurns : Event → List Domain → List Domain → Lent → Lent → Type 0
@@ -165,7 +186,9 @@ AreTurns event [] [] before after = after ≡ before
 AreTurns event [] (new ∷ news) before after = ⊥
 AreTurns event (old ∷ olds) [] before after = ⊥
 AreTurns event (old ∷ olds) (new ∷ news) before after =
-    (between : Lent) × IsTurn (answer_in_turn old new) event old new before between × AreTurns event olds news between after
+    (between : Lent)
+    × IsTurn (answer_in_turn old new) event old new before between
+    × AreTurns event olds news between after
 
 -- the domain that a turn halted
 abbrev pub halted_by : Result Taken Fault → List DomainNo
@@ -178,7 +201,8 @@ halted_by (Err NoDomain) = []
 abbrev pub halted_in_turn : List Domain → List Domain → List DomainNo
 halted_in_turn [] news = []
 halted_in_turn (old ∷ olds) [] = []
-halted_in_turn (old ∷ olds) (new ∷ news) = halted_by (answer_in_turn old new) ++ halted_in_turn olds news
+halted_in_turn (old ∷ olds) (new ∷ news) =
+    halted_by (answer_in_turn old new) ++ halted_in_turn olds news
 
 -- the lower of two numbers, where the first is there
 abbrev pub lower : Option DomainNo → DomainNo → DomainNo
@@ -195,24 +219,31 @@ abbrev pub IsLeastOf : Option DomainNo → List DomainNo → Type 0
 IsLeastOf None numbers = numbers ≡ []
 IsLeastOf (Some d) numbers = IsLeast d numbers
 
--- what a tick does to domains: all take it in turn, and the answer tells the least number of those that it halted
+-- what a tick does to domains: all take it in turn, and the answer tells the least number of those
+-- that it halted
 abbrev pub IsTicked : Result Taken Fault → Event → List Domain → List Domain → Lent → Lent → Type 0
 IsTicked (Ok taken) event old new before after =
-    (taken ≡ Nothing) × IsLeastOf None (halted_in_turn old new) × AreTurns event old new before after
+    (taken ≡ Nothing)
+    × IsLeastOf None (halted_in_turn old new)
+    × AreTurns event old new before after
 IsTicked (Err NoMemory) event old new before after = (new ≡ old) × (after ≡ before)
-IsTicked (Err (Halted d)) event old new before after = IsLeastOf (Some d) (halted_in_turn old new) × AreTurns event old new before after
+IsTicked (Err (Halted d)) event old new before after =
+    IsLeastOf (Some d) (halted_in_turn old new) × AreTurns event old new before after
 IsTicked (Err NoDomain) event old new before after = ⊥
 
 -- Any event
 
 -- the first domain of the number that the event names takes it, or all take it in turn
-abbrev pub IsAppliedTo : Option DomainNo → Result Taken Fault → Event → List Domain → List Domain → Lent → Lent → Type 0
+abbrev pub IsAppliedTo : Option DomainNo → Result Taken Fault → Event → List Domain → List Domain
+    → Lent → Lent → Type 0
 IsAppliedTo None answer event old new before after = IsTicked answer event old new before after
-IsAppliedTo (Some d) answer event old new before after = IsAppliedAt (place_named d old) answer event old new before after
+IsAppliedTo (Some d) answer event old new before after =
+    IsAppliedAt (place_named d old) answer event old new before after
 
 -- what an event does to domains
 abbrev pub IsApplied : Result Taken Fault → Event → List Domain → List Domain → Lent → Lent → Type 0
-IsApplied answer event old new before after = IsAppliedTo (domain_of event) answer event old new before after
+IsApplied answer event old new before after =
+    IsAppliedTo (domain_of event) answer event old new before after
 
 -- nothing is changed where no domain is named, or where there is no memory to begin with
 abbrev pub IsUnchanged : Result Taken Fault → Table → Table → Outs → Outs → Type 0
@@ -229,21 +260,28 @@ NotesOne (Err (Halted d)) named before after = (d ≡ named) × (after ≡ befor
 NotesOne (Err NoDomain) named before after = after ≡ before
 
 -- and at a tick each domain whose step halts it
-abbrev pub NotesHaltsOf : Option DomainNo → Result Taken Fault → List Domain → List Domain → List DomainNo → List DomainNo → Type 0
+abbrev pub NotesHaltsOf : Option DomainNo → Result Taken Fault → List Domain → List Domain
+    → List DomainNo → List DomainNo → Type 0
 NotesHaltsOf None answer old new before after = after ≡ before ++ halted_in_turn old new
 NotesHaltsOf (Some d) answer old new before after = NotesOne answer d before after
 
 -- domains are noted as halted exactly where their steps halt them
-abbrev pub NotesHalts : Result Taken Fault → Event → List Domain → List Domain → List DomainNo → List DomainNo → Type 0
-NotesHalts answer event old new before after = NotesHaltsOf (domain_of event) answer old new before after
+abbrev pub NotesHalts : Result Taken Fault → Event → List Domain → List Domain → List DomainNo
+    → List DomainNo → Type 0
+NotesHalts answer event old new before after =
+    NotesHaltsOf (domain_of event) answer old new before after
 
 -- Events one after another
 
 -- what events do to domains, where each finds memory to begin with
-abbrev pub AreApplied : List (Result Taken Fault) → List Event → List Domain → List Domain → Lent → Lent → Type 0
+abbrev pub AreApplied : List (Result Taken Fault) → List Event → List Domain → List Domain → Lent
+    → Lent → Type 0
 AreApplied [] [] old new before after = (new ≡ old) × (after ≡ before)
 AreApplied [] (e ∷ events) old new before after = ⊥
 AreApplied (a ∷ answers) [] old new before after = ⊥
 AreApplied (a ∷ answers) (e ∷ events) old new before after =
     (a ≢ Err NoMemory)
-    × (middle : List Domain) × (between : Lent) × IsApplied a e old middle before between × AreApplied answers events middle new between after
+    × (middle : List Domain)
+    × (between : Lent)
+    × IsApplied a e old middle before between
+    × AreApplied answers events middle new between after

@@ -1,4 +1,5 @@
-ghost use Rattle.std.specs.Prelude.{◌≡◌, ◌≢◌, ◌<◌, ◌≤◌, ◌+◌, ◌++◌, Err, IfOk, IfSome, None, OnErr, OnOk, length, nat_eq, vec_len};
+ghost use Rattle.std.specs.Prelude.{◌≡◌, ◌≢◌, ◌<◌, ◌≤◌, ◌+◌, ◌++◌, Err, IfOk, IfSome};
+ghost use Rattle.std.specs.Prelude.{None, OnErr, OnOk, length, nat_eq, vec_len};
 ghost use Rattle.std.specs.List.{AllZip, insert};
 ghost use Rattle.std.specs.Option.{option_copied};
 ghost use Rattle.std.specs.Vec.{vec_capacity};
@@ -6,7 +7,11 @@ ghost use Rattle.indexmap.specs.IndexMap.{get as place_at};
 ghost use Rattle.cast_domain.specs.Copies.{IsCopyOf as IsDomainCopy};
 ghost use Rattle.cast_domain.specs.Records.{number_of};
 ghost use Rattle.cast_events.specs.Events.{domain_of};
-ghost use Rattle.cast_table.specs.Tables.{ArePlaces, AreTurns, IsApplied, IsAppliedTo, IsLeastOf, IsNew, IsTicked, IsTurn, IsUnchanged, NotesHalts, NotesOne, SharesNothing, answer_in_turn, by_number, domains_of, halted_by, lower, place_above, place_for, place_named, halted_in_turn, OnLent, InTable};
+ghost use Rattle.cast_table.specs.Tables.{ArePlaces, AreTurns, IsApplied, IsAppliedTo, IsLeastOf};
+ghost use Rattle.cast_table.specs.Tables.{IsNew, IsTicked, IsTurn, IsUnchanged, NotesHalts};
+ghost use Rattle.cast_table.specs.Tables.{NotesOne, SharesNothing, answer_in_turn, by_number};
+ghost use Rattle.cast_table.specs.Tables.{domains_of, halted_by, lower, place_above, place_for};
+ghost use Rattle.cast_table.specs.Tables.{place_named, halted_in_turn, OnLent, InTable};
 ghost use Rattle.cast_table.specs.Copies.{IsCopyOf};
 ghost use Rattle.cast_table.specs.Backlogs.{backlog_at};
 ghost use Rattle.cast_table.specs.Shows.{ShowsGroups, ShowsHistory, domain_at, groups_at, shown_at};
@@ -21,7 +26,8 @@ use std::alloc::Global;
 use std::marker::Model;
 use std::mem;
 
-/// The domains of a daemon, in the order of their numbers, and what they share. Contracts see both as its `Contents`.
+/// The domains of a daemon, in the order of their numbers, and what they share. Contracts see both
+/// as its `Contents`.
 #[derive(Drop)]
 pub struct Table {
     domains: Vec<Domain>,
@@ -45,7 +51,8 @@ impl Model for Table {
 impl Table {
     /// Domains before their first event.
     pub fn new(alloc: Global, config: &Config) -> Result<Self, NoMemory>
-        ensures domains { IfOk result (λ table. AllZip (IsNew config.now.site) (by_number config.now.domains) (domains_of table)) }
+        ensures domains { IfOk result (λ table.
+            AllZip (IsNew config.now.site) (by_number config.now.domains) (domains_of table)) }
         ensures unshared { IfOk result SharesNothing }
     {
         let mut domains = Vec::new(alloc);
@@ -70,13 +77,14 @@ impl Table {
         self.domains.len()
     }
 
-    /// Makes the step of the domain that the event names, or, at a tick, of every domain in order of number: one that is
-    /// halted is left as it is, and where one finds no memory the others go on. What is sent, delivered and pushed, and
-    /// each domain that is halted, is added to `outs`.
+    /// Makes the step of the domain that the event names, or, at a tick, of every domain in order
+    /// of number: one that is halted is left as it is, and where one finds no memory the others go
+    /// on. What is sent, delivered and pushed, and each domain that is halted, is added to `outs`.
     pub fn apply(&mut self, event: &Event, outs: &mut Outs) -> Result<Taken, Fault>
         ensures applied { InTable (IsApplied result event.now) self.old outs.old self.new outs.new }
         ensures unchanged { IsUnchanged result self.old self.new outs.old outs.new }
-        ensures halted { NotesHalts result event.now (domains_of self.old) (domains_of self.new) outs.old.halted outs.new.halted }
+        ensures halted { NotesHalts result event.now (domains_of self.old) (domains_of self.new)
+            outs.old.halted outs.new.halted }
     {
         match event.domain() {
             Some(number) => self.apply_named(number, event, outs),
@@ -84,8 +92,8 @@ impl Table {
         }
     }
 
-    /// What the first domain of a number shows: how much it keeps and has done, and whether it is halted. `None` where no
-    /// domain has the number.
+    /// What the first domain of a number shows: how much it keeps and has done, and whether it is
+    /// halted. `None` where no domain has the number.
     pub fn show(&self, number: DomainNo) -> Option<Shown>
         ensures shown { result ≡ shown_at number self.now }
         ensures meant { ShowsHistory number self.now result }
@@ -94,8 +102,8 @@ impl Table {
         Some(domain.show(&self.shared))
     }
 
-    /// What the first domain of a number shows of its groups, in the order of its configuration. `None` where no domain has
-    /// the number.
+    /// What the first domain of a number shows of its groups, in the order of its configuration.
+    /// `None` where no domain has the number.
     pub fn groups(
         &self,
         alloc: Global,
@@ -110,8 +118,8 @@ impl Table {
         }
     }
 
-    /// How far the first domain of a number is behind with the messages that it keeps. `None` where no domain has the number.
-    /// Takes no memory.
+    /// How far the first domain of a number is behind with the messages that it keeps. `None` where
+    /// no domain has the number. Takes no memory.
     pub fn backlog(&self, number: DomainNo) -> Option<Backlog>
         ensures { result ≡ backlog_at number self.now }
     {
@@ -133,7 +141,8 @@ impl Table {
 
     // A table of these domains, which share this.
     fn of(domains: Vec<Domain>, shared: Shared) -> Result<Self, NoMemory>
-        ensures { IfOk result (λ table. table ≡ record { domains = domains.items; shared = shared }) }
+        ensures { IfOk result
+            (λ table. table ≡ record { domains = domains.items; shared = shared }) }
     {
         Ok(Table {
             places: places_of(&domains)?,
@@ -157,7 +166,8 @@ impl Table {
         event: &Event,
         outs: &mut Outs,
     ) -> Result<Taken, Fault>
-        ensures applied { InTable (IsAppliedTo (Some number) result event.now) self.old outs.old self.new outs.new }
+        ensures applied { InTable (IsAppliedTo (Some number) result event.now)
+            self.old outs.old self.new outs.new }
         ensures unchanged { IsUnchanged result self.old self.new outs.old outs.new }
         ensures halted { NotesOne result number outs.old.halted outs.new.halted }
     {
@@ -178,7 +188,8 @@ impl Table {
         requires { domain_of event.now ≡ None }
         ensures applied { InTable (IsTicked result event.now) self.old outs.old self.new outs.new }
         ensures unchanged { IsUnchanged result self.old self.new outs.old outs.new }
-        ensures halted { outs.new.halted ≡ outs.old.halted ++ halted_in_turn (domains_of self.old) (domains_of self.new) }
+        ensures halted { outs.new.halted
+            ≡ outs.old.halted ++ halted_in_turn (domains_of self.old) (domains_of self.new) }
     {
         let Ok(mut halted) = halted_with_room(outs, self.domains.len()) else {
             return Err(Fault::NoMemory);
@@ -213,7 +224,8 @@ fn copy_domains(domains: &Vec<Domain>) -> Result<Vec<Domain>, NoMemory>
 
 // Puts a domain before the first whose number is above its own.
 fn put_in(domains: &mut Vec<Domain>, domain: Domain) -> Result<(), NoMemory>
-    ensures { OnOk result (domains.new.items ≡ insert domains.old.items (place_for (number_of domain) domains.old.items) domain) }
+    ensures { OnOk result (domains.new.items
+        ≡ insert domains.old.items (place_for (number_of domain) domains.old.items) domain) }
 {
     let place = place_above(domains, domain.number()).unwrap_or(domains.len());
     domains.insert(place, domain)?;
@@ -258,7 +270,9 @@ fn place_in(places: &IndexMap<u8, usize>, number: DomainNo) -> Option<usize>
 fn halted_with_room(outs: &mut Outs, more: usize) -> Result<Vec<DomainNo>, NoMemory>
     ensures taken { IfOk result (λ halted. halted.items ≡ outs.old.halted) }
     ensures room { IfOk result (λ halted. length halted.items + more ≤ vec_capacity halted) }
-    ensures rest { OnOk result ((outs.new.frames ≡ outs.old.frames) × (outs.new.delivered ≡ outs.old.delivered) × (outs.new.pushed ≡ outs.old.pushed)) }
+    ensures rest { OnOk result ((outs.new.frames ≡ outs.old.frames)
+        × (outs.new.delivered ≡ outs.old.delivered)
+        × (outs.new.pushed ≡ outs.old.pushed)) }
     ensures err { OnErr result (outs.new ≡ outs.old) }
 {
     let empty = List::new(outs.halted.alloc());
@@ -281,7 +295,8 @@ fn turn(
     halted: &mut Vec<DomainNo>,
 ) -> Result<Taken, Fault>
     requires { length halted.old.items < vec_capacity halted.old }
-    ensures turn { OnLent (IsTurn result event.now domain.old domain.new) shared.old outs.old halted.old.items shared.new outs.new halted.new.items }
+    ensures turn { OnLent (IsTurn result event.now domain.old domain.new)
+        shared.old outs.old halted.old.items shared.new outs.new halted.new.items }
     ensures begun { result ≢ Err Fault.NoMemory }
     ensures unnamed { domain_of event.now ≡ None → result ≡ answer_in_turn domain.old domain.new }
     ensures noted { halted.new.items ≡ halted.old.items ++ halted_by result }
@@ -307,8 +322,10 @@ fn turns(
 )
     requires unnamed { domain_of event.now ≡ None }
     requires room { length halted.old.items + vec_len domains.old ≤ vec_capacity halted.old }
-    ensures turns { OnLent (AreTurns event.now domains.old.items domains.new.items) shared.old outs.old halted.old.items shared.new outs.new halted.new.items }
-    ensures noted { halted.new.items ≡ halted.old.items ++ halted_in_turn domains.old.items domains.new.items }
+    ensures turns { OnLent (AreTurns event.now domains.old.items domains.new.items)
+        shared.old outs.old halted.old.items shared.new outs.new halted.new.items }
+    ensures noted { halted.new.items
+        ≡ halted.old.items ++ halted_in_turn domains.old.items domains.new.items }
 {
     for domain in domains.iter_mut() {
         let _ = turn(domain, shared, event, outs, halted);

@@ -61,13 +61,14 @@ fn delivers(queue: &mut Delay, message: &Message) -> Result<bool, NoMemory> {
     Ok(is_next)
 }
 
-// Whether the queue says that nothing is ready for any process, and that none of the first place is.
+// Whether the queue says that nothing is ready for any process, and that none of the first place
+// is.
 fn is_idle(queue: &Delay, idle: usize) -> bool {
     queue.is_settled() && queue.busy_from(SiteNo(1), 0) == idle
 }
 
-// Whether a queue says that there is nothing to look for: before its process is in a group, and after that one has
-// delivered all.
+// Whether a queue says that there is nothing to look for: before its process is in a group, and
+// after that one has delivered all.
 fn says_so(alloc: Global) -> Result<bool, Fail> {
     let mut queue = Delay::new(alloc);
     queue.admit(MEMBER)?;

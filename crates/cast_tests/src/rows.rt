@@ -8,7 +8,8 @@ use cast_quota::Quotas;
 use cast_types::{DomainNo, GroupNo, List, NoMemory, SiteNo};
 use std::alloc::Global;
 
-// The frames that the site sends itself until its process has a view of group 1: the type of each, and what is behind the number of the domain.
+// The frames that the site sends itself until its process has a view of group 1: the type of each,
+// and what is behind the number of the domain.
 const FRAMES: [(u8, &[u8]); 4] = [
     (4, &[0, 1, 0, 1, 0, 0, 0, 1, 1, 0, 1, 0, 0, 0, 1]),
     (5, &[0, 1, 0, 1, 0, 0, 0, 1, 0]),
@@ -132,7 +133,8 @@ pub fn cast_and_show(alloc: Global) -> Result<Vec<Raw>, NoMemory> {
     Ok(all)
 }
 
-// The casts numbered 101 to 200 of domain 1 and 201 to 300 of domain 2, by turns, each with its number as its tag.
+// The casts numbered 101 to 200 of domain 1 and 201 to 300 of domain 2, by turns, each with its
+// number as its tag.
 fn add_casts(all: &mut Vec<Raw>) -> Result<(), NoMemory> {
     for tag in 101..201u32 {
         for (domain, tag) in [(1, tag), (2, tag + 100)] {

@@ -26,7 +26,8 @@ enum Row {
     Suspects(u16, u16),
     // A frame comes to a site.
     Comes(u16, usize),
-    // The frames from one number on, up to another, come one after another to whichever site they are addressed to.
+    // The frames from one number on, up to another, come one after another to whichever site they
+    // are addressed to.
     Come(usize, usize),
 }
 
@@ -222,7 +223,8 @@ fn leads(
     have_delivered(&world, delivered)
 }
 
-// 1.1 and 2.1 are in both groups. 2.1 casts in group 1 and then in group 2, and the second cast comes first.
+// 1.1 and 2.1 are in both groups. 2.1 casts in group 1 and then in group 2, and the second cast
+// comes first.
 #[test]
 fn a_message_waits_for_one_of_another_group(rt: HostRuntime) -> Result<(), Fail> {
     leads(
@@ -248,8 +250,9 @@ fn a_message_waits_for_one_of_another_group(rt: HostRuntime) -> Result<(), Fail>
     )
 }
 
-// All are in one view. 3.1 casts, which reaches site 2 alone, and once more, which reaches site 1 alone, and is suspected: the first
-// belongs to the view that ends, and the second does not, at both sites that pass to the next view.
+// All are in one view. 3.1 casts, which reaches site 2 alone, and once more, which reaches site 1
+// alone, and is suspected: the first belongs to the view that ends, and the second does not, at
+// both sites that pass to the next view.
 #[test]
 fn a_view_ends_with_what_some_site_received_in_order(rt: HostRuntime) -> Result<(), Fail> {
     leads(
@@ -277,8 +280,8 @@ fn a_view_ends_with_what_some_site_received_in_order(rt: HostRuntime) -> Result<
     )
 }
 
-// 3.1 asks to join group 1, and 1.1 is in the new view before 3.1 is told. 1.1 casts in group 1 and then in group 2, and the second cast
-// comes first.
+// 3.1 asks to join group 1, and 1.1 is in the new view before 3.1 is told. 1.1 casts in group 1 and
+// then in group 2, and the second cast comes first.
 #[test]
 fn a_joining_process_waits_for_the_view_that_it_will_enter(rt: HostRuntime) -> Result<(), Fail> {
     leads(
@@ -310,8 +313,8 @@ fn a_joining_process_waits_for_the_view_that_it_will_enter(rt: HostRuntime) -> R
     )
 }
 
-// 2.1 holds the order of the view of all three. 1.1 and 3.1 cast; both casts come to site 2, that of 3.1 first, and 2.1 tells their order by its
-// two messages, which reach site 3 alone.
+// 2.1 holds the order of the view of all three. 1.1 and 3.1 cast; both casts come to site 2, that
+// of 3.1 first, and 2.1 tells their order by its two messages, which reach site 3 alone.
 const HOLDER_TELLS: [Row; 15] = [
     Row::Opens(2),
     Row::Joins(2, 1),
@@ -353,8 +356,9 @@ fn holder_is_lost(alloc: Global) -> Result<Vec<Row>, NoMemory> {
     Ok(rows)
 }
 
-// Then the holder is lost. 1.1, which knew nothing of the order and had its own cast first, delivers both in that order, as 3.1 does. The
-// holder's second message was delivered at no site that reports.
+// Then the holder is lost. 1.1, which knew nothing of the order and had its own cast first,
+// delivers both in that order, as 3.1 does. The holder's second message was delivered at no site
+// that reports.
 #[test]
 fn a_lost_holder_leaves_its_order(rt: HostRuntime) -> Result<(), Fail> {
     let rows = holder_is_lost(rt.alloc())?;
@@ -370,7 +374,8 @@ fn a_lost_holder_leaves_its_order(rt: HostRuntime) -> Result<(), Fail> {
     )
 }
 
-// 1.1 and 2.1 are in one view. 1.1 hands the token over and casts, and its cast has no place before 2.1 gives it one.
+// 1.1 and 2.1 are in one view. 1.1 hands the token over and casts, and its cast has no place before
+// 2.1 gives it one.
 #[test]
 fn who_handed_the_token_over_waits_for_the_order(rt: HostRuntime) -> Result<(), Fail> {
     leads(
@@ -423,8 +428,9 @@ fn who_takes_the_token_over_orders_its_own_cast(rt: HostRuntime) -> Result<(), F
     )
 }
 
-// 1.1 hands the token over to 2.1, which casts and sets the place of its cast. Site 1 receives the cast alone, and the flush of the view
-// brings the place: both that pass to the next view delivered the same.
+// 1.1 hands the token over to 2.1, which casts and sets the place of its cast. Site 1 receives the
+// cast alone, and the flush of the view brings the place: both that pass to the next view delivered
+// the same.
 #[test]
 fn a_flush_brings_the_order_of_who_took_the_token_over(rt: HostRuntime) -> Result<(), Fail> {
     leads(

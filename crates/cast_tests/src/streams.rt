@@ -35,7 +35,8 @@ enum Call {
     Fails,
 }
 
-// What becomes of the call of this number, counted from 0, where the second is this one and each other passes.
+// What becomes of the call of this number, counted from 0, where the second is this one and each
+// other passes.
 fn outcome(number: usize, second: Call) -> io::Result<()> {
     match second {
         Call::IsInterrupted if number == 1 => Err(io::Error::from(ErrorKind::Interrupted)),
@@ -65,7 +66,8 @@ impl<'a> Read for Pieces<'a> {
     }
 }
 
-// Keeps what is written, at most so many bytes a call, and notes how many bytes each call was given.
+// Keeps what is written, at most so many bytes a call, and notes how many bytes each call was
+// given.
 #[derive(Drop)]
 struct Kept {
     bytes: Vec<u8>,
@@ -105,8 +107,8 @@ impl Sink for Counted {
     }
 }
 
-// What is read and what the sink has room for; then how the pump ends, how many commands were handed on, and how many bytes
-// each call asked for.
+// What is read and what the sink has room for; then how the pump ends, how many commands were
+// handed on, and how many bytes each call asked for.
 #[derive(Clone, Copy)]
 struct Reading<'a> {
     bytes: &'a [u8],
@@ -151,8 +153,9 @@ fn many(alloc: Global) -> Result<Vec<u8>, AllocError> {
     Ok(bytes)
 }
 
-// The sink without room ends the first pump before a second call, so commands come to it before that. What fails later takes back
-// nothing, an interrupted call is made again, and a push is no command.
+// The sink without room ends the first pump before a second call, so commands come to it before
+// that. What fails later takes back nothing, an interrupted call is made again, and a push is no
+// command.
 #[test]
 fn commands_are_handed_on_before_more_is_read(rt: HostRuntime) {
     let rows = [
@@ -213,7 +216,8 @@ fn a_room_that_was_filled_grows(rt: HostRuntime) -> Result<(), Fail> {
     Ok(())
 }
 
-// How a writer takes both pushes; then how the pump ends, how many bytes were written, and how many each call was given.
+// How a writer takes both pushes; then how the pump ends, how many bytes were written, and how many
+// each call was given.
 #[derive(Clone, Copy)]
 struct Writing<'a> {
     step: usize,

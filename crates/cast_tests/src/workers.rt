@@ -28,7 +28,8 @@ fn serve_all<L: Ledger>(alloc: Global, kept: &mut Kept<L>, mine: &mut Worked<L>,
     }
 }
 
-// The table before its first event, and the whole share of its count, which one worker can split once.
+// The table before its first event, and the whole share of its count, which one worker can split
+// once.
 fn new<L: Ledger>(alloc: Global, blank: Blank) -> Result<(Kept<L>, Worked<L>), Fail>
     requires name { blank.name ≡ L.name }
     requires parts { (blank.parts ≡ L.parts) × (blank.parts ≡ 2) }
@@ -41,7 +42,8 @@ fn new<L: Ledger>(alloc: Global, blank: Blank) -> Result<(Kept<L>, Worked<L>), F
     Ok(Kept::<L>::new(alloc, &config, blank, 2)?)
 }
 
-// The ends of the channels that the workers take, and that at which what comes of the work is taken.
+// The ends of the channels that the workers take, and that at which what comes of the work is
+// taken.
 #[derive(Drop)]
 struct Ends {
     queue: Receiver<Raw>,
@@ -288,7 +290,8 @@ fn are_replied(alloc: Global, dones: &[Done]) -> Result<bool, Fail> {
     Ok(has_seven_and(&first, 101, 201) && has_seven_and(&second, 201, 301))
 }
 
-// Whether 200 casts and the Takes after them are done once each and counted, where the trace is trimmed meanwhile.
+// Whether 200 casts and the Takes after them are done once each and counted, where the trace is
+// trimmed meanwhile.
 fn counts_once<R: Threads + Wait + Clock + Sync>(rt: &R, alloc: Global) -> Result<bool, Fail> {
     let (first, asked) = (begun(alloc, 3_900)?, casts_and_takes(alloc)?);
     let gate = Waits::new(rt, false, 200);

@@ -47,7 +47,8 @@ fn dispatch<T: SharedTable, R: Wait>(rt: &R, server: &mut Server<'_, T>, done: T
     }
 }
 
-/// Passes on what the workers and the console did, until nothing can come any more. Then reports end: a halt just before the end is told.
+/// Passes on what the workers and the console did, until nothing can come any more. Then reports
+/// end: a halt just before the end is told.
 pub fn run_dispatcher<T: SharedTable, R: Wait>(
     rt: &R,
     server: Server<'_, T>,

@@ -37,7 +37,8 @@ fn refuse(alloc: Global, stream: &UnixStream, refusal: Refusal) {
     let _ = pump_out(alloc, &mut writer, &[Push::Closed(refusal)]);
 }
 
-// Asks for a session, and waits for it. A domain whose programs are no longer served counts as halted.
+// Asks for a session, and waits for it. A domain whose programs are no longer served counts as
+// halted.
 fn open<T: SharedTable, R: Wait>(
     rt: &R,
     shared: &Shared<'_, T>,
@@ -67,7 +68,8 @@ pub fn server_of<'a, T: SharedTable, R: Wait>(
     }
 }
 
-// Serves a program that has a session: this thread reads, and a second one writes what the others would wait for.
+// Serves a program that has a session: this thread reads, and a second one writes what the others
+// would wait for.
 fn serve_session<'s, 'e, T: SharedTable + Sync, R: Threads + Wait + Clock + Sync>(
     scope: &'s Scope<'s, &'e ()>,
     rt: &'e R,

@@ -17,7 +17,8 @@ use std::sync::{Mutex, Wait};
 // So many answers of a session may lie in its outbox before its reader waits.
 const UNTAKEN: u32 = 32;
 
-// How often at most the outbox is taken after the end of what a program writes, while the program takes what it is told.
+// How often at most the outbox is taken after the end of what a program writes, while the program
+// takes what it is told.
 const LAST_TAKES: u64 = 16;
 
 /// What the reader of a program knows.
@@ -94,8 +95,9 @@ impl<'a, T: SharedTable> Reader<'a, T> {
         }
     }
 
-    // Takes the pen of the program if its command is a cast, of so many bytes, that most likely comes alone, in a domain without other sites.
-    // Answers whether it did. Then what the cast pushes to the program is taken at once, so that the thread waits for the table once.
+    // Takes the pen of the program if its command is a cast, of so many bytes, that most likely
+    // comes alone, in a domain without other sites. Answers whether it did. Then what the cast
+    // pushes to the program is taken at once, so that the thread waits for the table once.
     fn take_pen_if_alone<R: Wait>(&self, rt: &R, len: Option<usize>) -> bool {
         self.pace.is_none()
             && len.is_some()
@@ -141,7 +143,8 @@ impl<'a, T: SharedTable> Reader<'a, T> {
         self.go_on(rt)
     }
 
-    // A command was answered. Waits if too many answers were not taken. False if the stream is of no more use.
+    // A command was answered. Waits if too many answers were not taken. False if the stream is of
+    // no more use.
     fn go_on<R: Wait + Clock>(&mut self, rt: &R) -> bool {
         self.untaken = self.untaken.saturating_add(1);
         if self.untaken < UNTAKEN {
@@ -195,8 +198,8 @@ impl<'a, T: SharedTable> Reader<'a, T> {
         self.server.send_gathered(rt);
     }
 
-    // Writes what the commands pushed to the program, unless another thread does so, and sends their frames. These go first if the last
-    // command delivered nothing.
+    // Writes what the commands pushed to the program, unless another thread does so, and sends
+    // their frames. These go first if the last command delivered nothing.
     fn flush<R: Wait + Clock>(&mut self, rt: &R) {
         let is_frame_first = match &self.unsent {
             Some(outs) => outs.delivered.is_empty(),
@@ -275,8 +278,8 @@ fn wait_for_close(stream: &UnixStream) {
     }
 }
 
-/// Serves what a program writes, until its stream ends or is of no more use. What it was pushed by then is written, as long as the
-/// program takes it.
+/// Serves what a program writes, until its stream ends or is of no more use. What it was pushed by
+/// then is written, as long as the program takes it.
 pub fn run_reader<T: SharedTable, R: Wait + Clock>(
     rt: &R,
     alloc: Global,

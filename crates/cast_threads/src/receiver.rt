@@ -13,7 +13,8 @@ use std::sync::atomic::Ordering;
 use std::thread;
 use std::time::Duration;
 
-// How many milliseconds the receiver waits after a call of the system failed, so that it does not turn in place.
+// How many milliseconds the receiver waits after a call of the system failed, so that it does not
+// turn in place.
 const PAUSE: u64 = 10;
 
 // After so many frames no more datagrams are served before what they pushed is written.
@@ -22,7 +23,8 @@ const GATHERED: u32 = 32;
 // Of one bundle so many frames are.
 const MOST_UNWRITTEN: u32 = 64;
 
-// For so many sessions the receiver writes what datagrams pushed. The writers of the others do it themselves.
+// For so many sessions the receiver writes what datagrams pushed. The writers of the others do it
+// themselves.
 const DIRECT: usize = 2;
 
 // What the receiver knows of the datagrams that it gathers.
@@ -124,7 +126,8 @@ impl<T: SharedTable> Receiver<'_, T> {
         }
     }
 
-    // Serves a datagram and those that wait behind it, and finishes them. Answers whether there may be more.
+    // Serves a datagram and those that wait behind it, and finishes them. Answers whether there may
+    // be more.
     fn serve_all<R: Wait + Clock>(&mut self, rt: &R, first: Bytes) -> bool {
         self.serve(rt, first);
         let is_more = self.serve_waiting(rt);
@@ -133,8 +136,9 @@ impl<T: SharedTable> Receiver<'_, T> {
         is_more
     }
 
-    // Writes what the frames that were served pushed, and sends what is gathered. If another site waits for it, it goes first. Stables that
-    // could go with other frames are sent only once they are many.
+    // Writes what the frames that were served pushed, and sends what is gathered. If another site
+    // waits for it, it goes first. Stables that could go with other frames are sent only once they
+    // are many.
     fn finish<R: Wait>(&mut self, rt: &R) {
         if self.is_urgent {
             self.server.send_gathered(rt);

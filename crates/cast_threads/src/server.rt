@@ -17,7 +17,8 @@ use std::sync::atomic::Ordering;
 /// Most entries that one Take of a session asks for.
 pub const BATCH: u32 = 64;
 
-// So often a thread takes an outbox in a row that is not the program's writer. Then the writer goes on.
+// So often a thread takes an outbox in a row that is not the program's writer. Then the writer goes
+// on.
 const ROUNDS: u32 = 4;
 
 // So many bytes of room are kept for what is to be written.
@@ -34,7 +35,8 @@ pub struct Server<'a, T: SharedTable> {
     pub wire: Udp<'a>,
     // The bytes of entries that are to be written.
     room: Vec<u8>,
-    // The frames that are gathered, to be sent together. None if each frame has a datagram of its own.
+    // The frames that are gathered, to be sent together. None if each frame has a datagram of its
+    // own.
     gathered: Outs,
     // What the last frame told that acknowledged nothing.
     heard: Option<Heard>,
@@ -87,7 +89,8 @@ impl<'a, T: SharedTable> Server<'a, T> {
         self.shared.tape.let_go(rt);
     }
 
-    /// Does the job of a cast at a pace. If it has to wait, the job comes back, with the turn to wait for.
+    /// Does the job of a cast at a pace. If it has to wait, the job comes back, with the turn to
+    /// wait for.
     pub fn cast<R: Wait>(
         &mut self,
         rt: &R,
@@ -102,8 +105,8 @@ impl<'a, T: SharedTable> Server<'a, T> {
         served
     }
 
-    /// Serves a frame of the datagram that was received last. `None` if its bytes are no frame of the site that it came from. After an
-    /// acknowledgement, what seems to be lost is sent again.
+    /// Serves a frame of the datagram that was received last. `None` if its bytes are no frame of
+    /// the site that it came from. After an acknowledgement, what seems to be lost is sent again.
     pub fn serve_frame<R: Wait + Clock>(&mut self, rt: &R, frame: Asked) -> Option<Outs> {
         let job = self.shared.job(rt, frame)?;
         if self.shared.table.sender(&job) != self.wire.sender() {
@@ -118,7 +121,8 @@ impl<'a, T: SharedTable> Server<'a, T> {
         Some(outs)
     }
 
-    // A frame told something of its site. Most tell nothing new. After an acknowledgement, what seems to be lost is sent again.
+    // A frame told something of its site. Most tell nothing new. After an acknowledgement, what
+    // seems to be lost is sent again.
     fn hear<R: Wait + Clock>(&mut self, rt: &R, heard: Heard) {
         if self.heard == Some(heard) {
             return;
@@ -141,7 +145,8 @@ impl<'a, T: SharedTable> Server<'a, T> {
         self.gather(rt, &mut again);
     }
 
-    // A site acknowledged a message. If it was silent, all that it was sent may be sent again as if for the first time.
+    // A site acknowledged a message. If it was silent, all that it was sent may be sent again as if
+    // for the first time.
     fn end_silence<R: Wait>(&self, rt: &R, site: SiteNo) {
         if let Some(silence) = Silence::find(self.shared.silences, site)
             && silence.end(rt)
@@ -167,8 +172,9 @@ impl<'a, T: SharedTable> Server<'a, T> {
         Unacknowledged::note_all(rt, self.shared.unacknowledged, outs);
     }
 
-    /// Takes the frames of an event, to be sent with those of others at the latest by `send_gathered`, and tells the operator which
-    /// domains it halted. If each frame has a datagram of its own, they are sent now.
+    /// Takes the frames of an event, to be sent with those of others at the latest by
+    /// `send_gathered`, and tells the operator which domains it halted. If each frame has a
+    /// datagram of its own, they are sent now.
     pub fn gather<R: Wait>(&mut self, rt: &R, outs: &mut Outs) {
         if self.shared.bundle.is_none() {
             self.send_frames(rt, outs);
@@ -218,7 +224,8 @@ impl<'a, T: SharedTable> Server<'a, T> {
         }
     }
 
-    /// Sends the frames of an event, and tells the operator which domains it halted. Frames that were gathered before go with them.
+    /// Sends the frames of an event, and tells the operator which domains it halted. Frames that
+    /// were gathered before go with them.
     pub fn send<R: Wait>(&mut self, rt: &R, outs: &mut Outs) {
         let has_frames = !outs.frames.is_empty();
         self.gather(rt, outs);
@@ -235,7 +242,8 @@ impl<'a, T: SharedTable> Server<'a, T> {
         }
     }
 
-    // Sends frames, if there is room to count one more failure of each. They share datagrams if they may.
+    // Sends frames, if there is room to count one more failure of each. They share datagrams if
+    // they may.
     fn send_passed<R: Wait>(&mut self, rt: &R, outs: &Outs) {
         let count = outs.frames.len() as u64;
         if count == 0 || count >= u64::MAX - self.wire.failures() {
@@ -328,7 +336,8 @@ impl<'a, T: SharedTable> Server<'a, T> {
         true
     }
 
-    /// As the writer of a program, writes what another thread left unwritten, and then what there is more.
+    /// As the writer of a program, writes what another thread left unwritten, and then what there
+    /// is more.
     pub fn write_rest<R: Wait>(&mut self, rt: &R, client: &Client, unwritten: Unwritten) {
         let is_more = unwritten.is_more;
         if self.put_rest(rt, client, unwritten) && (is_more || client.goes_on(rt)) {
@@ -336,7 +345,8 @@ impl<'a, T: SharedTable> Server<'a, T> {
         }
     }
 
-    // Writes what a Take of the outbox of a session had. `None` if the pen is gone, else whether there may be more.
+    // Writes what a Take of the outbox of a session had. `None` if the pen is gone, else whether
+    // there may be more.
     fn write_taken<R: Wait>(
         &mut self,
         rt: &R,
@@ -385,14 +395,16 @@ impl<'a, T: SharedTable> Server<'a, T> {
         }
     }
 
-    /// With the pen of a program, takes its outbox until that is empty, and writes what it had. If that would wait, or goes on for
-    /// long, the pen is passed to the program's writer, unless this is the writer.
+    /// With the pen of a program, takes its outbox until that is empty, and writes what it had. If
+    /// that would wait, or goes on for long, the pen is passed to the program's writer, unless this
+    /// is the writer.
     pub fn write<R: Wait>(&mut self, rt: &R, client: &Client, is_writer: bool) {
         let came = self.serve(rt, take_of(client.session));
         self.write_from(rt, client, came, is_writer);
     }
 
-    // With the pen of a program, and with what came of a Take of its outbox: writes that, and goes on as `write` does.
+    // With the pen of a program, and with what came of a Take of its outbox: writes that, and goes
+    // on as `write` does.
     fn write_from<R: Wait>(&mut self, rt: &R, client: &Client, came: Came, is_writer: bool) {
         let mut came = came;
         let mut rounds: u32 = 0;
@@ -421,8 +433,8 @@ impl<'a, T: SharedTable> Server<'a, T> {
         (Err(Fault::NoMemory), Outs::new(self.shared.alloc))
     }
 
-    /// With the pen of a program, serves an event of its session, takes the outbox at once, and then writes as `write` does: the
-    /// thread waits for the table once for both.
+    /// With the pen of a program, serves an event of its session, takes the outbox at once, and
+    /// then writes as `write` does: the thread waits for the table once for both.
     pub fn serve_and_write<R: Wait>(&mut self, rt: &R, client: &Client, event: Event) -> Came {
         let shared = self.shared;
         let Some(job) = shared.job(rt, Asked::Event(event)) else {

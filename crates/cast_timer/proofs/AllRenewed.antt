@@ -1,5 +1,6 @@
 -- All frames that are due are owed for one moment, one after the other or all at once.
-use Rattle.std.proofs.Common.{◌≡◌, ◌<◌, ℕ, Bool, true, false, cond, ◌||◌, List, [], ◌∷◌, length, Less, Option, Some, None, refl, sym, ap, ◌∙◌, inl, inr, arith}
+use Rattle.std.proofs.Common.{◌≡◌, ◌<◌, ℕ, Bool, true, false, cond, ◌||◌, List, [], ◌∷◌, length}
+use Rattle.std.proofs.Common.{Less, Option, Some, None, refl, sym, ap, ◌∙◌, inl, inr, arith}
 use Rattle.std.specs.Prelude.{◌==◌, is_some, map, nat_le}
 use Rattle.std.specs.List.{list_any, fold}
 use Rattle.std.specs.Option.{option_map}
@@ -42,7 +43,8 @@ apart o p less same = cc (less, ap (owed_cmp o) (sym same), tied_itself owed_tot
 not_both : (o p : Owed) → owed_cmp o p ≡ Less → owed_cmp p o ≡ Less → ⊥
 not_both o p less more = apart o o (owed_total.trans o p o less more) refl
 
-pub same_rising : (os ps : List Owed) → is_rising owed_cmp os ≡ true → is_rising owed_cmp ps ≡ true → ((o : Owed) → has os o ≡ true → has ps o ≡ true) → ((o : Owed) → has ps o ≡ true → has os o ≡ true) → os ≡ ps
+pub same_rising : (os ps : List Owed) → is_rising owed_cmp os ≡ true → is_rising owed_cmp ps ≡ true →
+    ((o : Owed) → has os o ≡ true → has ps o ≡ true) → ((o : Owed) → has ps o ≡ true → has os o ≡ true) → os ≡ ps
 same_rising [] [] rising rises to from = refl
 same_rising [] (p ∷ ps) rising rises to from = absurd (false≢true (from p (ap (λ b. b || has ps p) (frame_itself p))))
 same_rising (o ∷ os) [] rising rises to from = absurd (false≢true (to o (ap (λ b. b || has os o) (frame_itself o))))
@@ -93,7 +95,8 @@ index_alike due next os is index = record {
 
 -- Frames of keys that are owed for a moment one after the other
 
-index_each : (t : ℕ) (ks : List OwedKey) (due : OwedKey → Option ℕ) (os : List Owed) → IsIndex due os → (next : OwedKey → Option ℕ) → ((q : OwedKey) → next q ≡ cond (list_any (λ k. key_eq k q) ks) (Some t) (due q)) → IsIndex next (fold (λ ps key. renew ps key t) os ks)
+index_each : (t : ℕ) (ks : List OwedKey) (due : OwedKey → Option ℕ) (os : List Owed) → IsIndex due os → (next : OwedKey → Option ℕ) →
+    ((q : OwedKey) → next q ≡ cond (list_any (λ k. key_eq k q) ks) (Some t) (due q)) → IsIndex next (fold (λ ps key. renew ps key t) os ks)
 index_each t [] due os index next is = index_alike due next os is index
 index_each t (k ∷ ks) due os index next is =
     let first = λ (q : OwedKey). cond (key_eq k q) (Some t) (due q) in
@@ -121,7 +124,8 @@ was_due now t (Some s) some = elim (cases_Bool (nat_le s now)) [
   | inr late ↦ absurd (none-some t (sym (ap (λ b. cond b (Some s) None) late) ∙ some))
 ]
 
-index_due : (now : ℕ) (due : OwedKey → Option ℕ) (os : List Owed) → IsIndex due os → IsIndex (λ q. due_still now (due q)) (due_frames now os)
+index_due : (now : ℕ) (due : OwedKey → Option ℕ) (os : List Owed) → IsIndex due os →
+    IsIndex (λ q. due_still now (due q)) (due_frames now os)
 index_due now due os index = record {
   rising = rising_kept owed_cmp (λ o. nat_le o.due now) os index.rising;
   told = λ o there.
@@ -148,13 +152,15 @@ moment now due (Some t) = elim (nat_le t now) as (λ b. Some (cond b due t) ≡ 
 -- the keys that are due are those whose moments change
 module _ (now due : ℕ) (old : OwedKey → Option ℕ) (os : List Owed) (index : IsIndex old os) where
   are_due : (q : OwedKey) → list_any (λ k. key_eq k q) (due_at now os) ≡ is_some (due_still now (old q))
-  are_due q = keys_owed (due_frames now os) q ∙ sym (owed_by (λ k. due_still now (old k)) (due_frames now os) (index_due now old os index) q)
+  are_due q =
+      keys_owed (due_frames now os) q ∙ sym (owed_by (λ k. due_still now (old k)) (due_frames now os) (index_due now old os index) q)
 
   moments : (q : OwedKey) → option_map (renewed_due now due) (old q) ≡ cond (list_any (λ k. key_eq k q) (due_at now os)) (Some due) (old q)
   moments q = moment now due (old q) ∙ ap (λ b. cond b (Some due) (old q)) (sym (are_due q))
 
   -- so what is owed is what was owed once each was renewed in turn
-  pub all_moved : (next : OwedKey → Option ℕ) (ps : List Owed) → ((q : OwedKey) → next q ≡ option_map (renewed_due now due) (old q)) → IsIndex next ps → ps ≡ all_renewed now due os
+  pub all_moved : (next : OwedKey → Option ℕ) (ps : List Owed) → ((q : OwedKey) → next q ≡ option_map (renewed_due now due) (old q)) →
+      IsIndex next ps → ps ≡ all_renewed now due os
   all_moved next ps is other =
       one_index next ps (all_renewed now due os) other
       (index_each due (due_at now os) old os index next (λ q. is q ∙ moments q))
@@ -174,7 +180,8 @@ module _ (now due : ℕ) (old : OwedKey → Option ℕ) (os : List Owed) (index 
       ]
 
   -- a set of those that are then due at one moment has some, where any is due
-  pub some_due : (ks : List OwedKey) → 0 < length (due_at now os) → ((q : OwedKey) → has_key q ks ≡ is_due due (option_map (renewed_due now due) (old q))) → has_some ks ≡ true
+  pub some_due : (ks : List OwedKey) → 0 < length (due_at now os) →
+      ((q : OwedKey) → has_key q ks ≡ is_due due (option_map (renewed_due now due) (old q))) → has_some ks ≡ true
   some_due ks lt its = by_first (due_at now os) due_key lt
     where
       then : (m : Option ℕ) → is_some (due_still now m) ≡ true → is_due due (option_map (renewed_due now due) m) ≡ true

@@ -5,7 +5,8 @@
 -- keep it. Each key is in the list once at most, so that a key that changes is taken out and put
 -- in, and all others are found as before. The last part finds the entries up to a key by a range
 -- of the map (`between`), since keys that differ in their counts alone are ordered by these.
-use Rattle.std.proofs.Common.{◌≡◌, ℕ, Bool, true, false, not, cond, ◌&&◌, ◌||◌, List, [], ◌∷◌, filter, Ordering, Less, Equal, Greater, Option, Some, None, refl, sym, ap, ◌∙◌, inl, inr, arith}
+use Rattle.std.proofs.Common.{◌≡◌, ℕ, Bool, true, false, not, cond, ◌&&◌, ◌||◌, List, [], ◌∷◌, filter, Ordering}
+use Rattle.std.proofs.Common.{Less, Equal, Greater, Option, Some, None, refl, sym, ap, ◌∙◌, inl, inr, arith}
 use Rattle.std.specs.Prelude.{◌==◌, is_some, nat_le, ◌<◌, ◌≤◌}
 use Rattle.std.specs.List.{list_any, list_all}
 use Rattle.std.specs.Ordering.{is_eq, is_gt, is_le, is_lt, nat_cmp, ordering_then, ordering_reverse}
@@ -49,7 +50,8 @@ tests Greater b to from = sym (false_from_ne_true b (λ h. cc (from h)))
 pub key_tests : (a b : OwedKey) → is_at (keys.cmp-value.it a) b ≡ key_eq a b
 key_tests a b =
     ap is_eq (key_order a b)
-    ∙ tests (key_cmp a b) (key_eq a b) (λ tie. ap (key_eq a) (sym (tied_key a b tie)) ∙ key_itself a) (λ h. ap (key_cmp a) (sym (same_key a b h)) ∙ tied_itself key_total a)
+    ∙ tests (key_cmp a b) (key_eq a b) (λ tie. ap (key_eq a) (sym (tied_key a b tie)) ∙ key_itself a)
+    (λ h. ap (key_cmp a) (sym (same_key a b h)) ∙ tied_itself key_total a)
 
 -- so a map is looked up by keys
 pub looked_up : (key : OwedKey) (dues : List (OwedKey × ℕ)) → lookup (is_at (keys.cmp-value.it key)) dues ≡ due_of dues key
@@ -89,12 +91,14 @@ has_kept keep o (p ∷ ps) = elim (cases_Bool (frame_eq o p)) [
       ∙ sym (ap (λ b. keep o && (b || has ps o)) other)
 ]
   where
-    both : (b c : Bool) (rest : List Owed) → has rest o ≡ (c && has ps o) → frame_eq o p ≡ false → has (cond b (p ∷ rest) rest) o ≡ (c && has ps o)
+    both : (b c : Bool) (rest : List Owed) → has rest o ≡ (c && has ps o) → frame_eq o p ≡ false →
+        has (cond b (p ∷ rest) rest) o ≡ (c && has ps o)
     both true c rest later other = ap (λ d. d || has rest o) other ∙ later
     both false c rest later other = later
 
 -- two tests that agree on what is there keep the same
-pub kept_alike : (keep other : Owed → Bool) (os : List Owed) → ((o : Owed) → has os o ≡ true → keep o ≡ other o) → filter keep os ≡ filter other os
+pub kept_alike : (keep other : Owed → Bool) (os : List Owed) → ((o : Owed) → has os o ≡ true → keep o ≡ other o) →
+    filter keep os ≡ filter other os
 kept_alike keep other [] alike = refl
 kept_alike keep other (p ∷ ps) alike =
     let here = alike p (ap (λ b. b || has ps p) (frame_itself p)) in
@@ -137,7 +141,9 @@ module _ (due : OwedKey → Option ℕ) (os : List Owed) (index : IsIndex due os
       nobody : (ps : List Owed) → ((o : Owed) → has ps o ≡ true → key_eq key o.key ≡ false) → is_owed ps key ≡ false
       nobody [] none = refl
       nobody (p ∷ ps) none =
-          let here : key_eq p.key key ≡ false = false_from_ne_true (key_eq p.key key) (λ h. false≢true (sym (none p (ap (λ b. b || has ps p) (frame_itself p))) ∙ ap (key_eq key) (same_key p.key key h) ∙ key_itself key)) in
+          let here : key_eq p.key key ≡ false =
+          false_from_ne_true (key_eq p.key key) (λ h.
+          false≢true (sym (none p (ap (λ b. b || has ps p) (frame_itself p))) ∙ ap (key_eq key) (same_key p.key key h) ∙ key_itself key)) in
           ap (λ b. b || is_owed ps key) here ∙ nobody ps (λ o h. none o (later (frame_eq o p) (has ps o) h))
         where
           later : (a b : Bool) → b ≡ true → (a || b) ≡ true
@@ -149,7 +155,8 @@ module _ (due : OwedKey → Option ℕ) (os : List Owed) (index : IsIndex due os
       go (Some t) some = sym (any (record { due = t; key = key }) os (index.owes key t some))
 
   -- keys that pass a test are taken out of both
-  pub index_paid : (test : OwedKey → Bool) (next : OwedKey → Option ℕ) → ((q : OwedKey) → next q ≡ cond (test q) None (due q)) → IsIndex next (paid test os)
+  pub index_paid : (test : OwedKey → Bool) (next : OwedKey → Option ℕ) → ((q : OwedKey) → next q ≡ cond (test q) None (due q)) →
+      IsIndex next (paid test os)
   index_paid test next is = record {
     rising = rising_kept owed_cmp (λ o. not (test o.key)) os index.rising;
     told = λ o there.
@@ -170,7 +177,8 @@ module _ (due : OwedKey → Option ℕ) (os : List Owed) (index : IsIndex due os
       was false m t h = (refl, h)
 
   -- a key that the map lacks is put in both
-  pub index_with : (x : Owed) (next : OwedKey → Option ℕ) → due x.key ≡ None → ((q : OwedKey) → next q ≡ cond (key_eq x.key q) (Some x.due) (due q)) → IsIndex next (with_item owed_cmp x os)
+  pub index_with : (x : Owed) (next : OwedKey → Option ℕ) → due x.key ≡ None →
+      ((q : OwedKey) → next q ≡ cond (key_eq x.key q) (Some x.due) (due q)) → IsIndex next (with_item owed_cmp x os)
   index_with x next none is = record {
     rising = rising-with_item owed_cmp owed_total x os index.rising;
     told = λ o there. told_of o (frame_eq o x) refl (sym (has_with x o os) ∙ there);
@@ -187,11 +195,13 @@ module _ (due : OwedKey → Option ℕ) (os : List Owed) (index : IsIndex due os
           let in_os : has os o ≡ true = sym (ap (λ b. b || has os o) other) ∙ there in
           is o.key ∙ ap (λ b. cond b (Some x.due) (due o.key)) (lacking x.key none o in_os) ∙ index.told o in_os
 
-      owes_of : (key : OwedKey) (t : ℕ) (b : Bool) → key_eq x.key key ≡ b → cond (key_eq x.key key) (Some x.due) (due key) ≡ Some t → has (with_item owed_cmp x os) (record { due = t; key = key }) ≡ true
+      owes_of : (key : OwedKey) (t : ℕ) (b : Bool) → key_eq x.key key ≡ b → cond (key_eq x.key key) (Some x.due) (due key) ≡ Some t →
+          has (with_item owed_cmp x os) (record { due = t; key = key }) ≡ true
       owes_of key t true same some =
           let o : Owed = record { due = t; key = key } in
           let moment : x.due ≡ t = same_some x.due t (Some x.due) refl (sym (ap (λ b. cond b (Some x.due) (due key)) same) ∙ some) in
-          let one : frame_eq o x ≡ true = and_from (t == x.due) (key_eq key x.key) (differs x.due t moment) (ap (key_eq key) (same_key x.key key same) ∙ key_itself key) in
+          let one : frame_eq o x ≡ true =
+          and_from (t == x.due) (key_eq key x.key) (differs x.due t moment) (ap (key_eq key) (same_key x.key key same) ∙ key_itself key) in
           has_with x o os ∙ ap (λ b. b || has os o) one
       owes_of key t false other some =
           let o : Owed = record { due = t; key = key } in
@@ -202,7 +212,8 @@ module _ (due : OwedKey → Option ℕ) (os : List Owed) (index : IsIndex due os
           later false b h = h
 
 -- a key is put in both, in the place of what it had
-pub index_renewed : (due : OwedKey → Option ℕ) (os : List Owed) → IsIndex due os → (x : Owed) (next : OwedKey → Option ℕ) → ((q : OwedKey) → next q ≡ cond (key_eq x.key q) (Some x.due) (due q)) → IsIndex next (renew os x.key x.due)
+pub index_renewed : (due : OwedKey → Option ℕ) (os : List Owed) → IsIndex due os → (x : Owed) (next : OwedKey → Option ℕ) →
+    ((q : OwedKey) → next q ≡ cond (key_eq x.key q) (Some x.due) (due q)) → IsIndex next (renew os x.key x.due)
 index_renewed due os index x next is =
     let less = λ (q : OwedKey). cond (key_eq x.key q) None (due q) in
     index_with less (paid (key_eq x.key) os) (index_paid due os index (key_eq x.key) less (λ q. refl)) x next
@@ -214,12 +225,16 @@ index_renewed due os index x next is =
     again false t m = refl
 
 -- what a map has after one key was changed
-pub moved : (key : OwedKey) (w : Option ℕ) (old new : List (OwedKey × ℕ)) → ((q : OwedKey) → lookup (is_at (keys.cmp-value.it q)) new ≡ cond (is_at (keys.cmp-value.it key) q) w (lookup (is_at (keys.cmp-value.it q)) old)) → (q : OwedKey) → due_of new q ≡ cond (key_eq key q) w (due_of old q)
+pub moved : (key : OwedKey) (w : Option ℕ) (old new : List (OwedKey × ℕ)) →
+    ((q : OwedKey) →
+    lookup (is_at (keys.cmp-value.it q)) new ≡ cond (is_at (keys.cmp-value.it key) q) w (lookup (is_at (keys.cmp-value.it q)) old)) →
+    (q : OwedKey) → due_of new q ≡ cond (key_eq key q) w (due_of old q)
 moved key w old new is q =
     sym (looked_up q new) ∙ is q ∙ (λ i. cond (key_tests key q i) w (looked_up q old i))
 
 -- What a map has where keys that pass a test are taken out
-pub looked_kept : (test : OwedKey → Bool) (dues : List (OwedKey × ℕ)) (q : OwedKey) → due_of (filter (λ e. not (test e.0)) dues) q ≡ cond (test q) None (due_of dues q)
+pub looked_kept : (test : OwedKey → Bool) (dues : List (OwedKey × ℕ)) (q : OwedKey) →
+    due_of (filter (λ e. not (test e.0)) dues) q ≡ cond (test q) None (due_of dues q)
 looked_kept test [] q = elim (test q) as (λ b. due_of [] q ≡ cond b None (due_of [] q)) [ true ↦ refl | false ↦ refl ]
 looked_kept test (e ∷ es) q = elim (cases_Bool (key_eq q e.0)) [
   | inl this ↦
@@ -259,16 +274,22 @@ abbrev pub between : OwedKey → List (OwedKey × ℕ) → List (OwedKey × ℕ)
 between key dues = entries_between keys.cmp-value.it (Included (lowest key)) (Included key) dues
 
 not_above : (a b : ℕ) → a ≤ b → is_gt (nat_cmp a b) ≡ false
-not_above a b le = by_ranked (a < b) (a ≡ b) (b < a) (nat_cmp a b) (ranked a b (nat_cmp a b) refl) (λ e _. ap is_gt e) (λ e _. ap is_gt e) (λ _ l. absurd (omega (arith, le, l)))
+not_above a b le =
+    by_ranked (a < b) (a ≡ b) (b < a) (nat_cmp a b) (ranked a b (nat_cmp a b) refl) (λ e _. ap is_gt e) (λ e _. ap is_gt e)
+    (λ _ l. absurd (omega (arith, le, l)))
 
 -- keys that differ in their counts alone are ordered by these
 by_counts : (key : OwedKey) (n m : ℕ) → key_cmp (record key { count = n }) (record key { count = m }) ≡ ordering_then (nat_cmp n m) Equal
 by_counts key n m =
     let last = ordering_then (site_cmp key.site key.site) (nat_cmp (side_rank key.side) (side_rank key.side)) in
-    ap (λ o. ordering_then o (ordering_then (group_cmp key.group key.group) (ordering_then (proc_cmp key.proc key.proc) (ordering_then (nat_cmp n m) last)))) (tied_itself nat_cmp_total (kind_rank key.kind))
-    ∙ ap (λ o. ordering_then o (ordering_then (proc_cmp key.proc key.proc) (ordering_then (nat_cmp n m) last))) (tied_itself group_total key.group)
+    ap (λ o. ordering_then o
+    (ordering_then (group_cmp key.group key.group) (ordering_then (proc_cmp key.proc key.proc) (ordering_then (nat_cmp n m) last))))
+    (tied_itself nat_cmp_total (kind_rank key.kind))
+    ∙ ap (λ o. ordering_then o (ordering_then (proc_cmp key.proc key.proc) (ordering_then (nat_cmp n m) last)))
+    (tied_itself group_total key.group)
     ∙ ap (λ o. ordering_then o (ordering_then (nat_cmp n m) last)) (tied_itself proc_total key.proc)
-    ∙ ap (λ o. ordering_then (nat_cmp n m) (ordering_then o (nat_cmp (side_rank key.side) (side_rank key.side)))) (tied_itself site_total key.site)
+    ∙ ap (λ o. ordering_then (nat_cmp n m) (ordering_then o (nat_cmp (side_rank key.side) (side_rank key.side))))
+    (tied_itself site_total key.site)
     ∙ ap (λ o. ordering_then (nat_cmp n m) o) (tied_itself nat_cmp_total (side_rank key.side))
 
 not_above_then : (o : Ordering) → is_gt o ≡ false → is_gt (ordering_then o Equal) ≡ false
@@ -298,16 +319,22 @@ in_range key q h =
     let this : record key { count = q.count } ≡ q = ap (λ (k : OwedKey). record k { count = q.count }) (sym one) in
     let le : q.count ≤ key.count = leb-true q.count key.count parts.1 in
     and_from (is_le (keys.cmp-value.it (lowest key) q)) (not (is_lt (keys.cmp-value.it key q)))
-    (at_most (keys.cmp-value.it (lowest key) q) (ap (λ (k : OwedKey). is_gt (keys.cmp-value.it (lowest key) k)) (sym this) ∙ counted key 0 q.count (omega arith)))
+    (at_most (keys.cmp-value.it (lowest key) q)
+    (ap (λ (k : OwedKey). is_gt (keys.cmp-value.it (lowest key) k)) (sym this) ∙ counted key 0 q.count (omega arith)))
     (ap not
     (ap is_lt (key_order key q ∙ key_total.antisymm key q)
-    ∙ not_below (key_cmp q key) (ap is_gt (sym (key_order q key)) ∙ ap (λ (k : OwedKey). is_gt (keys.cmp-value.it k key)) (sym this) ∙ counted key q.count key.count le)))
+    ∙ not_below (key_cmp q key) (ap is_gt (sym (key_order q key))
+    ∙ ap (λ (k : OwedKey). is_gt (keys.cmp-value.it k key)) (sym this)
+    ∙ counted key q.count key.count le)))
 
 -- what is kept has each item that passes a test, if all that pass it are kept
-any_kept : {A : Type 0} (test keep : A → Bool) (xs : List A) → ((x : A) → test x ≡ true → keep x ≡ true) → list_any test (filter keep xs) ≡ list_any test xs
+any_kept : {A : Type 0} (test keep : A → Bool) (xs : List A) → ((x : A) → test x ≡ true → keep x ≡ true) →
+    list_any test (filter keep xs) ≡ list_any test xs
 any_kept {A = A} test keep [] all = refl
 any_kept {A = A} test keep (x ∷ xs) all = elim (cases_Bool (test x)) [
-  | inl passes ↦ ap (λ b. list_any test (cond b (x ∷ filter keep xs) (filter keep xs))) (all x passes) ∙ ap (λ rest. test x || rest) (any_kept test keep xs all)
+  | inl passes ↦
+      ap (λ b. list_any test (cond b (x ∷ filter keep xs) (filter keep xs))) (all x passes)
+      ∙ ap (λ rest. test x || rest) (any_kept test keep xs all)
   | inr fails ↦ drop_it (keep x) (filter keep xs) fails ∙ any_kept test keep xs all ∙ sym (ap (λ b. b || list_any test xs) fails)
 ]
   where
@@ -316,7 +343,8 @@ any_kept {A = A} test keep (x ∷ xs) all = elim (cases_Bool (test x)) [
     drop_it false rest fails = refl
 
 -- each entry of a map is found by its key
-found_in : (all es : List (OwedKey × ℕ)) → ((q : OwedKey) → is_some (due_of es q) ≡ true → is_some (due_of all q) ≡ true) → list_all (λ e. is_some (due_of all e.0)) es ≡ true
+found_in : (all es : List (OwedKey × ℕ)) → ((q : OwedKey) → is_some (due_of es q) ≡ true → is_some (due_of all q) ≡ true) →
+    list_all (λ e. is_some (due_of all e.0)) es ≡ true
 found_in all [] more = refl
 found_in all (e ∷ es) more =
     and_from (is_some (due_of all e.0)) (list_all (λ x. is_some (due_of all x.0)) es)
@@ -328,7 +356,8 @@ found_in all (e ∷ es) more =
     behind false m some = some
 
 -- a key that passes a test which no entry passes is not found
-lost : (test : OwedKey → Bool) (es : List (OwedKey × ℕ)) (q : OwedKey) → list_any (λ e. test e.0) es ≡ false → test q ≡ true → due_of es q ≡ None
+lost : (test : OwedKey → Bool) (es : List (OwedKey × ℕ)) (q : OwedKey) → list_any (λ e. test e.0) es ≡ false → test q ≡ true →
+    due_of es q ≡ None
 lost test [] q none passes = refl
 lost test (e ∷ es) q none passes = elim (cases_Bool (key_eq q e.0)) [
   | inl this ↦ absurd (false≢true (sym none ∙ ap (λ b. b || list_any (λ x. test x.0) es) (ap test (sym (same_key q e.0 this)) ∙ passes)))
@@ -341,14 +370,18 @@ lost test (e ∷ es) q none passes = elim (cases_Bool (key_eq q e.0)) [
 
 module _ (dues : List (OwedKey × ℕ)) (key : OwedKey) where
   pub all_owed : list_all (λ e. is_some (due_of dues e.0)) (between key dues) ≡ true
-  all_owed = all_kept (λ e. is_some (due_of dues e.0)) (λ e. range_contains keys.cmp-value.it (Included (lowest key)) (Included key) e.0) dues (found_in dues dues (λ q some. some))
+  all_owed =
+      all_kept (λ e. is_some (due_of dues e.0)) (λ e. range_contains keys.cmp-value.it (Included (lowest key)) (Included key) e.0)
+      dues (found_in dues dues (λ q some. some))
 
   pub none_between : list_any (entry_upto key) (between key dues) ≡ false → (q : OwedKey) → is_upto key q ≡ true → due_of dues q ≡ None
   none_between none q passes =
-      lost (is_upto key) dues q (sym (any_kept (entry_upto key) (λ e. range_contains keys.cmp-value.it (Included (lowest key)) (Included key) e.0) dues (λ e. in_range key e.0)) ∙ none) passes
+      lost (is_upto key) dues q (sym (any_kept (entry_upto key)
+      (λ e. range_contains keys.cmp-value.it (Included (lowest key)) (Included key) e.0) dues (λ e. in_range key e.0)) ∙ none) passes
 
 -- a key that a map lacks is put in and taken out again
-pub put_back : (due : OwedKey → Option ℕ) (key : OwedKey) (t : ℕ) → due key ≡ None → (q : OwedKey) → cond (key_eq key q) None (cond (key_eq key q) (Some t) (due q)) ≡ due q
+pub put_back : (due : OwedKey → Option ℕ) (key : OwedKey) (t : ℕ) → due key ≡ None → (q : OwedKey) →
+    cond (key_eq key q) None (cond (key_eq key q) (Some t) (due q)) ≡ due q
 put_back due key t none q = at (key_eq key q) refl
   where
     at : (b : Bool) → key_eq key q ≡ b → cond b None (cond b (Some t) (due q)) ≡ due q

@@ -1,5 +1,6 @@
 -- What owing and paying do to the frames of one key and of others.
-use Rattle.std.proofs.Common.{◌≡◌, ◌≢◌, ℕ, Bool, true, false, not, cond, ◌&&◌, List, [], ◌∷◌, Ordering, Less, Equal, Greater, refl, sym, ap, ◌∙◌, inl, inr, arith}
+use Rattle.std.proofs.Common.{◌≡◌, ◌≢◌, ℕ, Bool, true, false, not, cond, ◌&&◌, List, [], ◌∷◌}
+use Rattle.std.proofs.Common.{Ordering, Less, Equal, Greater, refl, sym, ap, ◌∙◌, inl, inr, arith}
 use Rattle.std.specs.Prelude.{◌==◌, ◌||◌}
 use Rattle.std.specs.List.{list_any}
 use Rattle.std.specs.Ordering.{nat_cmp, ordering_then}
@@ -7,7 +8,8 @@ use Rattle.std.proofs.lemmas.Bool.{and_parts, and_from, cases_Bool, or_left, eqb
 use Rattle.std.proofs.lemmas.Map.Lookups.{exact_unsigned}
 use Rattle.cast_types.specs.Names.{group_cmp, proc_cmp, site_cmp, group_eq, proc_eq, site_eq}
 use Rattle.cast_types.specs.Sets.{with_item, at_order}
-use Rattle.cast_types.proofs.Orders.{group_exact, proc_exact, site_exact, group_itself, proc_itself, site_itself, same_group, same_proc, same_site}
+use Rattle.cast_types.proofs.Orders.{group_exact, proc_exact, site_exact, group_itself}
+use Rattle.cast_types.proofs.Orders.{proc_itself, site_itself, same_group, same_proc, same_site}
 use Rattle.cast_timer.specs.declared.key.OwedKind.{OwedKind}
 use Rattle.cast_timer.specs.declared.key.OwedKind.TheVariants.{Ask, Data, Prepare, Want, Install, Ack}
 use Rattle.cast_timer.specs.declared.key.Side.{Side}
@@ -64,9 +66,18 @@ same_side Home Home e = refl
 -- keys that test equal are one, and a key tests equal to itself
 pub same_key : (a b : OwedKey) → key_eq a b ≡ true → a ≡ b
 same_key a b h =
-    let kinds = and_parts (kind_rank a.kind == kind_rank b.kind) (group_eq a.group b.group && (proc_eq a.proc b.proc && ((a.count == b.count) && (site_eq a.site b.site && (side_rank a.side == side_rank b.side))))) h in
-    let groups = and_parts (group_eq a.group b.group) (proc_eq a.proc b.proc && ((a.count == b.count) && (site_eq a.site b.site && (side_rank a.side == side_rank b.side)))) kinds.1 in
-    let procs = and_parts (proc_eq a.proc b.proc) ((a.count == b.count) && (site_eq a.site b.site && (side_rank a.side == side_rank b.side))) groups.1 in
+    let kinds =
+    and_parts (kind_rank a.kind == kind_rank b.kind) (group_eq a.group b.group
+    && (proc_eq a.proc b.proc
+    && ((a.count == b.count)
+    && (site_eq a.site b.site
+    && (side_rank a.side == side_rank b.side))))) h in
+    let groups =
+    and_parts (group_eq a.group b.group)
+    (proc_eq a.proc b.proc && ((a.count == b.count) && (site_eq a.site b.site && (side_rank a.side == side_rank b.side)))) kinds.1 in
+    let procs =
+    and_parts (proc_eq a.proc b.proc)
+    ((a.count == b.count) && (site_eq a.site b.site && (side_rank a.side == side_rank b.side))) groups.1 in
     let counts = and_parts (a.count == b.count) (site_eq a.site b.site && (side_rank a.side == side_rank b.side)) procs.1 in
     let sites = and_parts (site_eq a.site b.site) (side_rank a.side == side_rank b.side) counts.1 in
     let kind = same_kind a.kind b.kind (eqb-true (kind_rank a.kind) (kind_rank b.kind) kinds.0) in
@@ -79,11 +90,20 @@ same_key a b h =
 
 pub key_itself : (a : OwedKey) → key_eq a a ≡ true
 key_itself a =
-    and_from (kind_rank a.kind == kind_rank a.kind) (group_eq a.group a.group && (proc_eq a.proc a.proc && ((a.count == a.count) && (site_eq a.site a.site && (side_rank a.side == side_rank a.side))))) (eq-eqb (kind_rank a.kind) (kind_rank a.kind) refl)
-    (and_from (group_eq a.group a.group) (proc_eq a.proc a.proc && ((a.count == a.count) && (site_eq a.site a.site && (side_rank a.side == side_rank a.side)))) (group_itself a.group)
-    (and_from (proc_eq a.proc a.proc) ((a.count == a.count) && (site_eq a.site a.site && (side_rank a.side == side_rank a.side))) (proc_itself a.proc)
+    and_from (kind_rank a.kind == kind_rank a.kind) (group_eq a.group a.group
+    && (proc_eq a.proc a.proc
+    && ((a.count == a.count)
+    && (site_eq a.site a.site
+    && (side_rank a.side == side_rank a.side))))) (eq-eqb (kind_rank a.kind) (kind_rank a.kind) refl)
+    (and_from (group_eq a.group a.group) (proc_eq a.proc a.proc
+    && ((a.count == a.count)
+    && (site_eq a.site a.site
+    && (side_rank a.side == side_rank a.side)))) (group_itself a.group)
+    (and_from (proc_eq a.proc a.proc) ((a.count == a.count) && (site_eq a.site a.site && (side_rank a.side == side_rank a.side)))
+    (proc_itself a.proc)
     (and_from (a.count == a.count) (site_eq a.site a.site && (side_rank a.side == side_rank a.side)) (eq-eqb a.count a.count refl)
-    (and_from (site_eq a.site a.site) (side_rank a.side == side_rank a.side) (site_itself a.site) (eq-eqb (side_rank a.side) (side_rank a.side) refl)))))
+    (and_from (site_eq a.site a.site) (side_rank a.side == side_rank a.side) (site_itself a.site)
+    (eq-eqb (side_rank a.side) (side_rank a.side) refl)))))
 
 equal_key : (a b : OwedKey) → a ≡ b → key_eq a b ≡ true
 equal_key a b same = ap (key_eq a) (sym same) ∙ key_itself a
@@ -134,10 +154,12 @@ tied_frame a b h =
     λ i. record { due = due i; key = key i }
 
 -- a test of keys that a frame passes holds of some frame once it is owed
-pub any_with : (test : Owed → Bool) (x : Owed) (os : List Owed) → ((o : Owed) → owed_cmp x o ≡ Equal → test o ≡ test x) → list_any test (with_item owed_cmp x os) ≡ (test x || list_any test os)
+pub any_with : (test : Owed → Bool) (x : Owed) (os : List Owed) → ((o : Owed) → owed_cmp x o ≡ Equal → test o ≡ test x) →
+    list_any test (with_item owed_cmp x os) ≡ (test x || list_any test os)
 any_with test x [] alike = refl
 any_with test x (o ∷ os) alike =
-    elim (owed_cmp x o) as (λ r. owed_cmp x o ≡ r → list_any test (at_order r (x ∷ o ∷ os) (o ∷ os) (o ∷ with_item owed_cmp x os)) ≡ (test x || (test o || list_any test os))) [
+    elim (owed_cmp x o) as (λ r. owed_cmp x o ≡ r →
+    list_any test (at_order r (x ∷ o ∷ os) (o ∷ os) (o ∷ with_item owed_cmp x os)) ≡ (test x || (test o || list_any test os))) [
       | Less ↦ λ lt. refl
       | Equal ↦ λ tie. tie_in (test o) (test x) (list_any test os) (alike o tie)
       | Greater ↦ λ gt. ap (λ b. test o || b) (any_with test x os alike) ∙ swap (test o) (test x) (list_any test os)
@@ -155,7 +177,8 @@ any_with test x (o ∷ os) alike =
     tie_in false true c e = absurd (false≢true e)
     tie_in false false c e = refl
 
-owing : (owed : List Owed) (key other : OwedKey) (due : ℕ) → is_owed (with_owed owed key due) other ≡ (key_eq key other || is_owed owed other)
+owing : (owed : List Owed) (key other : OwedKey) (due : ℕ) →
+    is_owed (with_owed owed key due) other ≡ (key_eq key other || is_owed owed other)
 owing owed key other due =
     let x : Owed = record { due = due; key = key } in
     any_with (λ o. key_eq o.key other) x owed (λ o tie. ap (λ (k : OwedKey). key_eq k other) (sym (tied x o tie)))
@@ -169,18 +192,22 @@ owing_leaves owed key other due differ =
 
 pub paying_pays : PayingPays
 paying_pays [] key = refl
-paying_pays (o ∷ os) key = elim (key_eq key o.key) as (λ b. key_eq key o.key ≡ b → is_owed (cond (not b) (o ∷ paid (key_eq key) os) (paid (key_eq key) os)) key ≡ false) [
-  | true ↦ λ same. paying_pays os key
-  | false ↦ λ other.
-      let differ : key_eq o.key key ≡ false = other_key o.key key (λ same. false≢true (sym other ∙ equal_key key o.key (sym same))) in
-      ap (λ b. b || is_owed (paid (key_eq key) os) key) differ ∙ paying_pays os key
-] refl
+paying_pays (o ∷ os) key =
+    elim (key_eq key o.key)
+    as (λ b. key_eq key o.key ≡ b → is_owed (cond (not b) (o ∷ paid (key_eq key) os) (paid (key_eq key) os)) key ≡ false) [
+      | true ↦ λ same. paying_pays os key
+      | false ↦ λ other.
+          let differ : key_eq o.key key ≡ false = other_key o.key key (λ same. false≢true (sym other ∙ equal_key key o.key (sym same))) in
+          ap (λ b. b || is_owed (paid (key_eq key) os) key) differ ∙ paying_pays os key
+    ] refl
 
 pub paying_leaves : PayingLeaves
 paying_leaves [] key other differ = refl
-paying_leaves (o ∷ os) key other differ = elim (key_eq key o.key) as (λ b. key_eq key o.key ≡ b → is_owed (cond (not b) (o ∷ paid (key_eq key) os) (paid (key_eq key) os)) other ≡ (key_eq o.key other || is_owed os other)) [
-  | true ↦ λ same.
-      let not_it : key_eq o.key other ≡ false = other_key o.key other (λ it. differ (sym it ∙ sym (same_key key o.key same))) in
-      paying_leaves os key other differ ∙ sym (ap (λ b. b || is_owed os other) not_it)
-  | false ↦ λ not_paid. ap (λ b. key_eq o.key other || b) (paying_leaves os key other differ)
-] refl
+paying_leaves (o ∷ os) key other differ =
+    elim (key_eq key o.key) as (λ b. key_eq key o.key ≡ b →
+    is_owed (cond (not b) (o ∷ paid (key_eq key) os) (paid (key_eq key) os)) other ≡ (key_eq o.key other || is_owed os other)) [
+      | true ↦ λ same.
+          let not_it : key_eq o.key other ≡ false = other_key o.key other (λ it. differ (sym it ∙ sym (same_key key o.key same))) in
+          paying_leaves os key other differ ∙ sym (ap (λ b. b || is_owed os other) not_it)
+      | false ↦ λ not_paid. ap (λ b. key_eq o.key other || b) (paying_leaves os key other differ)
+    ] refl

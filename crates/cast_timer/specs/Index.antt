@@ -1,6 +1,7 @@
 -- The frames that are due at each moment, beside a map by their keys.
 -- The map is one for each domain, and has the moment at which the frame of each key is due.
-use Rattle.std.specs.Prelude.{◌≡◌, ◌≢◌, ℕ, Bool, true, false, cond, ◌&&◌, ◌==◌, nat_le, if◌then◌else◌, List, map, Option, None, Some, IsTrue}
+use Rattle.std.specs.Prelude.{◌≡◌, ◌≢◌, ℕ, Bool, true, false, cond, ◌&&◌, ◌==◌, nat_le}
+use Rattle.std.specs.Prelude.{if◌then◌else◌, List, map, Option, None, Some, IsTrue}
 use Rattle.std.specs.List.{list_any}
 use Rattle.std.specs.Option.{option_map, option_map_or}
 use Rattle.std.specs.Map.{lookup}
@@ -38,11 +39,13 @@ abbrev pub is_due : ℕ → Option ℕ → Bool
 is_due t None = false
 is_due t (Some s) = t == s
 
--- A frame of the domain is due at a moment exactly if the domain's map has the moment of its key: so no key is owed twice.
+-- A frame of the domain is due at a moment exactly if the domain's map has the moment of its key:
+-- so no key is owed twice.
 pub record IsKept (d : DomainNo) (rows : List Row) (due : OwedKey → Option ℕ) : Type 0 where
   pub shaped : IsShaped rows
   pub filled : IsFilled rows
-  pub told : (t : ℕ) (key : OwedKey) → is_held rows (record { due = t; domain = d }) key ≡ is_due t (due key)
+  pub told : (t : ℕ) (key : OwedKey)
+      → is_held rows (record { due = t; domain = d }) key ≡ is_due t (due key)
 
 -- this holds of all domains
 abbrev pub IsIndexed : List Row → List (DomainNo × BTreeMap OwedKey ℕ) → Type 0
@@ -54,7 +57,8 @@ pub record Keeps (d : DomainNo) (old new : List Row) (due : OwedKey → Option �
   pub others : (p : Moment) (key : OwedKey) → p.domain ≢ d → is_held new p key ≡ is_held old p key
 
 -- a frame that was due at one moment is due at another
-pub record IsMoved (d : DomainNo) (key : OwedKey) (before after : ℕ) (old new : List Row) : Type 0 where
+pub record IsMoved (d : DomainNo) (key : OwedKey) (before after : ℕ)
+    (old new : List Row) : Type 0 where
   pub between : List Row
   pub added : Holds (record { due = after; domain = d }) key true old between
   pub taken : Holds (record { due = before; domain = d }) key false between new
@@ -63,7 +67,8 @@ pub record IsMoved (d : DomainNo) (key : OwedKey) (before after : ℕ) (old new 
 pub record IsIndex (due : OwedKey → Option ℕ) (owed : List Owed) : Type 0 where
   pub rising : IsTrue (is_rising owed_cmp owed)
   pub told : (o : Owed) → has owed o ≡ true → due o.key ≡ Some o.due
-  pub owes : (key : OwedKey) (t : ℕ) → due key ≡ Some t → has owed (record { due = t; key = key }) ≡ true
+  pub owes : (key : OwedKey) (t : ℕ) → due key ≡ Some t
+      → has owed (record { due = t; key = key }) ≡ true
 
 -- the moment of a frame once all that are due at `now` are owed for `due`
 abbrev pub renewed_due : ℕ → ℕ → ℕ → ℕ

@@ -7,7 +7,8 @@ use Rattle.cast_types.specs.Names.{site_cmp, group_cmp, proc_cmp, site_eq, group
 use Rattle.cast_types.specs.Sets.{with_item}
 use Rattle.cast_types.specs.declared.names.GroupNo.{GroupNo}
 use Rattle.cast_timer.specs.declared.key.OwedKind.{OwedKind}
-use Rattle.cast_timer.specs.declared.key.OwedKind.TheVariants.{Ask, Data, Prepare, Want, Install, Ack}
+use Rattle.cast_timer.specs.declared.key.OwedKind.TheVariants.{Ask, Data, Prepare}
+use Rattle.cast_timer.specs.declared.key.OwedKind.TheVariants.{Want, Install, Ack}
 use Rattle.cast_timer.specs.declared.key.Side.{Side}
 use Rattle.cast_timer.specs.declared.key.Side.TheVariants.{Site, Home}
 use Rattle.cast_timer.specs.declared.key.OwedKey.{OwedKey}
@@ -67,9 +68,11 @@ is_upto key other = key_eq (record other { count = key.count }) key && nat_le ot
 
 -- whether both keys are of messages, and of the same one: they differ at most in their sites
 abbrev pub is_same_message : OwedKey → OwedKey → Bool
-is_same_message key other = (kind_rank key.kind == kind_rank Data) && key_eq (record other { site = key.site }) key
+is_same_message key other =
+    (kind_rank key.kind == kind_rank Data) && key_eq (record other { site = key.site }) key
 
--- whether a frame is about a message of the group, as a site owes it: its Data, its Ack or the site's Want
+-- whether a frame is about a message of the group, as a site owes it: its Data, its Ack or the
+-- site's Want
 abbrev pub is_of_messages : OwedKind → Side → Bool
 is_of_messages Ask by = false
 is_of_messages Data by = true
@@ -79,7 +82,8 @@ is_of_messages Want Home = false
 is_of_messages Install by = false
 is_of_messages Ack by = true
 
--- whether a site owes a frame of the key for a view of the group, and no longer once that view has ended
+-- whether a site owes a frame of the key for a view of the group, and no longer once that view has
+-- ended
 abbrev pub is_of_view : GroupNo → OwedKey → Bool
 is_of_view g key = group_eq key.group g && is_of_messages key.kind key.side
 

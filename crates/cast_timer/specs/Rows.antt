@@ -1,5 +1,7 @@
 -- What all domains owe: for each moment at which frames of a domain are due, their keys.
-use Rattle.std.specs.Prelude.{◌≡◌, ◌≤◌, ◌<◌, ℕ, Bool, true, false, cond, nat_le, ◌==◌, ◌&&◌, if◌then◌else◌, List, [], ◌∷◌, ◌++◌, map, Option, None, IsTrue, is_some}
+use Rattle.std.specs.Prelude.{◌≡◌, ◌≤◌, ◌<◌, ℕ, Bool, true, false, cond}
+use Rattle.std.specs.Prelude.{nat_le, ◌==◌, ◌&&◌, if◌then◌else◌, List, []}
+use Rattle.std.specs.Prelude.{◌∷◌, ◌++◌, map, Option, None, IsTrue, is_some}
 use Rattle.std.specs.List.{list_any}
 use Rattle.std.specs.Option.{option_map_or}
 use Rattle.std.specs.Ordering.{nat_cmp, ordering_then}
@@ -89,17 +91,20 @@ IsFree rows p = row_at rows p ≡ None
 
 -- Changes
 
--- the frame of one key at one moment is there or is not, as b says, and all others stay as they were
+-- the frame of one key at one moment is there or is not, as b says, and all others stay as they
+-- were
 pub record Changes (p : Moment) (k : OwedKey) (b : Bool) (old new : List Row) : Type 0 where
   pub shaped : IsShaped old → IsShaped new
-  pub held : (q : Moment) (j : OwedKey) → is_held new q j ≡ cond (moment_eq p q && key_eq k j) b (is_held old q j)
+  pub held : (q : Moment) (j : OwedKey)
+      → is_held new q j ≡ cond (moment_eq p q && key_eq k j) b (is_held old q j)
   pub rest : (q : Moment) → moment_eq p q ≡ false → row_at new q ≡ row_at old q
 
 -- and no row is left without a key
 pub record Holds (p : Moment) (k : OwedKey) (b : Bool) (old new : List Row) : Type 0 where
   pub shaped : IsShaped old → IsShaped new
   pub filled : IsFilled old → IsFilled new
-  pub held : (q : Moment) (j : OwedKey) → is_held new q j ≡ cond (moment_eq p q && key_eq k j) b (is_held old q j)
+  pub held : (q : Moment) (j : OwedKey)
+      → is_held new q j ≡ cond (moment_eq p q && key_eq k j) b (is_held old q j)
 
 -- whether a moment is one of a domain's up to `now`
 abbrev pub is_before : DomainNo → ℕ → Moment → Bool
@@ -114,7 +119,8 @@ pub record IsNext (rows : List Row) (d : DomainNo) (from upto t : ℕ) : Type 0 
   pub there : IsTrue (is_some (row_at rows (record { due = t; domain = d })))
   pub first : (s : ℕ) → from ≤ s → s < t → IsFree rows (record { due = s; domain = d })
 
--- p is the first moment of any domain that is not before one moment of a domain and not after another
+-- p is the first moment of any domain that is not before one moment of a domain and not after
+-- another
 pub record IsFirst (rows : List Row) (d : DomainNo) (from upto : ℕ) (p : Moment) : Type 0 where
   pub after : from ≤ p.due
   pub within : p.due ≤ upto

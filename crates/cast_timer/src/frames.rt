@@ -1,11 +1,13 @@
-ghost use Rattle.std.specs.Prelude.{◌≡◌, ◌<◌, ◌&&◌, None, Some, cond, true, false, IfNone, IfOk, IfSome, IsTrue, OnOk, OnErr, is_some, length};
+ghost use Rattle.std.specs.Prelude.{◌≡◌, ◌<◌, ◌&&◌, None, Some, cond, true, false, IfNone};
+ghost use Rattle.std.specs.Prelude.{IfOk, IfSome, IsTrue, OnOk, OnErr, is_some, length};
 ghost use Rattle.std.specs.Option.{option_map};
 ghost use Rattle.cast_types.specs.Rising.{is_rising};
 ghost use Rattle.cast_timer.specs.declared.key.Moment.{Moment};
 ghost use Rattle.cast_timer.specs.declared.key.OwedKey.{OwedKey};
 ghost use Rattle.cast_timer.specs.Owed.{key_cmp, key_eq, is_of_view, is_upto, due_at};
 ghost use Rattle.cast_timer.specs.Rows.{has_key, is_of, is_held, owed_in, IsShaped, IsFilled};
-ghost use Rattle.cast_timer.specs.Index.{due_of, is_due, renewed_due, renewed_dues, moved_to, IsKept, Keeps, IsMoved};
+ghost use Rattle.cast_timer.specs.Index.{due_of, is_due, renewed_due, renewed_dues};
+ghost use Rattle.cast_timer.specs.Index.{moved_to, IsKept, Keeps, IsMoved};
 
 use crate::key::{Moment, Owed, OwedKey, is_of_view, is_upto};
 use crate::moments::{Moments, add, are_more_due, drop_due, due_keys, take};
@@ -16,8 +18,8 @@ use std::collections::{BTreeMap, BTreeSet};
 /// The moment at which the frame of each key of a domain is due.
 pub(crate) type Dues = BTreeMap<OwedKey, u64>;
 
-// Up to one in so many of a domain's frames are owed for another moment one by one, and more of them all at once: a search
-// for each of a few takes less than a walk over all.
+// Up to one in so many of a domain's frames are owed for another moment one by one, and more of
+// them all at once: a search for each of a few takes less than a walk over all.
 const ONE_IN: usize = 8;
 
 /// Owes a frame of a domain whose key is not owed. `NoMemory` changes nothing.
@@ -31,7 +33,8 @@ pub(crate) fn owe_in(
     requires kept { IsKept domain moments.old.entries (due_of dues.old.entries) }
     requires fresh { due_of dues.old.entries frame.key ≡ None }
     ensures kept { Keeps domain moments.old.entries moments.new.entries (due_of dues.new.entries) }
-    ensures ok { OnOk result ((q : OwedKey) → due_of dues.new.entries q ≡ cond (key_eq frame.key q) (Some frame.due) (due_of dues.old.entries q)) }
+    ensures ok { OnOk result ((q : OwedKey) → due_of dues.new.entries q ≡ cond (key_eq frame.key q)
+        (Some frame.due) (due_of dues.old.entries q)) }
     ensures err { OnErr result (moments.new.entries ≡ moments.old.entries) }
 {
     dues.insert(frame.key, frame.due)?;
@@ -52,8 +55,10 @@ pub(crate) fn owe_in(
 pub(crate) fn pay_in(moments: &mut Moments, dues: &mut Dues, domain: DomainNo, key: &OwedKey)
     requires { IsKept domain moments.old.entries (due_of dues.old.entries) }
     ensures kept { Keeps domain moments.old.entries moments.new.entries (due_of dues.new.entries) }
-    ensures paid { (q : OwedKey) → due_of dues.new.entries q ≡ cond (key_eq key.now q) None (due_of dues.old.entries q) }
-    ensures fewer { IsTrue (is_some (due_of dues.old.entries key.now)) → length dues.new.entries < length dues.old.entries }
+    ensures paid { (q : OwedKey)
+        → due_of dues.new.entries q ≡ cond (key_eq key.now q) None (due_of dues.old.entries q) }
+    ensures fewer { IsTrue (is_some (due_of dues.old.entries key.now))
+        → length dues.new.entries < length dues.old.entries }
 {
     if let Some(due) = dues.remove(key) {
         take(moments, &Moment { due, domain }, key);
@@ -64,18 +69,21 @@ pub(crate) fn pay_in(moments: &mut Moments, dues: &mut Dues, domain: DomainNo, k
 pub(crate) fn pay_upto_in(moments: &mut Moments, dues: &mut Dues, domain: DomainNo, key: &OwedKey)
     requires { IsKept domain moments.old.entries (due_of dues.old.entries) }
     ensures kept { Keeps domain moments.old.entries moments.new.entries (due_of dues.new.entries) }
-    ensures paid { (q : OwedKey) → due_of dues.new.entries q ≡ cond (is_upto key.now q) None (due_of dues.old.entries q) }
+    ensures paid { (q : OwedKey)
+        → due_of dues.new.entries q ≡ cond (is_upto key.now q) None (due_of dues.old.entries q) }
 {
     while let Some(due) = upto(dues, key) {
         pay_in(moments, dues, domain, &due);
     }
 }
 
-// A key whose frame is owed, and that differs from this one at most in a lower count. It looks at the keys between the
-// lowest such and this one alone.
+// A key whose frame is owed, and that differs from this one at most in a lower count. It looks at
+// the keys between the lowest such and this one alone.
 fn upto(dues: &Dues, key: &OwedKey) -> Option<OwedKey>
-    ensures some { IfSome result (λ k. IsTrue (is_upto key.now k) × IsTrue (is_some (due_of dues.now.entries k))) }
-    ensures none { IfNone result ((q : OwedKey) → is_upto key.now q ≡ true → due_of dues.now.entries q ≡ None) }
+    ensures some { IfSome result
+        (λ k. IsTrue (is_upto key.now k) × IsTrue (is_some (due_of dues.now.entries k))) }
+    ensures none { IfNone result
+        ((q : OwedKey) → is_upto key.now q ≡ true → due_of dues.now.entries q ≡ None) }
 {
     let lowest = OwedKey { count: 0, ..*key };
     for (owed, _) in dues.range(lowest..=*key) {
@@ -90,7 +98,8 @@ fn upto(dues: &Dues, key: &OwedKey) -> Option<OwedKey>
 pub(crate) fn pay_view_in(moments: &mut Moments, dues: &mut Dues, domain: DomainNo, group: GroupNo)
     requires { IsKept domain moments.old.entries (due_of dues.old.entries) }
     ensures kept { Keeps domain moments.old.entries moments.new.entries (due_of dues.new.entries) }
-    ensures paid { (q : OwedKey) → due_of dues.new.entries q ≡ cond (is_of_view group q) None (due_of dues.old.entries q) }
+    ensures paid { (q : OwedKey)
+        → due_of dues.new.entries q ≡ cond (is_of_view group q) None (due_of dues.old.entries q) }
 {
     take_view(moments, dues, domain, group);
     dues.retain(|key, _| !is_of_view(group, key));
@@ -112,7 +121,8 @@ fn take_view(moments: &mut Moments, dues: &Dues, domain: DomainNo, group: GroupN
     requires { IsKept domain moments.old.entries (due_of dues.now.entries) }
     ensures shaped { IsShaped moments.new.entries }
     ensures filled { IsFilled moments.new.entries }
-    ensures taken { (p : Moment) (k : OwedKey) → is_held moments.new.entries p k ≡ cond (is_of domain p && is_of_view group k) false (is_held moments.old.entries p k) }
+    ensures taken { (p : Moment) (k : OwedKey) → is_held moments.new.entries p k
+        ≡ cond (is_of domain p && is_of_view group k) false (is_held moments.old.entries p k) }
 {
     for (key, due) in dues {
         if is_of_view(group, key) {
@@ -121,8 +131,8 @@ fn take_view(moments: &mut Moments, dues: &Dues, domain: DomainNo, group: GroupN
     }
 }
 
-/// Owes all frames of a domain that are due at the moment `now` for the moment `due`, and for no other. `NoMemory`: some of
-/// them may be owed so.
+/// Owes all frames of a domain that are due at the moment `now` for the moment `due`, and for no
+/// other. `NoMemory`: some of them may be owed so.
 pub(crate) fn renew_due_in(
     moments: &mut Moments,
     dues: &mut Dues,
@@ -133,7 +143,8 @@ pub(crate) fn renew_due_in(
 ) -> Result<(), NoMemory>
     requires { IsKept domain moments.old.entries (due_of dues.old.entries) }
     ensures kept { Keeps domain moments.old.entries moments.new.entries (due_of dues.new.entries) }
-    ensures ok { OnOk result ((q : OwedKey) → due_of dues.new.entries q ≡ option_map (renewed_due now due) (due_of dues.old.entries q)) }
+    ensures ok { OnOk result ((q : OwedKey) → due_of dues.new.entries q
+        ≡ option_map (renewed_due now due) (due_of dues.old.entries q)) }
 {
     if now < due && are_more_due(moments, domain, now, dues.len() / ONE_IN) {
         renew_at_once(moments, dues, alloc, domain, now, due)
@@ -143,7 +154,8 @@ pub(crate) fn renew_due_in(
     }
 }
 
-// Owes the frames of keys for a moment, and for no other, one after the other. `NoMemory`: some of them may be owed so.
+// Owes the frames of keys for a moment, and for no other, one after the other. `NoMemory`: some of
+// them may be owed so.
 fn renew_each(
     moments: &mut Moments,
     dues: &mut Dues,
@@ -154,7 +166,8 @@ fn renew_each(
 ) -> Result<(), NoMemory>
     requires { IsKept domain moments.old.entries (due_of dues.old.entries) }
     ensures kept { Keeps domain moments.old.entries moments.new.entries (due_of dues.new.entries) }
-    ensures ok { OnOk result ((q : OwedKey) → due_of dues.new.entries q ≡ moved_to due (has_key q keys.now) (due_of dues.old.entries q)) }
+    ensures ok { OnOk result ((q : OwedKey) → due_of dues.new.entries q
+        ≡ moved_to due (has_key q keys.now) (due_of dues.old.entries q)) }
 {
     for key in keys {
         renew(moments, dues, alloc, domain, Owed { due, key: *key })?;
@@ -172,7 +185,8 @@ fn renew(
 ) -> Result<(), NoMemory>
     requires { IsKept domain moments.old.entries (due_of dues.old.entries) }
     ensures kept { Keeps domain moments.old.entries moments.new.entries (due_of dues.new.entries) }
-    ensures ok { OnOk result ((q : OwedKey) → due_of dues.new.entries q ≡ moved_to frame.due (key_eq frame.key q) (due_of dues.old.entries q)) }
+    ensures ok { OnOk result ((q : OwedKey) → due_of dues.new.entries q
+        ≡ moved_to frame.due (key_eq frame.key q) (due_of dues.old.entries q)) }
 {
     match dues.get_mut(&frame.key) {
         Some(due) => {
@@ -194,7 +208,8 @@ fn move_to(
     domain: DomainNo,
     frame: Owed,
 ) -> Result<(), NoMemory>
-    ensures moved { OnOk result (IsMoved domain frame.key due.old frame.due moments.old.entries moments.new.entries) }
+    ensures moved { OnOk result
+        (IsMoved domain frame.key due.old frame.due moments.old.entries moments.new.entries) }
     ensures ok { OnOk result (due.new ≡ frame.due) }
     ensures err { OnErr result (moments.new.entries ≡ moments.old.entries) }
     ensures due_stays { OnErr result (due.new ≡ due.old) }
@@ -209,7 +224,8 @@ fn move_to(
     Ok(())
 }
 
-// Owes all frames of a domain that are due at the moment `now` for the moment `due`, without a search for each.
+// Owes all frames of a domain that are due at the moment `now` for the moment `due`, without a
+// search for each.
 fn renew_at_once(
     moments: &mut Moments,
     dues: &mut Dues,
@@ -222,7 +238,8 @@ fn renew_at_once(
     requires some { 0 < length (due_at now (owed_in moments.old.entries domain)) }
     requires later { now < due }
     ensures kept { Keeps domain moments.old.entries moments.new.entries (due_of dues.new.entries) }
-    ensures ok { OnOk result ((q : OwedKey) → due_of dues.new.entries q ≡ option_map (renewed_due now due) (due_of dues.old.entries q)) }
+    ensures ok { OnOk result ((q : OwedKey) → due_of dues.new.entries q
+        ≡ option_map (renewed_due now due) (due_of dues.old.entries q)) }
 {
     let keys = renewed_keys(dues, alloc, now, due)?;
     moments.insert(Moment { due, domain }, keys)?;
@@ -231,7 +248,8 @@ fn renew_at_once(
     Ok(())
 }
 
-// The keys that are due at the moment `due`, once all that are due at the moment `now` are owed for it.
+// The keys that are due at the moment `due`, once all that are due at the moment `now` are owed for
+// it.
 fn renewed_keys(
     dues: &Dues,
     alloc: Global,
@@ -239,7 +257,8 @@ fn renewed_keys(
     due: u64,
 ) -> Result<BTreeSet<OwedKey>, NoMemory>
     ensures rising { IfOk result (λ keys. IsTrue (is_rising key_cmp keys.keys)) }
-    ensures keys { IfOk result (λ keys. (q : OwedKey) → has_key q keys.keys ≡ is_due due (option_map (renewed_due now due) (due_of dues.now.entries q))) }
+    ensures keys { IfOk result (λ keys. (q : OwedKey) → has_key q keys.keys
+        ≡ is_due due (option_map (renewed_due now due) (due_of dues.now.entries q))) }
 {
     dues.iter()
         .filter(|(_, at)| renewed_due(**at, now, due) == due)
@@ -247,7 +266,8 @@ fn renewed_keys(
         .collect(alloc)
 }
 
-// Owes all frames of a map of moments that are due at the moment `now` for the moment `due`, in one walk that keeps each.
+// Owes all frames of a map of moments that are due at the moment `now` for the moment `due`, in one
+// walk that keeps each.
 fn renew_dues(dues: &mut Dues, now: u64, due: u64)
     ensures { dues.new.entries ≡ renewed_dues now due dues.old.entries }
 {

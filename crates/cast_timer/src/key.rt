@@ -27,7 +27,8 @@ pub enum Side {
     Home,
 }
 
-/// Which frame is owed. Two keys are ordered by their parts from first to last; a part that a kind lacks is 0.
+/// Which frame is owed. Two keys are ordered by their parts from first to last; a part that a kind
+/// lacks is 0.
 #[derive(Clone, Copy, Debug, PartialEq, Eq, PartialOrd, Ord)]
 pub struct OwedKey {
     pub kind: OwedKind,
@@ -67,7 +68,8 @@ pub(crate) fn is_upto(key: &OwedKey, other: &OwedKey) -> bool
     raised == *key && other.count <= key.count
 }
 
-// Whether a site owes a frame of the key for a view of the group, and no longer once that view has ended.
+// Whether a site owes a frame of the key for a view of the group, and no longer once that view has
+// ended.
 pub(crate) fn is_of_view(group: GroupNo, key: &OwedKey) -> bool
     ensures { result ≡ is_of_view group key.now }
 {
@@ -85,7 +87,8 @@ fn is_of_messages(kind: OwedKind, side: Side) -> bool
     }
 }
 
-/// A frame that is owed. Frames are ordered by the moment at which they are due, and at one moment by key.
+/// A frame that is owed. Frames are ordered by the moment at which they are due, and at one moment
+/// by key.
 #[derive(Clone, Copy, Debug, PartialEq, Eq, PartialOrd, Ord)]
 pub struct Owed {
     /// The moment at which it is due to be sent again, in milliseconds.
@@ -94,7 +97,8 @@ pub struct Owed {
     pub key: OwedKey,
 }
 
-/// A moment at which frames of a domain are due. Moments are ordered by time, and at one time by domain.
+/// A moment at which frames of a domain are due. Moments are ordered by time, and at one time by
+/// domain.
 #[derive(Clone, Copy, PartialEq, Eq, PartialOrd, Ord)]
 pub(crate) struct Moment {
     /// In milliseconds.

@@ -1,8 +1,10 @@
-ghost use Rattle.std.specs.Prelude.{◌≡◌, ◌≢◌, [], None, false, IfOk, IfSome, IsTrue, OnOk, OnErr, is_some};
+ghost use Rattle.std.specs.Prelude.{◌≡◌, ◌≢◌, [], None, false, IfOk};
+ghost use Rattle.std.specs.Prelude.{IfSome, IsTrue, OnOk, OnErr, is_some};
 ghost use Rattle.cast_types.specs.declared.names.DomainNo.{DomainNo};
 ghost use Rattle.cast_types.specs.Rising.{is_rising};
 ghost use Rattle.cast_timer.specs.declared.key.OwedKey.{OwedKey};
-ghost use Rattle.cast_timer.specs.Owed.{owed_cmp, key_eq, with_owed, is_owed, paid, is_of_view, is_upto, due_frames, due_at, all_renewed};
+ghost use Rattle.cast_timer.specs.Owed.{owed_cmp, key_eq, with_owed, is_owed, paid};
+ghost use Rattle.cast_timer.specs.Owed.{is_of_view, is_upto, due_frames, due_at, all_renewed};
 ghost use Rattle.cast_timer.specs.Rows.{owed_in};
 ghost use Rattle.cast_timer.specs.Index.{due_in, table_of};
 
@@ -14,8 +16,8 @@ use std::alloc::Global;
 use std::collections::BTreeMap;
 use std::marker::Model;
 
-/// The frames that all domains owe. Contracts say `owed_in` of it and a domain: the list of what that domain owes, in
-/// order of due moments and then of keys.
+/// The frames that all domains owe. Contracts say `owed_in` of it and a domain: the list of what
+/// that domain owes, in order of due moments and then of keys.
 #[derive(Drop)]
 pub struct Timers {
     alloc: Global,
@@ -60,11 +62,12 @@ impl Timers {
         }
     }
 
-    /// Owes the domain's frame of a key that is not owed, to be sent again at the moment `due`, in milliseconds.
-    /// `NoMemory` changes nothing.
+    /// Owes the domain's frame of a key that is not owed, to be sent again at the moment `due`, in
+    /// milliseconds. `NoMemory` changes nothing.
     pub fn owe(&mut self, domain: DomainNo, key: OwedKey, due: u64) -> Result<(), NoMemory>
         requires { is_owed (owed_in self.old domain) key ≡ false }
-        ensures own { OnOk result (owed_in self.new domain ≡ with_owed (owed_in self.old domain) key due) }
+        ensures own { OnOk result
+            (owed_in self.new domain ≡ with_owed (owed_in self.old domain) key due) }
         ensures err { OnErr result (self.new ≡ self.old) }
         ensures others { (e : DomainNo) → e ≢ domain → owed_in self.new e ≡ owed_in self.old e }
     {
@@ -76,7 +79,8 @@ impl Timers {
         }
     }
 
-    /// Owes the domain's frame of a key no more, for whichever moments it was owed. Takes no memory.
+    /// Owes the domain's frame of a key no more, for whichever moments it was owed. Takes no
+    /// memory.
     pub fn pay(&mut self, domain: DomainNo, key: &OwedKey)
         ensures own { owed_in self.new domain ≡ paid (key_eq key.now) (owed_in self.old domain) }
         ensures others { (e : DomainNo) → e ≢ domain → owed_in self.new e ≡ owed_in self.old e }
@@ -86,8 +90,8 @@ impl Timers {
         }
     }
 
-    /// Owes no more the domain's frames of this key and of all keys that differ from it only in a lower count. Takes no
-    /// memory.
+    /// Owes no more the domain's frames of this key and of all keys that differ from it only in a
+    /// lower count. Takes no memory.
     pub fn pay_upto(&mut self, domain: DomainNo, key: &OwedKey)
         ensures own { owed_in self.new domain ≡ paid (is_upto key.now) (owed_in self.old domain) }
         ensures others { (e : DomainNo) → e ≢ domain → owed_in self.new e ≡ owed_in self.old e }
@@ -97,8 +101,8 @@ impl Timers {
         }
     }
 
-    /// Owes no more what the domain's site owes for a view of the group, which has ended: Data, Acks, and the site's own
-    /// Wants. Takes no memory.
+    /// Owes no more what the domain's site owes for a view of the group, which has ended: Data,
+    /// Acks, and the site's own Wants. Takes no memory.
     pub fn pay_view(&mut self, domain: DomainNo, group: GroupNo)
         ensures own { owed_in self.new domain ≡ paid (is_of_view group) (owed_in self.old domain) }
         ensures others { (e : DomainNo) → e ≢ domain → owed_in self.new e ≡ owed_in self.old e }
@@ -108,10 +112,11 @@ impl Timers {
         }
     }
 
-    /// Owes all of the domain's frames that are due at the moment `now` for the moment `due`, both in milliseconds, and for
-    /// no other moment any more. `NoMemory`: some of them may be owed so.
+    /// Owes all of the domain's frames that are due at the moment `now` for the moment `due`, both
+    /// in milliseconds, and for no other moment any more. `NoMemory`: some of them may be owed so.
     pub fn renew_due(&mut self, domain: DomainNo, now: u64, due: u64) -> Result<(), NoMemory>
-        ensures own { OnOk result (owed_in self.new domain ≡ all_renewed now due (owed_in self.old domain)) }
+        ensures own { OnOk result
+            (owed_in self.new domain ≡ all_renewed now due (owed_in self.old domain)) }
         ensures others { (e : DomainNo) → e ≢ domain → owed_in self.new e ≡ owed_in self.old e }
     {
         match self.dues.get_mut(&domain) {
@@ -130,9 +135,9 @@ impl Timers {
         }
     }
 
-    /// The keys of the domain's frames that are due at the moment `now`, in milliseconds: those of that moment and of
-    /// earlier ones, in order of their moments and then of their keys. They stay owed. `NoMemory`: the list was refused
-    /// memory.
+    /// The keys of the domain's frames that are due at the moment `now`, in milliseconds: those of
+    /// that moment and of earlier ones, in order of their moments and then of their keys. They stay
+    /// owed. `NoMemory`: the list was refused memory.
     pub fn due(&self, domain: DomainNo, now: u64) -> Result<Vec<OwedKey>, NoMemory>
         ensures value { IfOk result (λ keys. keys.items ≡ due_at now (owed_in self.now domain)) }
         ensures rising { IsTrue (is_rising owed_cmp (due_frames now (owed_in self.now domain))) }
@@ -158,7 +163,8 @@ fn open(
     domain: DomainNo,
 ) -> Result<(), NoMemory>
     ensures ok { OnOk result (IsTrue (is_some (table_of tables.new.entries domain))) }
-    ensures same { (d : DomainNo) (key : OwedKey) → due_in tables.new.entries d key ≡ due_in tables.old.entries d key }
+    ensures same { (d : DomainNo) (key : OwedKey)
+        → due_in tables.new.entries d key ≡ due_in tables.old.entries d key }
 {
     if !tables.contains_key(&domain) {
         tables.insert(domain, BTreeMap::new(alloc))?;

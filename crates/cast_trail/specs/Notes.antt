@@ -5,7 +5,8 @@ use Rattle.cast_events.specs.declared.event.Taken.TheVariants as taken
 use Rattle.cast_events.specs.declared.log.Fault.{Fault}
 use Rattle.cast_events.specs.declared.log.Fault.TheVariants as fault
 use Rattle.cast_events.specs.declared.entry.Noted.{Noted}
-use Rattle.cast_events.specs.declared.entry.Noted.TheVariants.{Nothing, Opened, Refused, Entries, Halted}
+use Rattle.cast_events.specs.declared.entry.Noted.TheVariants.{Nothing, Opened, Refused}
+use Rattle.cast_events.specs.declared.entry.Noted.TheVariants.{Entries, Halted}
 
 -- an answer as a trace keeps it: of entries their number
 abbrev pub noted_taken : Taken → Noted

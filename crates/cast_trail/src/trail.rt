@@ -1,4 +1,5 @@
-ghost use Rattle.std.specs.Prelude.{◌≡◌, ◌+◌, ◌<◌, ◌≤◌, ◌^◌, [], ◌∷◌, ◌++◌, IfOk, length, nat_le, vec_len};
+ghost use Rattle.std.specs.Prelude.{◌≡◌, ◌+◌, ◌<◌, ◌≤◌, ◌^◌, [], ◌∷◌};
+ghost use Rattle.std.specs.Prelude.{◌++◌, IfOk, length, nat_le, vec_len};
 ghost use Rattle.std.specs.Vec.{vec_capacity};
 ghost use Rattle.cast_trail.specs.Notes.{noted_of};
 ghost use Rattle.cast_trail.specs.Room.{HasPlace, IsInTime, base_then, count_then, items_then};
@@ -19,7 +20,8 @@ pub struct Trail<T> {
     pub count: u64,
 }
 
-/// Room for one more entry: for the domains that its event halts, and, where the trace is trimmed before it, the table as it is.
+/// Room for one more entry: for the domains that its event halts, and, where the trace is trimmed
+/// before it, the table as it is.
 #[derive(Drop)]
 pub struct Room<T> {
     pub base: Option<T>,
@@ -40,8 +42,8 @@ pub fn note_of(answer: &Result<Taken, Fault>) -> Option<Noted>
     }
 }
 
-/// The halted domains, in the room that there is for them. Takes no memory. Where there are none, the room is given back: a trace has many
-/// entries.
+/// The halted domains, in the room that there is for them. Takes no memory. Where there are none,
+/// the room is given back: a trace has many entries.
 pub fn fill(room: Vec<DomainNo>, halted: &[DomainNo]) -> List<DomainNo>
     requires empty { room.items ≡ [] }
     requires room { length halted.now ≤ vec_capacity room }
@@ -63,14 +65,17 @@ impl<T: Drop> Trail<T> {
         self.entries.len() >= MAX_TRACE
     }
 
-    /// Makes room for one more entry, whose event halts at most so many domains. The base is for a trim before it, where that is due.
-    /// `NoMemory` changes nothing that is seen.
+    /// Makes room for one more entry, whose event halts at most so many domains. The base is for a
+    /// trim before it, where that is due. `NoMemory` changes nothing that is seen.
     pub fn room(&mut self, alloc: Global, base: Option<T>, most: usize) -> Result<Room<T>, NoMemory>
         requires { IsInTime base self.old }
         ensures base { IfOk result (λ room. room.base ≡ base) }
         ensures place { IfOk result (λ room. HasPlace room.base self.new) }
-        ensures halted { IfOk result (λ room. (room.halted.items ≡ []) × (most ≤ vec_capacity room.halted)) }
-        ensures same { (self.new.base ≡ self.old.base) × (self.new.entries.items ≡ self.old.entries.items) × (self.new.count ≡ self.old.count) }
+        ensures halted { IfOk result
+            (λ room. (room.halted.items ≡ []) × (most ≤ vec_capacity room.halted)) }
+        ensures same { (self.new.base ≡ self.old.base)
+            × (self.new.entries.items ≡ self.old.entries.items)
+            × (self.new.count ≡ self.old.count) }
     {
         let halted = Vec::with_capacity(alloc, most)?;
         if base.is_none() {
@@ -79,13 +84,16 @@ impl<T: Drop> Trail<T> {
         Ok(Room { base, halted })
     }
 
-    /// Adds an entry, after the trace was trimmed where there is another base for it. Takes no memory.
+    /// Adds an entry, after the trace was trimmed where there is another base for it. Takes no
+    /// memory.
     pub fn add(&mut self, base: Option<T>, entry: Entry)
         requires room { HasPlace base self.old }
         requires few { self.old.count + length self.old.entries.items < 2 ^ 64 }
         ensures base { self.new.base ≡ base_then base self.old.base }
-        ensures items { self.new.entries.items ≡ items_then base self.old.entries.items ++ entry ∷ [] }
-        ensures count { self.new.count ≡ count_then base self.old.count (length self.old.entries.items) }
+        ensures items { self.new.entries.items
+            ≡ items_then base self.old.entries.items ++ entry ∷ [] }
+        ensures count { self.new.count
+            ≡ count_then base self.old.count (length self.old.entries.items) }
     {
         self.rebase(base);
         self.entries.push_reserved(entry);
@@ -97,7 +105,8 @@ impl<T: Drop> Trail<T> {
         requires few { self.old.count + length self.old.entries.items < 2 ^ 64 }
         ensures base { self.new.base ≡ base_then base self.old.base }
         ensures items { self.new.entries.items ≡ items_then base self.old.entries.items }
-        ensures count { self.new.count ≡ count_then base self.old.count (length self.old.entries.items) }
+        ensures count { self.new.count
+            ≡ count_then base self.old.count (length self.old.entries.items) }
         ensures room { vec_len self.new.entries < vec_capacity self.new.entries }
     {
         match base {

@@ -1,4 +1,5 @@
-//! How fast frames between sites are decoded and encoded. `bench/run` calls it beside a plain program.
+//! How fast frames between sites are decoded and encoded. `bench/run` calls it beside a plain
+//! program.
 
 use anyhow::Result;
 use cast_frame::{FrameFault, decode_site, encode_site};
@@ -70,8 +71,8 @@ fn encode_often<R: Clock + Print + AllocGlobal>(
     print(rt, "encode", start, sum)
 }
 
-/// Reads the bytes of one frame from a file, decodes them and encodes the frame that they are, each so many times, and
-/// prints the nanoseconds that each took in all.
+/// Reads the bytes of one frame from a file, decodes them and encodes the frame that they are, each
+/// so many times, and prints the nanoseconds that each took in all.
 pub fn measure<R: Clock + Files + Print + AllocGlobal>(
     rt: &R,
     file: &str,

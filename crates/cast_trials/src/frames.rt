@@ -1,8 +1,8 @@
-//! Frames and scripts that were spelled by hand, a line each: whether a frame is written as it was read, or why it is none, and why
-//! a text is no script.
+//! Frames and scripts that were spelled by hand, a line each: whether a frame is written as it was
+//! read, or why it is none, and why a text is no script.
 //!
-//! A line is `site HEX`, `client HEX` or `script TEXT`, where `|` stands for a line feed; empty lines and lines that begin with `#` are
-//! passed over.
+//! A line is `site HEX`, `client HEX` or `script TEXT`, where `|` stands for a line feed; empty
+//! lines and lines that begin with `#` are passed over.
 
 use cast_client::{ClientRead, decode_client, encode_client, encode_push, encode_request};
 use cast_frame::{FrameFault, decode_site, encode_site};
@@ -12,7 +12,8 @@ use cast_types::{DomainNo, SiteNo};
 use std::alloc::{AllocError, Global};
 use std::io;
 
-// What becomes of the bytes of a frame between sites: its domain and its sender, and whether a copy is written so again.
+// What becomes of the bytes of a frame between sites: its domain and its sender, and whether a copy
+// is written so again.
 fn site_text(alloc: Global, bytes: &[u8]) -> Result<String, AllocError> {
     let (domain, site, frame) = match decode_site(alloc, bytes) {
         Ok(read) => read,
@@ -65,8 +66,8 @@ fn is_held(alloc: Global, frame: &ClientFrame, bytes: &[u8]) -> Result<bool, All
     Ok(held.as_slice() == bytes)
 }
 
-// What stands at the front of the bytes of a stream: how many bytes the frame has, and whether it is written so again, or
-// how many are wanting.
+// What stands at the front of the bytes of a stream: how many bytes the frame has, and whether it
+// is written so again, or how many are wanting.
 fn client_text(alloc: Global, bytes: &[u8]) -> Result<String, AllocError> {
     match decode_client(alloc, bytes) {
         Ok(ClientRead::Frame(frame, len)) => {

@@ -1,4 +1,5 @@
-//! How long the steps of a script take by themselves, without what it takes to read it and to print their log.
+//! How long the steps of a script take by themselves, without what it takes to read it and to print
+//! their log.
 
 use anyhow::{Result, bail};
 use cast_events::{Event, Outs};
@@ -38,7 +39,8 @@ pub fn count<R: Files + Print + AllocGlobal>(rt: &R, file: &str) -> Result<()> {
     Ok(())
 }
 
-/// Applies the events of a script in a file, and prints the nanoseconds that this took in all, and how many frames were sent.
+/// Applies the events of a script in a file, and prints the nanoseconds that this took in all, and
+/// how many frames were sent.
 pub fn measure<R: Clock + Files + Print + AllocGlobal>(rt: &R, file: &str) -> Result<()> {
     let script = script_in(rt, file)?;
     let mut table = Table::new(rt.alloc(), &script.config)?;

@@ -19,11 +19,13 @@ pub passes : (b : Bool) → b ≡ true → T b
 passes true h = tt
 passes false h = absurd (false≢true h)
 
-pub sorted-put : {K V : Type 0} (R : K → K → Ordering) → IsTotalOrder R → (k : K) (v : V) (es : List (K × V)) → is_sorted R es ≡ true → is_sorted R (put R k v es) ≡ true
+pub sorted-put : {K V : Type 0} (R : K → K → Ordering) → IsTotalOrder R → (k : K) (v : V) (es : List (K × V)) → is_sorted R es ≡ true →
+    is_sorted R (put R k v es) ≡ true
 sorted-put R total k v es h = true_of (is_sorted R (put R k v es)) (is_sorted-put R total k v es (passes (is_sorted R es) h))
 
 -- a test that holds of each entry, and of the new one at each key, holds of each after the put
-pub all-put : {K V : Type 0} (R : K → K → Ordering) (test : K × V → Bool) (k : K) (v : V) (es : List (K × V)) → ((j : K) → test (j, v) ≡ true) → list_all test es ≡ true → list_all test (put R k v es) ≡ true
+pub all-put : {K V : Type 0} (R : K → K → Ordering) (test : K × V → Bool) (k : K) (v : V) (es : List (K × V)) →
+    ((j : K) → test (j, v) ≡ true) → list_all test es ≡ true → list_all test (put R k v es) ≡ true
 all-put R test k v [] new all = and_from (test (k, v)) true (new k) refl
 all-put R test k v (e ∷ es) new all =
     let parts = and_parts (test e) (list_all test es) all in
@@ -34,18 +36,22 @@ all-put R test k v (e ∷ es) new all =
     ]
 
 -- the parts of the test
-pub counts_parts : (c : List Entry) → is_counts c ≡ true → (is_sorted proc_cmp c ≡ true) × (length c ≤ 64) × (list_all (λ e. nat_lt 0 e.1) c ≡ true)
+pub counts_parts : (c : List Entry) → is_counts c ≡ true →
+    (is_sorted proc_cmp c ≡ true) × (length c ≤ 64) × (list_all (λ e. nat_lt 0 e.1) c ≡ true)
 counts_parts c h =
     let first = and_parts (is_sorted proc_cmp c) (nat_le (length c) 64 && list_all (λ e. nat_lt 0 e.1) c) h in
     let second = and_parts (nat_le (length c) 64) (list_all (λ e. nat_lt 0 e.1) c) first.1 in
     (first.0, leb-true (length c) 64 second.0, second.1)
 
-pub counts_from : (c : List Entry) → is_sorted proc_cmp c ≡ true → length c ≤ 64 → list_all (λ e. nat_lt 0 e.1) c ≡ true → is_counts c ≡ true
+pub counts_from : (c : List Entry) → is_sorted proc_cmp c ≡ true → length c ≤ 64 → list_all (λ e. nat_lt 0 e.1) c ≡ true →
+    is_counts c ≡ true
 counts_from c sorted few positive =
     and_from (is_sorted proc_cmp c) (nat_le (length c) 64 && list_all (λ e. nat_lt 0 e.1) c) sorted
     (and_from (nat_le (length c) 64) (list_all (λ e. nat_lt 0 e.1) c) (le-leb (length c) 64 few) positive)
 
-pub counts-put : (c : List Entry) (p : Proc) (n : ℕ) → is_counts c ≡ true → 0 < n → length (put proc_cmp p n c) ≤ 64 → is_counts (put proc_cmp p n c) ≡ true
+pub counts-put : (c : List Entry) (p : Proc) (n : ℕ) → is_counts c ≡ true → 0 < n → length (put proc_cmp p n c) ≤ 64 →
+    is_counts (put proc_cmp p n c) ≡ true
 counts-put c p n is positive room =
     let parts = counts_parts c is in
-    counts_from (put proc_cmp p n c) (sorted-put proc_cmp proc_total p n c parts.0) room (all-put proc_cmp (λ e. nat_lt 0 e.1) p n c (λ _. lt-ltb 0 n positive) parts.2)
+    counts_from (put proc_cmp p n c) (sorted-put proc_cmp proc_total p n c parts.0)
+    room (all-put proc_cmp (λ e. nat_lt 0 e.1) p n c (λ _. lt-ltb 0 n positive) parts.2)

@@ -22,7 +22,8 @@ module _ {W A : Type 0} (Fits : W → A → Type 0) (pass : A → A) where
   led_on w v x led step = (suc led.0, subst (Fits v) (sym (iterate_once led.0 pass x)) (step (iterate led.0 pass x) led.1))
 
   -- a turn that changes nothing is the end
-  pub led_rests : (w v : W) (x : A) → Led Fits pass w x → ((y : A) → Fits w y → Fits v (pass y)) → ((y : A) → Fits w y → pass y ≡ y) → (y : A) × ComesToRest pass x y × Fits v y
+  pub led_rests : (w v : W) (x : A) → Led Fits pass w x → ((y : A) → Fits w y → Fits v (pass y)) → ((y : A) → Fits w y → pass y ≡ y) →
+      (y : A) × ComesToRest pass x y × Fits v y
   led_rests w v x led step still =
       let y : A = iterate led.0 pass x in
       let same : pass y ≡ y = still y led.1 in

@@ -10,7 +10,8 @@ use Rattle.cast_types.specs.declared.names.SiteNo.{SiteNo}
 use Rattle.cast_types.specs.declared.names.GroupNo.{GroupNo}
 use Rattle.cast_types.specs.declared.names.Proc.{Proc}
 use Rattle.cast_types.specs.declared.names.Uid.{Uid}
-use Rattle.cast_types.specs.Names.{Entry, domain_cmp, site_cmp, group_cmp, proc_cmp, entry_cmp, uid_cmp, site_eq, group_eq, proc_eq, entry_eq, uid_eq}
+use Rattle.cast_types.specs.Names.{Entry, domain_cmp, site_cmp, group_cmp, proc_cmp, entry_cmp}
+use Rattle.cast_types.specs.Names.{uid_cmp, site_eq, group_eq, proc_eq, entry_eq, uid_eq}
 
 pub domain_total : IsTotalOrder domain_cmp
 domain_total = on_total (λ d. d.0) nat_cmp_total
@@ -34,7 +35,9 @@ pub group_exact : CmpEqualImpliesEq group_cmp
 group_exact a b h = ap (λ (n : ℕ). record { 0 = n }) (exact_unsigned a.0 b.0 h)
 
 pub proc_exact : CmpEqualImpliesEq proc_cmp
-proc_exact a b h = ap (λ (n : ℕ × ℕ). record { site = record { 0 = n.0 }; serial = n.1 }) (exact_pairs nat_cmp nat_cmp exact_unsigned exact_unsigned (a.site.0, a.serial) (b.site.0, b.serial) h)
+proc_exact a b h =
+    ap (λ (n : ℕ × ℕ). record { site = record { 0 = n.0 }; serial = n.1 })
+    (exact_pairs nat_cmp nat_cmp exact_unsigned exact_unsigned (a.site.0, a.serial) (b.site.0, b.serial) h)
 
 pub entry_total : IsTotalOrder entry_cmp
 entry_total = then_total (on_total (λ e. e.0) proc_total) (on_total (λ e. e.1) nat_cmp_total)
@@ -43,12 +46,15 @@ pub entry_exact : CmpEqualImpliesEq entry_cmp
 entry_exact a b h = exact_pairs proc_cmp nat_cmp proc_exact exact_unsigned a b h
 
 pub uid_total : IsTotalOrder uid_cmp
-uid_total = then_total (on_total (λ u. u.group) group_total) (then_total (on_total (λ u. u.view) nat_cmp_total) (on_total (λ u. (u.proc, u.count)) entry_total))
+uid_total =
+    then_total (on_total (λ u. u.group) group_total)
+    (then_total (on_total (λ u. u.view) nat_cmp_total) (on_total (λ u. (u.proc, u.count)) entry_total))
 
 pub uid_exact : CmpEqualImpliesEq uid_cmp
 uid_exact a b h =
     ap (λ (n : GroupNo × (ℕ × Entry)). record { group = n.0; view = n.1.0; proc = n.1.1.0; count = n.1.1.1 })
-    (exact_pairs group_cmp (λ x y. ordering_then (nat_cmp x.0 y.0) (entry_cmp x.1 y.1)) group_exact (exact_pairs nat_cmp entry_cmp exact_unsigned entry_exact)
+    (exact_pairs group_cmp (λ x y. ordering_then (nat_cmp x.0 y.0) (entry_cmp x.1 y.1))
+    group_exact (exact_pairs nat_cmp entry_cmp exact_unsigned entry_exact)
     (a.group, (a.view, (a.proc, a.count))) (b.group, (b.view, (b.proc, b.count))) h)
 
 -- names that test equal are one
@@ -109,11 +115,18 @@ module _ {K : Type 0} {R : K → K → Ordering} where
 
   pub tie_same : CmpEqualImpliesEq R → (x y : K) → eq_by_cmp R x y ≡ true → x ≡ y
   tie_same exact x y h =
-      elim (R x y) as (λ r. R x y ≡ r → is_eq r ≡ true → x ≡ y) [ Less ↦ λ _ e. absurd (false≢true e) | Equal ↦ λ p _. exact x y p | Greater ↦ λ _ e. absurd (false≢true e) ] refl h
+      elim (R x y) as (λ r. R x y ≡ r → is_eq r ≡ true → x ≡ y) [
+        | Less ↦ λ _ e. absurd (false≢true e)
+        | Equal ↦ λ p _. exact x y p
+        | Greater ↦ λ _ e. absurd (false≢true e)
+      ] refl h
 
   pub tie_other : CmpEqualImpliesEq R → (x y : K) → (x ≡ y → ⊥) → eq_by_cmp R x y ≡ false
   tie_other exact x y differ = false_from_ne_true (eq_by_cmp R x y) (λ e. differ (tie_same exact x y e))
 
 -- groups are one or differ
 pub group_cases : (g h : GroupNo) → (g ≡ h) ⊎ (g ≡ h → ⊥)
-group_cases g h = elim (cases_Bool (eq_by_cmp group_cmp g h)) [ inl same ↦ inl (tie_same group_exact g h same) | inr other ↦ inr (λ e. false≢true (sym other ∙ tie_self group_total g h e)) ]
+group_cases g h = elim (cases_Bool (eq_by_cmp group_cmp g h)) [
+  | inl same ↦ inl (tie_same group_exact g h same)
+  | inr other ↦ inr (λ e. false≢true (sym other ∙ tie_self group_total g h e))
+]

@@ -26,19 +26,23 @@ all_kept test keep (x ∷ xs) all =
     ]
 
 -- what is kept of a rising list rises
-pub rising_kept : {A : Type 0} (cmp : A → A → Ordering) (keep : A → Bool) (xs : List A) → is_rising cmp xs ≡ true → is_rising cmp (filter keep xs) ≡ true
+pub rising_kept : {A : Type 0} (cmp : A → A → Ordering) (keep : A → Bool) (xs : List A) → is_rising cmp xs ≡ true →
+    is_rising cmp (filter keep xs) ≡ true
 rising_kept cmp keep [] rising = refl
 rising_kept cmp keep (x ∷ xs) rising =
     let parts = and_parts (list_all (λ y. is_lt (cmp x y)) xs) (is_rising cmp xs) rising in
     let rest = rising_kept cmp keep xs parts.1 in
     elim (keep x) as (λ b. is_rising cmp (if b then x ∷ filter keep xs else filter keep xs) ≡ true) [
-      | true ↦ and_from (list_all (λ y. is_lt (cmp x y)) (filter keep xs)) (is_rising cmp (filter keep xs)) (all_kept (λ y. is_lt (cmp x y)) keep xs parts.0) rest
+      | true ↦
+          and_from (list_all (λ y. is_lt (cmp x y)) (filter keep xs)) (is_rising cmp (filter keep xs))
+          (all_kept (λ y. is_lt (cmp x y)) keep xs parts.0) rest
       | false ↦ rest
     ]
 
 module _ {A : Type 0} (cmp : A → A → Ordering) (total : IsTotalOrder cmp) where
   -- what is below the first of a list is below each of it
-  pub below_more : (x y : A) (ys : List A) → cmp x y ≡ Less → list_all (λ z. is_lt (cmp y z)) ys ≡ true → list_all (λ z. is_lt (cmp x z)) ys ≡ true
+  pub below_more : (x y : A) (ys : List A) → cmp x y ≡ Less → list_all (λ z. is_lt (cmp y z)) ys ≡ true →
+      list_all (λ z. is_lt (cmp x z)) ys ≡ true
   below_more x y [] less all = refl
   below_more x y (z ∷ zs) less all =
       let parts = and_parts (is_lt (cmp y z)) (list_all (λ w. is_lt (cmp y w)) zs) all in
@@ -47,14 +51,16 @@ module _ {A : Type 0} (cmp : A → A → Ordering) (total : IsTotalOrder cmp) wh
       (below_more x y zs less parts.1)
 
   -- what is below an item and below each of a set is below each of both
-  below_both : (z x : A) (xs : List A) → cmp z x ≡ Less → list_all (λ y. is_lt (cmp z y)) xs ≡ true → list_all (λ y. is_lt (cmp z y)) (with_item cmp x xs) ≡ true
+  below_both : (z x : A) (xs : List A) → cmp z x ≡ Less → list_all (λ y. is_lt (cmp z y)) xs ≡ true →
+      list_all (λ y. is_lt (cmp z y)) (with_item cmp x xs) ≡ true
   below_both z x [] less all = and_from (is_lt (cmp z x)) true (ap is_lt less) refl
   below_both z x (y ∷ ys) less all =
       let parts = and_parts (is_lt (cmp z y)) (list_all (λ w. is_lt (cmp z w)) ys) all in
       elim (cmp x y) as (λ o. list_all (λ w. is_lt (cmp z w)) (at_order o (x ∷ y ∷ ys) (y ∷ ys) (y ∷ with_item cmp x ys)) ≡ true) [
         | Less ↦ and_from (is_lt (cmp z x)) (list_all (λ w. is_lt (cmp z w)) (y ∷ ys)) (ap is_lt less) all
         | Equal ↦ all
-        | Greater ↦ and_from (is_lt (cmp z y)) (list_all (λ w. is_lt (cmp z w)) (with_item cmp x ys)) parts.0 (below_both z x ys less parts.1)
+        | Greater ↦
+            and_from (is_lt (cmp z y)) (list_all (λ w. is_lt (cmp z w)) (with_item cmp x ys)) parts.0 (below_both z x ys less parts.1)
       ]
 
   pub rising-with_item : (x : A) (xs : List A) → is_rising cmp xs ≡ true → is_rising cmp (with_item cmp x xs) ≡ true

@@ -3,7 +3,8 @@ use Rattle.std.proofs.Common.{◌≡◌, ℕ, zero, suc, ◌<◌, List, [], ◌�
 use Rattle.cast_types.specs.Places.{update}
 
 -- to write f of what is at a place
-pub set_update : {X : Type 0} (f : X → X) (xs : List X) (i : ℕ) (x y : X) → i < length xs → x ≡ get_or xs i x → y ≡ f x → set xs i y ≡ update xs i f
+pub set_update : {X : Type 0} (f : X → X) (xs : List X) (i : ℕ) (x y : X) → i < length xs → x ≡ get_or xs i x → y ≡ f x →
+    set xs i y ≡ update xs i f
 set_update f [] i x y lt read is = absurd (omega arith)
 set_update f (z ∷ xs) zero x y lt read is = ap (λ w. w ∷ xs) (is ∙ ap f read)
 set_update f (z ∷ xs) (suc i) x y lt read is = ap (λ rest. z ∷ rest) (set_update f xs i x y (omega arith) read is)

@@ -10,7 +10,8 @@ use Rattle.cast_types.specs.declared.names.Uid.{Uid}
 use Rattle.cast_types.specs.declared.names.Kind.{Kind}
 use Rattle.cast_types.specs.declared.names.Kind.TheVariants.{Causal, Atomic, Order}
 
--- a process with a count: an entry of a vector, or the name of a message where group and view are known
+-- a process with a count: an entry of a vector, or the name of a message where group and view are
+-- known
 abbrev pub Entry : Type 0
 Entry = Proc × ℕ
 
@@ -33,7 +34,9 @@ entry_cmp a b = ordering_then (proc_cmp a.0 b.0) (nat_cmp a.1 b.1)
 
 -- by group, then by view, and then by process and count
 abbrev pub uid_cmp : Uid → Uid → Ordering
-uid_cmp a b = ordering_then (group_cmp a.group b.group) (ordering_then (nat_cmp a.view b.view) (entry_cmp (a.proc, a.count) (b.proc, b.count)))
+uid_cmp a b =
+    ordering_then (group_cmp a.group b.group)
+    (ordering_then (nat_cmp a.view b.view) (entry_cmp (a.proc, a.count) (b.proc, b.count)))
 
 abbrev pub site_eq : SiteNo → SiteNo → Bool
 site_eq s t = s.0 == t.0
@@ -48,7 +51,11 @@ abbrev pub entry_eq : Entry → Entry → Bool
 entry_eq a b = proc_eq a.0 b.0 && (a.1 == b.1)
 
 abbrev pub uid_eq : Uid → Uid → Bool
-uid_eq a b = group_eq a.group b.group && ((a.view == b.view) && (proc_eq a.proc b.proc && (a.count == b.count)))
+uid_eq a b =
+    group_eq a.group b.group
+    && ((a.view == b.view)
+    && (proc_eq a.proc b.proc
+    && (a.count == b.count)))
 
 abbrev pub is_atomic : Kind → Bool
 is_atomic Causal = false

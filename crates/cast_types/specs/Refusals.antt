@@ -1,7 +1,12 @@
 -- The numbers of refusals.
 use Rattle.std.specs.Prelude.{ℕ, zero, suc, List, [], ◌∷◌, Option, None, slice_get}
 use Rattle.cast_types.specs.declared.refusal.Refusal.{Refusal}
-use Rattle.cast_types.specs.declared.refusal.Refusal.TheVariants.{BadFrame, NotOpen, TooManySessions, NoGroup, NotMember, AlreadyMember, Flushing, OwnAbcast, HeldFull, TooLong, NotHolder, Slow, Halted, GroupFull, OutOfRange}
+use Rattle.cast_types.specs.declared.refusal.Refusal.TheVariants.{BadFrame, NotOpen}
+use Rattle.cast_types.specs.declared.refusal.Refusal.TheVariants.{TooManySessions, NoGroup}
+use Rattle.cast_types.specs.declared.refusal.Refusal.TheVariants.{NotMember, AlreadyMember}
+use Rattle.cast_types.specs.declared.refusal.Refusal.TheVariants.{Flushing, OwnAbcast, HeldFull}
+use Rattle.cast_types.specs.declared.refusal.Refusal.TheVariants.{TooLong, NotHolder, Slow}
+use Rattle.cast_types.specs.declared.refusal.Refusal.TheVariants.{Halted, GroupFull, OutOfRange}
 
 abbrev pub refusal_code : Refusal → ℕ
 refusal_code BadFrame = 1
@@ -23,7 +28,8 @@ refusal_code OutOfRange = 15
 -- all refusals, by their numbers from 1 on
 abbrev pub refusals : List Refusal
 refusals =
-    BadFrame ∷ NotOpen ∷ TooManySessions ∷ NoGroup ∷ NotMember ∷ AlreadyMember ∷ Flushing ∷ OwnAbcast ∷ HeldFull
+    BadFrame ∷ NotOpen ∷ TooManySessions ∷ NoGroup ∷ NotMember ∷ AlreadyMember ∷ Flushing
+    ∷ OwnAbcast ∷ HeldFull
     ∷ TooLong ∷ NotHolder ∷ Slow ∷ Halted ∷ GroupFull ∷ OutOfRange ∷ []
 
 -- the refusal of a number, none where no refusal has it

@@ -12,4 +12,7 @@ ClockList = List (GroupNo × Clock)
 -- 1 to 32 clocks of views from 1 on, in rising order of their groups
 abbrev pub is_stamp : ClockList → Bool
 is_stamp t =
-    is_sorted group_cmp t && (nat_lt 0 (length t) && (nat_le (length t) 32 && list_all (λ e. nat_lt 0 e.1.view) t))
+    is_sorted group_cmp t
+    && (nat_lt 0 (length t)
+    && (nat_le (length t) 32
+    && list_all (λ e. nat_lt 0 e.1.view) t))

@@ -44,8 +44,8 @@ pub fn copy_clocks(
     Ok(copied)
 }
 
-/// The vector time that a message bears: 1 to 32 clocks of views from 1 on. It is never changed, so its copies share one list.
-/// Contracts see the list of clocks in rising order of their groups.
+/// The vector time that a message bears: 1 to 32 clocks of views from 1 on. It is never changed, so
+/// its copies share one list. Contracts see the list of clocks in rising order of their groups.
 #[derive(Drop)]
 pub struct Stamp {
     clocks: Arc<Vec<(GroupNo, Clock)>, Global>,
@@ -92,8 +92,8 @@ impl Stamp {
         sorted::find(&self.clocks, &group)
     }
 
-    /// An equal value, which shares the clocks of this one. Takes no memory. `NoMemory`: the clocks are shared by as many values as
-    /// can be counted.
+    /// An equal value, which shares the clocks of this one. Takes no memory. `NoMemory`: the clocks
+    /// are shared by as many values as can be counted.
     pub fn copy(&self) -> Result<Self, NoMemory>
         ensures { IfOk result (λ s. s ≡ self.now) }
     {

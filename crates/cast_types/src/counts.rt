@@ -8,8 +8,8 @@ use crate::{NoMemory, sorted};
 use std::alloc::Global;
 use std::marker::Model;
 
-/// A count for each process, 0 where none is kept: at most 64 counts of at least 1. Contracts see the list of
-/// counts in rising order of their processes.
+/// A count for each process, 0 where none is kept: at most 64 counts of at least 1. Contracts see
+/// the list of counts in rising order of their processes.
 #[derive(Drop)]
 pub struct Counts {
     entries: Vec<(Proc, u32)>,

@@ -1,7 +1,14 @@
 ghost use Rattle.std.specs.Prelude.{◌≡◌};
-ghost use Rattle.cast_types.specs.declared.limits.TheConstants.{MAX_MEMBERS, MAX_GROUPS, MAX_SITES, MAX_DOMAINS, MAX_PAYLOAD, MAX_SITE_FRAME, MAX_CLIENT_FRAME, MAX_ORDER, MAX_TAIL, MAX_KEPT, MAX_PLACED, MAX_UNSETTLED, MAX_POSITION, MAX_NUMBER, MAX_MOMENT};
+ghost use Rattle.cast_types.specs.declared.limits.TheConstants.{MAX_MEMBERS, MAX_GROUPS};
+ghost use Rattle.cast_types.specs.declared.limits.TheConstants.{MAX_SITES, MAX_DOMAINS};
+ghost use Rattle.cast_types.specs.declared.limits.TheConstants.{MAX_PAYLOAD, MAX_SITE_FRAME};
+ghost use Rattle.cast_types.specs.declared.limits.TheConstants.{MAX_CLIENT_FRAME, MAX_ORDER};
+ghost use Rattle.cast_types.specs.declared.limits.TheConstants.{MAX_TAIL, MAX_KEPT, MAX_PLACED};
+ghost use Rattle.cast_types.specs.declared.limits.TheConstants.{MAX_UNSETTLED, MAX_POSITION};
+ghost use Rattle.cast_types.specs.declared.limits.TheConstants.{MAX_NUMBER, MAX_MOMENT};
 ghost use Rattle.cast_types.specs.Laws.{IsOrderOfNames};
-ghost use Rattle.cast_types.specs.Names.{domain_cmp, site_cmp, group_cmp, proc_cmp, entry_cmp, uid_cmp};
+ghost use Rattle.cast_types.specs.Names.{domain_cmp, site_cmp, group_cmp};
+ghost use Rattle.cast_types.specs.Names.{proc_cmp, entry_cmp, uid_cmp};
 
 /// Names of each sort have a total order, and names that it does not tell apart are one name.
 pub fn names_are_ordered()

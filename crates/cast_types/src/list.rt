@@ -1,4 +1,5 @@
-ghost use Rattle.std.specs.Prelude.{◌≡◌, ◌∷◌, ◌++◌, [], IfOk, OnOk, OnErr, length, take, IsTrue, ◌↔◌};
+ghost use Rattle.std.specs.Prelude.{◌≡◌, ◌∷◌, ◌++◌, [], IfOk, OnOk};
+ghost use Rattle.std.specs.Prelude.{OnErr, length, take, IsTrue, ◌↔◌};
 
 use crate::NoMemory;
 use std::alloc::Global;
@@ -83,7 +84,8 @@ impl<T: Drop> List<T> {
         Ok(())
     }
 
-    /// Adds items at the end; where there was none, takes them over as they lie. `NoMemory` changes nothing.
+    /// Adds items at the end; where there was none, takes them over as they lie. `NoMemory` changes
+    /// nothing.
     pub fn append(&mut self, items: List<T>) -> Result<(), NoMemory>
         ensures ok { OnOk result (self.new ≡ self.old ++ items) }
         ensures err { OnErr result (self.new ≡ self.old) }

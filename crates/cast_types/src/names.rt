@@ -4,7 +4,8 @@ ghost use Rattle.std.specs.Prelude.{◌≡◌};
 #[derive(Clone, Copy, Debug, PartialEq, Eq, PartialOrd, Ord)]
 pub struct DomainNo(pub u8);
 
-/// The number of a site, 1 to 65,535. A daemon that is started again takes a number never used before.
+/// The number of a site, 1 to 65,535. A daemon that is started again takes a number never used
+/// before.
 #[derive(Clone, Copy, Debug, PartialEq, Eq, PartialOrd, Ord)]
 pub struct SiteNo(pub u16);
 
@@ -12,7 +13,8 @@ pub struct SiteNo(pub u16);
 #[derive(Clone, Copy, Debug, PartialEq, Eq, PartialOrd, Ord)]
 pub struct GroupNo(pub u16);
 
-/// A process: one connection of a program to its daemon. Processes are ordered by site, then by serial.
+/// A process: one connection of a program to its daemon. Processes are ordered by site, then by
+/// serial.
 #[derive(Clone, Copy, Debug, PartialEq, Eq, PartialOrd, Ord)]
 pub struct Proc {
     pub site: SiteNo,
@@ -20,7 +22,8 @@ pub struct Proc {
     pub serial: u32,
 }
 
-/// The name of a message: the count-th of its process in a view of a group. Views and counts begin at 1.
+/// The name of a message: the count-th of its process in a view of a group. Views and counts begin
+/// at 1.
 #[derive(Clone, Copy, Debug, PartialEq, Eq, PartialOrd, Ord)]
 pub struct Uid {
     pub group: GroupNo,
@@ -29,8 +32,8 @@ pub struct Uid {
     pub count: u32,
 }
 
-/// How the messages of a kind are ordered, after Birman, Schiper and Stephenson, "Lightweight Causal and Atomic
-/// Group Multicast", ACM TOCS 9(3), 1991.
+/// How the messages of a kind are ordered, after Birman, Schiper and Stephenson, "Lightweight
+/// Causal and Atomic Group Multicast", ACM TOCS 9(3), 1991.
 #[derive(Clone, Copy, Debug, PartialEq, Eq)]
 pub enum Kind {
     /// Delivered after all that happened before it (CBCAST).

@@ -1,7 +1,8 @@
 ghost use Rattle.std.specs.Prelude.{◌≡◌};
 ghost use Rattle.cast_types.specs.Refusals.{refusal_code, refusal_numbered};
 
-/// Why a command, an event or a session is refused. Its number stands in frames and in printed text.
+/// Why a command, an event or a session is refused. Its number stands in frames and in printed
+/// text.
 #[derive(Clone, Copy, Debug, PartialEq, Eq)]
 pub enum Refusal {
     /// 1: the program sent bytes that are no frame.

@@ -18,7 +18,8 @@ pub fn find<'a, K: Ord, V>(entries: &'a [(K, V)], key: &K) -> Option<&'a V>
     None
 }
 
-/// Sets the value at a key, among entries in rising order of their keys. `NoMemory` changes nothing.
+/// Sets the value at a key, among entries in rising order of their keys. `NoMemory` changes
+/// nothing.
 pub fn put<K: Ord + Drop, V: Drop>(
     entries: &mut Vec<(K, V)>,
     key: K,
@@ -42,7 +43,8 @@ pub fn put<K: Ord + Drop, V: Drop>(
     Ok(())
 }
 
-/// Adds an item to a set that stands in rising order, where it lacks it. `NoMemory` changes nothing.
+/// Adds an item to a set that stands in rising order, where it lacks it. `NoMemory` changes
+/// nothing.
 pub fn insert<T: Ord + Drop>(items: &mut Vec<T>, item: T) -> Result<(), NoMemory>
     ensures ok { OnOk result (items.new.items ≡ with_item T.cmp item items.old.items) }
     ensures err { OnErr result (items.new.items ≡ items.old.items) }

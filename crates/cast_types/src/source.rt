@@ -12,7 +12,8 @@ pub struct Source {
 }
 
 impl Source {
-    /// Whether it is of a view of the group that has ended, where this is the number of the view that stands.
+    /// Whether it is of a view of the group that has ended, where this is the number of the view
+    /// that stands.
     pub fn is_ended(self, group: GroupNo, number: u32) -> bool
         ensures { result ≡ is_ended group number self }
     {

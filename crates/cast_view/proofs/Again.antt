@@ -17,7 +17,8 @@ freezing g b = if b then frozen_now g else g
 
 pub prepares_once : PreparesOnce
 prepares_once g view =
-    elim (answers_prepare g view) as (λ b. answers_prepare g view ≡ b → freezing (freezing g b) (answers_prepare (freezing g b) view) ≡ freezing g b) [
+    elim (answers_prepare g view)
+    as (λ b. answers_prepare g view ≡ b → freezing (freezing g b) (answers_prepare (freezing g b) view) ≡ freezing g b) [
       | true ↦ λ is. ap (freezing (frozen_now g)) is
       | false ↦ λ is. ap (freezing g) is
     ] refl

@@ -26,8 +26,10 @@ module _ {A : Type 0} (eq : A → A → Bool) (same : (a b : A) → eq a b ≡ t
   among_kept keep p [] = refl
   among_kept keep p (x ∷ xs) =
       let rest = among_kept keep p xs in
-      elim (keep x) as (λ b. keep x ≡ b → is_among eq p (if b then x ∷ filter keep xs else filter keep xs) ≡ ((eq p x || is_among eq p xs) && keep p)) [
-        | true ↦ λ is. ap (λ (b : Bool). eq p x || b) rest ∙ and_kept (eq p x) (is_among eq p xs) (keep x) (keep p) is (λ one. ap keep (same p x one))
+      elim (keep x)
+      as (λ b. keep x ≡ b → is_among eq p (if b then x ∷ filter keep xs else filter keep xs) ≡ ((eq p x || is_among eq p xs) && keep p)) [
+        | true ↦ λ is.
+            ap (λ (b : Bool). eq p x || b) rest ∙ and_kept (eq p x) (is_among eq p xs) (keep x) (keep p) is (λ one. ap keep (same p x one))
         | false ↦ λ is. rest ∙ and_dropped (eq p x) (is_among eq p xs) (keep x) (keep p) is (λ one. ap keep (same p x one))
       ] refl
 
@@ -36,7 +38,8 @@ module _ {A : Type 0} (cmp : A → A → Ordering) (exact : (a b : A) → cmp a 
   pub among_with_item : (p x : A) (xs : List A) → is_among eq p (with_item cmp x xs) ≡ (eq p x || is_among eq p xs)
   among_with_item p x [] = refl
   among_with_item p x (y ∷ ys) =
-      elim (cmp x y) as (λ o. cmp x y ≡ o → is_among eq p (at_order o (x ∷ y ∷ ys) (y ∷ ys) (y ∷ with_item cmp x ys)) ≡ (eq p x || (eq p y || is_among eq p ys))) [
+      elim (cmp x y) as (λ o. cmp x y ≡ o →
+      is_among eq p (at_order o (x ∷ y ∷ ys) (y ∷ ys) (y ∷ with_item cmp x ys)) ≡ (eq p x || (eq p y || is_among eq p ys))) [
         | Less ↦ λ is. refl
         | Equal ↦ λ is. or_twice (eq p y) (is_among eq p ys) ∙ ap (λ (z : A). eq p z || (eq p y || is_among eq p ys)) (sym (exact x y is))
         | Greater ↦ λ is. ap (λ (b : Bool). eq p y || b) (among_with_item p x ys) ∙ or_turned (eq p x) (eq p y) (is_among eq p ys)

@@ -16,7 +16,8 @@ use Rattle.cast_view.specs.MemberSide.{counts_by}
 
 module _ (count : Proc → ℕ) where
   -- who is below each of these is below each whom the counts have
-  below_counts : (p : Proc) (procs : List Proc) → list_all (λ q. is_lt (proc_cmp p q)) procs ≡ true → below_all proc_cmp p (counts_by count procs) ≡ true
+  below_counts : (p : Proc) (procs : List Proc) → list_all (λ q. is_lt (proc_cmp p q)) procs ≡ true →
+      below_all proc_cmp p (counts_by count procs) ≡ true
   below_counts p [] all = refl
   below_counts p (q ∷ qs) all =
       let parts = and_parts (is_lt (proc_cmp p q)) (list_all (λ z. is_lt (proc_cmp p z)) qs) all in
@@ -31,7 +32,9 @@ module _ (count : Proc → ℕ) where
   counts_rise (q ∷ qs) rising =
       let parts = and_parts (list_all (λ z. is_lt (proc_cmp q z)) qs) (is_rising proc_cmp qs) rising in
       elim (nat_lt 0 (count q)) as (λ b. is_sorted proc_cmp (cond b ((q, count q) ∷ counts_by count qs) (counts_by count qs)) ≡ true) [
-        | true ↦ and_from (below_all proc_cmp q (counts_by count qs)) (is_sorted proc_cmp (counts_by count qs)) (below_counts q qs parts.0) (counts_rise qs parts.1)
+        | true ↦
+            and_from (below_all proc_cmp q (counts_by count qs)) (is_sorted proc_cmp (counts_by count qs)) (below_counts q qs parts.0)
+            (counts_rise qs parts.1)
         | false ↦ counts_rise qs parts.1
       ]
 
@@ -41,4 +44,5 @@ module _ (count : Proc → ℕ) where
       let entries : List Entry = map (λ p. (p, count p)) procs in
       let kept : length (counts_by count procs) ≤ length entries = length_filter (λ e. nat_lt 0 e.1) entries in
       let all : length entries ≡ length procs = length-map procs (λ p. (p, count p)) in
-      counts_from (counts_by count procs) (counts_rise procs rising) (omega (arith, kept, all, few)) (all_filter (λ e. nat_lt 0 e.1) entries)
+      counts_from (counts_by count procs) (counts_rise procs rising) (omega (arith, kept, all, few))
+      (all_filter (λ e. nat_lt 0 e.1) entries)

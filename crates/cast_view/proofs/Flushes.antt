@@ -13,7 +13,8 @@ use Rattle.cast_message.specs.Membership.{Membership}
 use Rattle.cast_view.specs.declared.phase.Phase.{Phase}
 use Rattle.cast_view.specs.declared.phase.Phase.TheVariants.{Gathering}
 use Rattle.cast_flush.specs.Reports.{Reports, is_complete, cut_from, wanting, want_of, wants_of}
-use Rattle.cast_view.specs.Home.{Home, is_empty, is_suspected, may_decide, may_decide_in, wants_in, decided_list, decided_holder, decided_members, decide_view, after_decision}
+use Rattle.cast_view.specs.Home.{Home, is_empty, is_suspected, may_decide, may_decide_in, wants_in}
+use Rattle.cast_view.specs.Home.{decided_list, decided_holder, decided_members, decide_view, after_decision}
 
 -- a list without items is empty
 empty_length : {A : Type 0} (xs : List A) → (length xs == 0) ≡ is_empty xs
@@ -40,15 +41,33 @@ module _ (g : GroupNo) (h : Home) (awaited : List SiteNo) (reports : Reports) (b
 
 -- the home that passes to the next view, by its parts
 pub passed_parts :
-    (h : Home) (list : List Proc) (holder : Option Proc) (members : Membership) (joins leavings : List Proc) (suspected : List SiteNo) (phase : Phase)
+    (h : Home) (list : List Proc) (holder : Option Proc) (members : Membership) (joins leavings : List Proc) (suspected : List SiteNo)
+    (phase : Phase)
     → members ≡ record { list = list; holder = holder } → list ≡ decided_list h → holder ≡ decided_holder h list
     → joins ≡ filter (λ p. is_suspected h p.site) h.joins → leavings ≡ [] → suspected ≡ []
-    → record { number = h.number + 1; members = members; joins = joins; leavings = leavings; suspected = suspected; answers = h.answers; phase = phase } ≡ record (decide_view h) { phase = phase }
+    → record {
+      number = h.number + 1;
+      members = members;
+      joins = joins;
+      leavings = leavings;
+      suspected = suspected;
+      answers = h.answers;
+      phase = phase;
+    } ≡ record (decide_view h) { phase = phase }
 passed_parts h list holder members joins leavings suspected phase with_both with_list with_holder with_joins with_leavings with_suspected =
     let holders = with_holder ∙ ap (decided_holder h) with_list in
-    let memberships : record { list = list; holder = holder } ≡ decided_members h = λ i. record { list = with_list i; holder = holders i } in
+    let memberships : record { list = list; holder = holder } ≡ decided_members h =
+    λ i. record { list = with_list i; holder = holders i } in
     let both = with_both ∙ memberships in
-    λ i. record { number = h.number + 1; members = both i; joins = with_joins i; leavings = with_leavings i; suspected = with_suspected i; answers = h.answers; phase = phase }
+    λ i. record {
+      number = h.number + 1;
+      members = both i;
+      joins = with_joins i;
+      leavings = with_leavings i;
+      suspected = with_suspected i;
+      answers = h.answers;
+      phase = phase;
+    }
 
 -- where it may decide the home is the decided one
 pub decision_taken : (g : GroupNo) (h : Home) → may_decide g h ≡ true → decide_view h ≡ after_decision g h

@@ -12,7 +12,8 @@ use Rattle.cast_message.specs.KeptIds.{KeptList}
 use Rattle.cast_message.specs.Tail.{Tail}
 use Rattle.cast_flush.specs.declared.report.Report.{Report}
 use Rattle.cast_view.specs.declared.phase.Phase.TheVariants.{Installing}
-use Rattle.cast_view.specs.Home.{Home, first_home, answer_to, after_ask, after_suspicion, after_start, after_reply, after_body, wants_in, after_decision, after_installed}
+use Rattle.cast_view.specs.Home.{Home, first_home, answer_to, after_ask, after_suspicion, after_start}
+use Rattle.cast_view.specs.Home.{after_reply, after_body, wants_in, after_decision, after_installed}
 
 abbrev site : ℕ → SiteNo
 site n = record { 0 = n }
@@ -90,7 +91,8 @@ first_view = refl
 joined_again : Home
 joined_again =
     after_decision group
-    (after_reply (after_ask (after_start (after_ask joined (site 1) 2 change.Leave (first_of 1))) (site 1) 3 change.Join (first_of 1)) (site 1) 1 nothing)
+    (after_reply (after_ask (after_start (after_ask joined (site 1) 2 change.Leave (first_of 1))) (site 1) 3 change.Join (first_of 1))
+    (site 1) 1 nothing)
 
 second_view : joined_again.members ≡ record { list = first_of 1 ∷ []; holder = Some (first_of 1) }
 unfolding joined_again joined

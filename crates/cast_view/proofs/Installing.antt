@@ -8,7 +8,9 @@ use Rattle.cast_message.specs.declared.site.Change.TheVariants as change
 use Rattle.cast_message.specs.Membership.{Membership}
 use Rattle.cast_view.specs.declared.member.Pending.{Pending}
 use Rattle.cast_view.specs.declared.member.Verdict.TheVariants.{Again, Skips, Completes, Pends, Ignored}
-use Rattle.cast_view.specs.MemberSide.{MemberSide, no_group, members_of, holder_at, with_request, with_answer, first_asking, answers_prepare, after_prepare, report_of, verdict_of, after_install, with_view, after_out, is_taken_in}
+use Rattle.cast_view.specs.MemberSide.{MemberSide, no_group, members_of, holder_at, with_request}
+use Rattle.cast_view.specs.MemberSide.{with_answer, first_asking, answers_prepare, after_prepare, report_of}
+use Rattle.cast_view.specs.MemberSide.{verdict_of, after_install, with_view, after_out, is_taken_in}
 
 abbrev site : ℕ → SiteNo
 site n = record { 0 = n }
@@ -117,7 +119,14 @@ still_waits = refl
 -- It is completed: the site has the view, and the Install is answered again from then on. Site 3, which has no member in it,
 -- has none
 
-completed : with_view (site 1) 4 of_two waiting ≡ record { number = 4; view = Some of_two; frozen = false; pending = None; asked = 0; requests = [] }
+completed : with_view (site 1) 4 of_two waiting ≡ record {
+  number = 4;
+  view = Some of_two;
+  frozen = false;
+  pending = None;
+  asked = 0;
+  requests = [];
+}
 unfolding waiting prepared three
 completed = refl
 

@@ -16,10 +16,12 @@ use Rattle.cast_view.specs.Home.{phase_with_body}
 use Rattle.cast_view.specs.Flush.{lacking_in}
 
 -- what neither of two tests passes is what the second one does not pass of what the first one does not
-filter_both : {A : Type 0} (p q : A → Bool) (xs : List A) → filter (λ x. not (p x || q x)) xs ≡ filter (λ x. not (q x)) (filter (λ x. not (p x)) xs)
+filter_both : {A : Type 0} (p q : A → Bool) (xs : List A) →
+    filter (λ x. not (p x || q x)) xs ≡ filter (λ x. not (q x)) (filter (λ x. not (p x)) xs)
 filter_both p q [] = refl
 filter_both p q (x ∷ xs) =
-    elim (p x) as (λ b. cond (not (b || q x)) (x ∷ filter (λ y. not (p y || q y)) xs) (filter (λ y. not (p y || q y)) xs) ≡ filter (λ y. not (q y)) (cond (not b) (x ∷ filter (λ y. not (p y)) xs) (filter (λ y. not (p y)) xs))) [
+    elim (p x) as (λ b. cond (not (b || q x)) (x ∷ filter (λ y. not (p y || q y)) xs) (filter (λ y. not (p y || q y)) xs)
+    ≡ filter (λ y. not (q y)) (cond (not b) (x ∷ filter (λ y. not (p y)) xs) (filter (λ y. not (p y)) xs))) [
       | true ↦ filter_both p q xs
       | false ↦ ap (λ ys. cond (not (q x)) (x ∷ ys) ys) (filter_both p q xs)
     ]
@@ -30,13 +32,15 @@ or_false false = refl
 
 module _ (g : GroupNo) (view : ℕ) (m : Message) where
   -- a message that came is there beside those that were
-  one_more : (bodies : List Message) (e : Entry) → has_body g view (bodies ++ m ∷ []) e ≡ (has_body g view bodies e || uid_eq m.id (uid_in g view e))
+  one_more : (bodies : List Message) (e : Entry) →
+      has_body g view (bodies ++ m ∷ []) e ≡ (has_body g view bodies e || uid_eq m.id (uid_in g view e))
   one_more bodies e =
       any_append (λ x. uid_eq x.id (uid_in g view e)) bodies (m ∷ [])
       ∙ ap (λ b. has_body g view bodies e || b) (or_false (uid_eq m.id (uid_in g view e)))
 
   -- with a message that came, what was lacking but for this
-  pub lacking_but : (members : List Proc) (phase : Phase) → filter (λ e. not (uid_eq m.id (uid_in g view e))) (lacking_in g view members phase) ≡ lacking_in g view members (phase_with_body m phase)
+  pub lacking_but : (members : List Proc) (phase : Phase) → filter (λ e. not (uid_eq m.id (uid_in g view e)))
+      (lacking_in g view members phase) ≡ lacking_in g view members (phase_with_body m phase)
   lacking_but members Idle = refl
   lacking_but members (Gathering awaited reports bodies) =
       sym (filter_both (has_body g view bodies) (λ e. uid_eq m.id (uid_in g view e)) (needed_entries (cut_from members reports) reports))

@@ -12,7 +12,8 @@ use Rattle.cast_view.specs.declared.flush.Lacking.{Lacking}
 -- the messages of a group's view with these members that some sites lack and that did not come
 abbrev pub lacking_in : GroupNo → ℕ → List Proc → Phase → List Entry
 lacking_in g view members Idle = []
-lacking_in g view members (Gathering awaited reports bodies) = wanting g view (cut_from members reports) reports bodies
+lacking_in g view members (Gathering awaited reports bodies) =
+    wanting g view (cut_from members reports) reports bodies
 lacking_in g view members (Installing waiting decision bodies) = []
 
 -- what was reckoned is so

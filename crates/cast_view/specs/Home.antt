@@ -1,5 +1,7 @@
 -- A group at the home: its last decided view, what is to change, and the flush that runs.
-use Rattle.std.specs.Prelude.{ℕ, ◌+◌, Bool, true, false, not, ◌&&◌, ◌==◌, nat_lt, nat_le, if◌then◌else◌, List, [], ◌∷◌, ◌++◌, length, filter, Option, Some, None, unwrap_or}
+use Rattle.std.specs.Prelude.{ℕ, ◌+◌, Bool, true, false, not, ◌&&◌, ◌==◌, nat_lt}
+use Rattle.std.specs.Prelude.{nat_le, if◌then◌else◌, List, [], ◌∷◌, ◌++◌, length}
+use Rattle.std.specs.Prelude.{filter, Option, Some, None, unwrap_or}
 use Rattle.std.specs.FinMap.Entries.{find, put}
 use Rattle.cast_types.specs.declared.limits.TheConstants.{MAX_MEMBERS, MAX_NUMBER}
 use Rattle.cast_types.specs.declared.names.SiteNo.{SiteNo}
@@ -36,7 +38,15 @@ abbrev pub no_members : Membership
 no_members = record { list = []; holder = None }
 
 abbrev pub first_home : Home
-first_home = record { number = 0; members = no_members; joins = []; leavings = []; suspected = []; answers = []; phase = Idle }
+first_home = record {
+  number = 0;
+  members = no_members;
+  joins = [];
+  leavings = [];
+  suspected = [];
+  answers = [];
+  phase = Idle;
+}
 
 -- Requests
 
@@ -66,7 +76,10 @@ abbrev pub is_crowded : Home → Proc → Bool
 is_crowded h p = nat_le MAX_MEMBERS (length (without proc_eq p (expected_members h)))
 
 abbrev pub marked_leaving : Home → Proc → Home
-marked_leaving h p = if is_among proc_eq p h.members.list then record h { leavings = with_item proc_cmp p h.leavings } else h
+marked_leaving h p =
+    if is_among proc_eq p h.members.list
+    then record h { leavings = with_item proc_cmp p h.leavings }
+    else h
 
 abbrev pub with_join : Home → Proc → Home
 with_join h p = record (marked_leaving h p) { joins = with_item proc_cmp p h.joins }
@@ -74,7 +87,8 @@ with_join h p = record (marked_leaving h p) { joins = with_item proc_cmp p h.joi
 abbrev pub with_leave : Home → Proc → Home
 with_leave h p = record (marked_leaving h p) { joins = without proc_eq p h.joins }
 
--- a request is refused where it is a join of a process of the asking site and there is no room for it
+-- a request is refused where it is a join of a process of the asking site and there is no room for
+-- it
 abbrev pub is_refused : Home → SiteNo → Change → Proc → Bool
 is_refused h s change.Join p = site_eq p.site s && is_crowded h p
 is_refused h s change.Leave p = false
@@ -85,7 +99,8 @@ changed_by h change.Leave p = with_leave h p
 
 -- a request changes the sets if its process is at the asking site, and it is not refused
 abbrev pub after_change : Home → SiteNo → Change → Proc → Home
-after_change h s what p = if site_eq p.site s && not (is_refused h s what p) then changed_by h what p else h
+after_change h s what p =
+    if site_eq p.site s && not (is_refused h s what p) then changed_by h what p else h
 
 -- the request with this number is applied
 abbrev pub after_request : Home → SiteNo → ℕ → Change → Proc → Home
@@ -101,8 +116,8 @@ is_next h s number = number == (answer_of h s).number + 1
 abbrev pub after_ask : Home → SiteNo → ℕ → Change → Proc → Home
 after_ask h s number what p = if is_next h s number then after_request h s number what p else h
 
--- what the site is answered, where it is answered: whether its request is refused. The last request is answered again,
--- and a lower one as if it had been granted
+-- what the site is answered, where it is answered: whether its request is refused. The last request
+-- is answered again, and a lower one as if it had been granted
 abbrev pub answer_to : Home → SiteNo → ℕ → Change → Proc → Option Bool
 answer_to h s number what p =
     if is_next h s number then Some (is_refused h s what p)
@@ -155,12 +170,17 @@ abbrev pub phase_without : SiteNo → Phase → Phase
 phase_without s Idle = Idle
 phase_without s (Gathering awaited reports bodies) =
     Gathering (without site_eq s awaited) (filter (λ r. not (site_eq s r.0)) reports) bodies
-phase_without s (Installing waiting decision bodies) = installing (without site_eq s waiting) decision bodies
+phase_without s (Installing waiting decision bodies) =
+    installing (without site_eq s waiting) decision bodies
 
 -- a site of members is suspected
 abbrev pub with_suspect : Home → SiteNo → Home
 with_suspect h s =
-    record h { suspected = if is_among site_eq s (sites_of h.members.list) then with_item site_cmp s h.suspected else h.suspected }
+    record h {
+      suspected = if is_among site_eq s (sites_of h.members.list)
+          then with_item site_cmp s h.suspected
+          else h.suspected;
+    }
 
 -- a site is suspected: its members do not come into the next view, and nothing is awaited from it
 abbrev pub after_suspicion : Home → SiteNo → Home
@@ -169,12 +189,14 @@ after_suspicion h s = record (with_suspect h s) { phase = phase_without s h.phas
 -- the site is awaited, and has not yet reported
 abbrev pub awaits_report : Phase → SiteNo → Bool
 awaits_report Idle s = false
-awaits_report (Gathering awaited reports bodies) s = is_among site_eq s awaited && not (has_report reports s)
+awaits_report (Gathering awaited reports bodies) s =
+    is_among site_eq s awaited && not (has_report reports s)
 awaits_report (Installing waiting decision bodies) s = false
 
 abbrev pub phase_with_report : SiteNo → Report → Phase → Phase
 phase_with_report s r Idle = Idle
-phase_with_report s r (Gathering awaited reports bodies) = Gathering awaited (put site_cmp s r reports) bodies
+phase_with_report s r (Gathering awaited reports bodies) =
+    Gathering awaited (put site_cmp s r reports) bodies
 phase_with_report s r (Installing waiting decision bodies) = Installing waiting decision bodies
 
 -- a report counts where it is the first of this view from a site that is awaited
@@ -182,7 +204,8 @@ abbrev pub takes_report : Home → SiteNo → ℕ → Bool
 takes_report h s view = (view == h.number) && awaits_report h.phase s
 
 abbrev pub after_reply : Home → SiteNo → ℕ → Report → Home
-after_reply h s view r = if takes_report h s view then record h { phase = phase_with_report s r h.phase } else h
+after_reply h s view r =
+    if takes_report h s view then record h { phase = phase_with_report s r h.phase } else h
 
 abbrev pub phase_with_body : Message → Phase → Phase
 phase_with_body m Idle = Idle
@@ -197,11 +220,14 @@ bodies_of Idle = []
 bodies_of (Gathering awaited reports bodies) = bodies
 bodies_of (Installing waiting decision bodies) = bodies
 
--- the messages that are wanted, each with the site that it is wanted from, once all sites have reported
+-- the messages that are wanted, each with the site that it is wanted from, once all sites have
+-- reported
 abbrev pub wants_in : GroupNo → Home → Phase → List (SiteNo × Entry)
 wants_in g h Idle = []
 wants_in g h (Gathering awaited reports bodies) =
-    if is_complete awaited reports then wants_of g h.number (cut_from h.members.list reports) reports bodies else []
+    if is_complete awaited reports
+    then wants_of g h.number (cut_from h.members.list reports) reports bodies
+    else []
 wants_in g h (Installing waiting decision bodies) = []
 
 -- The decision
@@ -210,7 +236,8 @@ wants_in g h (Installing waiting decision bodies) = []
 abbrev pub may_decide_in : GroupNo → Home → Phase → Bool
 may_decide_in g h Idle = false
 may_decide_in g h (Gathering awaited reports bodies) =
-    is_complete awaited reports && is_empty (wanting g h.number (cut_from h.members.list reports) reports bodies)
+    is_complete awaited reports
+    && is_empty (wanting g h.number (cut_from h.members.list reports) reports bodies)
 may_decide_in g h (Installing waiting decision bodies) = false
 
 abbrev pub may_decide : GroupNo → Home → Bool
@@ -218,7 +245,9 @@ may_decide g h = may_decide_in g h h.phase
 
 -- the members that stay, and the joins that are not at suspected sites
 abbrev pub decided_list : Home → List Proc
-decided_list h = set_of proc_cmp (filter (stays h) h.members.list ++ filter (λ p. not (is_suspected h p.site)) h.joins)
+decided_list h =
+    set_of proc_cmp
+    (filter (stays h) h.members.list ++ filter (λ p. not (is_suspected h p.site)) h.joins)
 
 abbrev pub least_of : List Proc → Option Proc
 least_of [] = None
@@ -228,7 +257,8 @@ least_of (p ∷ ps) = Some p
 abbrev pub decided_holder : Home → List Proc → Option Proc
 decided_holder h members =
     elim h.members.holder [
-      | Some p ↦ (if not (is_leaving h p) && is_among proc_eq p members then Some p else least_of members)
+      | Some p ↦
+          (if not (is_leaving h p) && is_among proc_eq p members then Some p else least_of members)
       | None ↦ least_of members
     ]
 
@@ -241,7 +271,8 @@ decision_of h reports =
     let cut : List Entry = cut_from h.members.list reports in
     record { cut = cut; tail = order_from cut reports; answers = h.answers }
 
--- the phase after the decision: the sites of the new view, and those that were awaited, are to install it
+-- the phase after the decision: the sites of the new view, and those that were awaited, are to
+-- install it
 abbrev pub decided_phase : Home → List Proc → Phase → Phase
 decided_phase h members Idle = Idle
 decided_phase h members (Gathering awaited reports bodies) =
@@ -273,7 +304,8 @@ abbrev pub takes_installed : Home → SiteNo → ℕ → Bool
 takes_installed h s n = (n == h.number) && awaits_installed h.phase s
 
 abbrev pub after_installed : Home → SiteNo → ℕ → Home
-after_installed h s n = if takes_installed h s n then record h { phase = phase_without s h.phase } else h
+after_installed h s n =
+    if takes_installed h s n then record h { phase = phase_without s h.phase } else h
 
 -- All that changes a group at the home
 
@@ -302,8 +334,8 @@ apply_move (Brought message) h = after_body h message
 apply_move Decided h = decide_view h
 apply_move (Installed from view) h = after_installed h from view
 
--- What holds at all times: the next views have room for whom they are to have, and a flush runs only where a number is
--- left for the next view
+-- What holds at all times: the next views have room for whom they are to have, and a flush runs
+-- only where a number is left for the next view
 
 abbrev pub has_next_number : ℕ → Phase → Bool
 has_next_number n Idle = true

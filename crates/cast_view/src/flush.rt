@@ -12,7 +12,8 @@ use cast_message::Message;
 use cast_types::{GroupNo, NoMemory, Proc, Uid};
 use std::marker::Model;
 
-/// How far a flush has come, and what some sites lack once that was reckoned. Contracts see the phase alone.
+/// How far a flush has come, and what some sites lack once that was reckoned. Contracts see the
+/// phase alone.
 #[derive(Drop)]
 pub(crate) struct Flush {
     phase: Phase,
@@ -81,7 +82,8 @@ impl Flush {
         Ok(Flush { phase, lacking })
     }
 
-    /// Reckons once what is lacking, where all sites have reported. Changes nothing that contracts see.
+    /// Reckons once what is lacking, where all sites have reported. Changes nothing that contracts
+    /// see.
     pub(crate) fn reckon(
         &mut self,
         group: GroupNo,
@@ -125,7 +127,8 @@ impl Flush {
         Ok(())
     }
 
-    /// What was reckoned to be lacking, if it was for the view of this number of a group with these members. Takes no memory.
+    /// What was reckoned to be lacking, if it was for the view of this number of a group with these
+    /// members. Takes no memory.
     pub(crate) fn lacking(
         &self,
         group: GroupNo,
@@ -147,7 +150,8 @@ impl Flush {
 
 // What is lacking but for one message.
 fn lacking_but(lacking: Option<Lacking>, id: Uid) -> Option<Lacking>
-    ensures { (m : Message) (phase : Phase) → m.id ≡ id → AreReckoned lacking phase → AreReckoned result (phase_with_body m phase) }
+    ensures { (m : Message) (phase : Phase) → m.id ≡ id → AreReckoned lacking phase
+        → AreReckoned result (phase_with_body m phase) }
 {
     match lacking {
         Some(lacking) => Some(lacking.without(id)),
@@ -161,7 +165,8 @@ impl Lacking {
         ensures group { result.group ≡ self.group }
         ensures view { result.view ≡ self.view }
         ensures members { result.members ≡ self.members }
-        ensures ids { result.ids.items ≡ filter (λ e. not (uid_eq id (uid_in self.group self.view e))) self.ids.items }
+        ensures ids { result.ids.items
+            ≡ filter (λ e. not (uid_eq id (uid_in self.group self.view e))) self.ids.items }
     {
         let Lacking {
             group,

@@ -19,8 +19,8 @@ use std::alloc::Global;
 use std::marker::Model;
 use std::mem;
 
-/// A group at the home: its last decided view, what is to change, and the flush that runs. The next view never has more
-/// than 64 members. Contracts see a `Home`.
+/// A group at the home: its last decided view, what is to change, and the flush that runs. The next
+/// view never has more than 64 members. Contracts see a `Home`.
 #[derive(Drop)]
 pub struct HomeSide {
     number: u32,
@@ -38,13 +38,37 @@ impl Model for HomeSide {
 
     ghost Value = { Home };
 
-    ghost view = { λ h. record { number = h.number; members = h.members; joins = h.joins; leavings = h.leavings; suspected = h.suspected.items; answers = h.answers; phase = h.flush } };
+    ghost view = { λ h. record {
+      number = h.number;
+      members = h.members;
+      joins = h.joins;
+      leavings = h.leavings;
+      suspected = h.suspected.items;
+      answers = h.answers;
+      phase = h.flush;
+    } };
 
-    ghost invariant = { λ h. IsTrue (is_sound (record { number = h.number; members = h.members; joins = h.joins; leavings = h.leavings; suspected = h.suspected.items; answers = h.answers; phase = h.flush })) };
+    ghost invariant = { λ h. IsTrue (is_sound
+        (record {
+          number = h.number;
+          members = h.members;
+          joins = h.joins;
+          leavings = h.leavings;
+          suspected = h.suspected.items;
+          answers = h.answers;
+          phase = h.flush;
+        })) };
 }
 
 impl HomeSide {
-    ghost use Rattle.cast_view.specs.Home.{first_home, answer_of, decision_of, answer_to, is_refused, is_crowded, expected_members, stays, marked_leaving, with_suspect, changed_by, after_request, after_ask, after_suspicion, may_start, after_start, takes_report, after_reply, after_body, bodies_of, wants_in, may_decide, decided_list, decided_holder, decided_phase, decide_view, has_next_number, after_decision, takes_installed, after_installed};
+    ghost use Rattle.cast_view.specs.Home.{first_home, answer_of, decision_of, answer_to};
+    ghost use Rattle.cast_view.specs.Home.{is_refused, is_crowded, expected_members, stays};
+    ghost use Rattle.cast_view.specs.Home.{marked_leaving, with_suspect, changed_by, after_request};
+    ghost use Rattle.cast_view.specs.Home.{after_ask, after_suspicion, may_start, after_start};
+    ghost use Rattle.cast_view.specs.Home.{takes_report, after_reply, after_body, bodies_of};
+    ghost use Rattle.cast_view.specs.Home.{wants_in, may_decide, decided_list, decided_holder};
+    ghost use Rattle.cast_view.specs.Home.{decided_phase, decide_view, has_next_number};
+    ghost use Rattle.cast_view.specs.Home.{after_decision, takes_installed, after_installed};
 
     /// No view, nothing to change and no requests.
     pub fn new(alloc: Global) -> Self
@@ -121,10 +145,11 @@ impl HomeSide {
         }
     }
 
-    /// Takes in a site's request, and answers whether it is refused because the group is full, or `None` where it is not to
-    /// be answered. The request after the site's last one is applied: a join is refused where the next views would have
-    /// more than 64 members with it, and a request for a process of another site changes nothing. The last one is
-    /// answered again, and one before it as if it had been granted. `NoMemory` leaves the group of no further use, as in
+    /// Takes in a site's request, and answers whether it is refused because the group is full, or
+    /// `None` where it is not to be answered. The request after the site's last one is applied: a
+    /// join is refused where the next views would have more than 64 members with it, and a request
+    /// for a process of another site changes nothing. The last one is answered again, and one
+    /// before it as if it had been granted. `NoMemory` leaves the group of no further use, as in
     /// the next calls.
     pub fn ask(
         &mut self,
@@ -133,7 +158,8 @@ impl HomeSide {
         change: Change,
         process: Proc,
     ) -> Result<Option<bool>, NoMemory>
-        ensures answer { IfOk result (λ full. full ≡ answer_to self.old site number change process) }
+        ensures answer { IfOk result
+            (λ full. full ≡ answer_to self.old site number change process) }
         ensures new { OnOk result (self.new ≡ after_ask self.old site number change process) }
     {
         let last = self.last_answer(site);
@@ -166,7 +192,8 @@ impl HomeSide {
         Ok(full)
     }
 
-    // Whether a request is refused: a join of a process of the asking site for which there is no room.
+    // Whether a request is refused: a join of a process of the asking site for which there is no
+    // room.
     fn is_refused(&self, site: SiteNo, change: Change, process: Proc) -> Result<bool, NoMemory>
         ensures { IfOk result (λ full. full ≡ is_refused self.now site change process) }
     {
@@ -234,7 +261,8 @@ impl HomeSide {
     // A process for which there is room is to come.
     fn join(&mut self, process: Proc) -> Result<(), NoMemory>
         requires { is_crowded self.old process ≡ false }
-        ensures { OnOk result (self.new ≡ record self.old { joins = with_item proc_cmp process self.old.joins }) }
+        ensures { OnOk result
+            (self.new ≡ record self.old { joins = with_item proc_cmp process self.old.joins }) }
     {
         self.joins.insert(process)?;
         Ok(())
@@ -263,8 +291,8 @@ impl HomeSide {
         self.flush = flush;
     }
 
-    /// Takes in that a site is suspected: its members, where the view has some, do not come into the next one, and the
-    /// flush awaits nothing from it.
+    /// Takes in that a site is suspected: its members, where the view has some, do not come into
+    /// the next one, and the flush awaits nothing from it.
     pub fn suspect(&mut self, site: SiteNo) -> Result<(), NoMemory>
         ensures { OnOk result (self.new ≡ after_suspicion self.old site) }
     {
@@ -312,15 +340,16 @@ impl HomeSide {
         Ok(true)
     }
 
-    /// Whether a report of a site counts: it is the first one of this view, and the site is awaited. Takes no memory.
+    /// Whether a report of a site counts: it is the first one of this view, and the site is
+    /// awaited. Takes no memory.
     pub fn takes_report(&self, site: SiteNo, view: u32) -> bool
         ensures { result ≡ takes_report self.now site view }
     {
         view == self.number && self.phase().awaits_report(site)
     }
 
-    /// Takes in what a site reports of a view, and answers whether it counts: it is the first report of this view from a
-    /// site that is awaited.
+    /// Takes in what a site reports of a view, and answers whether it counts: it is the first
+    /// report of this view from a site that is awaited.
     pub fn reply(&mut self, site: SiteNo, view: u32, report: Report) -> Result<bool, NoMemory>
         ensures value { IfOk result (λ taken. taken ≡ takes_report self.old site view) }
         ensures new { OnOk result (self.new ≡ after_reply self.old site view report) }
@@ -334,8 +363,8 @@ impl HomeSide {
         Ok(true)
     }
 
-    /// The messages that some of the sites lack, once all have reported: the first 64, each a process and a count, with
-    /// the least site that has it.
+    /// The messages that some of the sites lack, once all have reported: the first 64, each a
+    /// process and a count, with the least site that has it.
     pub fn wants(&self, group: GroupNo) -> Result<List<(SiteNo, (Proc, u32))>, NoMemory>
         ensures { IfOk result (λ wants. wants ≡ wants_in group self.now self.now.phase) }
     {
@@ -356,8 +385,9 @@ impl HomeSide {
         }
     }
 
-    /// Reckons what some of the sites lack, where all have reported and it was not reckoned yet. `wants` and `may_decide` need not
-    /// reckon it then, until a report comes or a site is suspected.
+    /// Reckons what some of the sites lack, where all have reported and it was not reckoned yet.
+    /// `wants` and `may_decide` need not reckon it then, until a report comes or a site is
+    /// suspected.
     pub fn reckon(&mut self, group: GroupNo) -> Result<(), NoMemory>
         ensures { self.new ≡ self.old }
     {
@@ -366,7 +396,8 @@ impl HomeSide {
 
     // What was reckoned to be lacking. Takes no memory.
     fn lacking(&self, group: GroupNo) -> Option<&[(Proc, u32)]>
-        ensures { IfSome result (λ ids. ids.now ≡ lacking_in group self.now.number self.now.members.list self.now.phase) }
+        ensures { IfSome result (λ ids.
+            ids.now ≡ lacking_in group self.now.number self.now.members.list self.now.phase) }
     {
         self.flush.lacking(group, self.number, self.members.list())
     }
@@ -378,7 +409,8 @@ impl HomeSide {
         reports: &[(SiteNo, Report)],
         bodies: &[Message],
     ) -> Result<Vec<(Proc, u32)>, NoMemory>
-        ensures { IfOk result (λ l. l.items ≡ wanting group self.now.number (cut_from self.now.members.list reports.now) reports.now bodies.now) }
+        ensures { IfOk result (λ l. l.items ≡ wanting group self.now.number
+            (cut_from self.now.members.list reports.now) reports.now bodies.now) }
     {
         let alloc = self.joins.alloc();
         let cut = cut_from(alloc, self.members.list(), reports)?;
@@ -415,9 +447,10 @@ impl HomeSide {
         }
     }
 
-    /// Decides the next view, once all sites have reported and no message is wanted, and answers whether it did. Members
-    /// are those that stay, and the joins that are not at suspected sites, which stay for the view after it. The holder
-    /// stays if it was not leaving and is still a member; else it is the least member.
+    /// Decides the next view, once all sites have reported and no message is wanted, and answers
+    /// whether it did. Members are those that stay, and the joins that are not at suspected sites,
+    /// which stay for the view after it. The holder stays if it was not leaving and is still a
+    /// member; else it is the least member.
     pub fn decide(&mut self, group: GroupNo) -> Result<bool, NoMemory>
         ensures value { IfOk result (λ decided. decided ≡ may_decide group self.old) }
         ensures new { OnOk result (self.new ≡ after_decision group self.old) }
@@ -433,7 +466,8 @@ impl HomeSide {
         Ok(true)
     }
 
-    // Passes to the next view, which has this list of members, in the phase as it is. Takes no memory.
+    // Passes to the next view, which has this list of members, in the phase as it is. Takes no
+    // memory.
     fn pass_to(&mut self, list: Procs)
         requires number { self.old.number < MAX_NUMBER }
         requires list { list ≡ decided_list self.old }
@@ -485,7 +519,8 @@ impl HomeSide {
         }
     }
 
-    // The phase after the decision: the sites of the next view, and those that were awaited, are to install it.
+    // The phase after the decision: the sites of the next view, and those that were awaited, are to
+    // install it.
     fn decided_phase(&self, phase: Phase, list: &[Proc]) -> Result<Phase, NoMemory>
         ensures { IfOk result (λ p. p ≡ decided_phase self.now list.now phase) }
     {
@@ -520,7 +555,8 @@ impl HomeSide {
         number == self.number && self.phase().awaits_installed(site)
     }
 
-    /// Takes in that a site has installed a view, and answers whether that was awaited. Takes no memory.
+    /// Takes in that a site has installed a view, and answers whether that was awaited. Takes no
+    /// memory.
     pub fn note_installed(&mut self, site: SiteNo, number: u32) -> bool
         ensures value { result ≡ takes_installed self.old site number }
         ensures new { self.new ≡ after_installed self.old site number }

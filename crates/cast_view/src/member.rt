@@ -21,8 +21,8 @@ pub struct PendingRequest {
     pub proc: Proc,
 }
 
-/// The Install of the next view, while it waits. The order that the view ends with is no part of it: the log of that order
-/// is closed when the Install comes.
+/// The Install of the next view, while it waits. The order that the view ends with is no part of
+/// it: the log of that order is closed when the Install comes.
 #[derive(Drop)]
 pub struct Pending {
     /// The members of the next view, and its holder.
@@ -61,8 +61,8 @@ pub enum Verdict {
     Ignored,
 }
 
-/// A group at one site: the last view that the site knows of, how far a flush of it has come here, and the requests of the
-/// site's processes. Contracts see the record of that name in `specs/`.
+/// A group at one site: the last view that the site knows of, how far a flush of it has come here,
+/// and the requests of the site's processes. Contracts see the record of that name in `specs/`.
 #[derive(Drop)]
 pub struct MemberSide {
     number: u32,
@@ -79,15 +79,35 @@ impl Model for MemberSide {
 
     ghost Value = { MemberSide };
 
-    ghost view = { λ g. record { number = g.number; view = g.view; frozen = g.frozen; pending = g.pending; asked = g.asked; requests = g.requests } };
+    ghost view = { λ g. record {
+      number = g.number;
+      view = g.view;
+      frozen = g.frozen;
+      pending = g.pending;
+      asked = g.asked;
+      requests = g.requests;
+    } };
 
-    ghost invariant = { λ g. IsTrue (is_sound (record { number = g.number; view = g.view; frozen = g.frozen; pending = g.pending; asked = g.asked; requests = g.requests })) };
+    ghost invariant = { λ g. IsTrue (is_sound
+        (record {
+          number = g.number;
+          view = g.view;
+          frozen = g.frozen;
+          pending = g.pending;
+          asked = g.asked;
+          requests = g.requests;
+        })) };
 }
 
 impl MemberSide {
     ghost use Rattle.std.specs.Prelude.{IfSome};
     ghost use Rattle.cast_types.specs.declared.limits.TheConstants.{MAX_NUMBER};
-    ghost use Rattle.cast_view.specs.MemberSide.{no_group, members_of, holder_of, is_process, holder_at, is_current, is_open_to, is_pending, with_request, first_asking, with_answer, are_numbered_to, answers_prepare, after_prepare, report_of, verdict_of, after_install, with_end, with_view, is_put_out_by, after_out};
+    ghost use Rattle.cast_view.specs.MemberSide.{no_group, members_of, holder_of, is_process};
+    ghost use Rattle.cast_view.specs.MemberSide.{holder_at, is_current, is_open_to, is_pending};
+    ghost use Rattle.cast_view.specs.MemberSide.{with_request, first_asking, with_answer};
+    ghost use Rattle.cast_view.specs.MemberSide.{are_numbered_to, answers_prepare, after_prepare};
+    ghost use Rattle.cast_view.specs.MemberSide.{report_of, verdict_of, after_install, with_end};
+    ghost use Rattle.cast_view.specs.MemberSide.{with_view, is_put_out_by, after_out};
 
     /// A group of which the site knows no view.
     pub fn new(alloc: Global) -> Self
@@ -210,8 +230,8 @@ impl MemberSide {
         self.asked
     }
 
-    /// The requests that the home has not answered, in order. The first alone has been sent. They are numbered without a
-    /// gap.
+    /// The requests that the home has not answered, in order. The first alone has been sent. They
+    /// are numbered without a gap.
     pub fn requests(&self) -> &[PendingRequest]
         ensures value { result.now ≡ self.now.requests }
         ensures numbered { IsTrue (are_numbered_to self.now.asked self.now.requests) }
@@ -255,7 +275,8 @@ impl MemberSide {
         self.requests = List::from_vec(requests);
     }
 
-    /// Whether the home is to be told what the site has of a view: it is the site's view, and no Install waits.
+    /// Whether the home is to be told what the site has of a view: it is the site's view, and no
+    /// Install waits.
     pub fn answers_prepare(&self, view: u32) -> bool
         ensures { result ≡ answers_prepare self.now view }
     {
@@ -269,8 +290,9 @@ impl MemberSide {
         self.pending.is_some()
     }
 
-    /// Takes in that the home asks what the site has of a view, and answers whether it is to be told: it is the site's view,
-    /// and no Install waits. Then the group is frozen from now on; else nothing changes. Takes no memory.
+    /// Takes in that the home asks what the site has of a view, and answers whether it is to be
+    /// told: it is the site's view, and no Install waits. Then the group is frozen from now on;
+    /// else nothing changes. Takes no memory.
     pub fn prepare(&mut self, view: u32) -> bool
         ensures value { result ≡ answers_prepare self.old view }
         ensures new { self.new ≡ after_prepare self.old view }
@@ -282,8 +304,10 @@ impl MemberSide {
         answers
     }
 
-    /// What the home is told of the view: for each member the greatest count of what processes here had, where that is not
-    /// 0. The caller lends the counts that each process of the site, also one that left, delivered of the view, and those
+    /// What the home is told of the view: for each member the greatest count of what processes here
+    /// had, where that is not
+    /// 0. The caller lends the counts that each process of the site, also one that left, delivered
+    ///    of the view, and those
     /// that it sent, in any order; the end of the view's order; and the messages kept of it.
     pub fn flush_report(
         &self,
@@ -314,8 +338,8 @@ impl MemberSide {
         }
     }
 
-    /// Takes in an Install, and answers what the site does with it. Where it is to wait, it waits from now on, and the group
-    /// is frozen; else nothing changes. `NoMemory` changes nothing.
+    /// Takes in an Install, and answers what the site does with it. Where it is to wait, it waits
+    /// from now on, and the group is frozen; else nothing changes. `NoMemory` changes nothing.
     pub fn install(
         &mut self,
         number: u32,
@@ -324,7 +348,8 @@ impl MemberSide {
         cut: &Counts,
     ) -> Result<Verdict, NoMemory>
         ensures value { IfOk result (λ verdict. verdict ≡ verdict_of self.old number) }
-        ensures new { OnOk result (self.new ≡ after_install self.old number (record { members = members.now; request = request; cut = cut.now })) }
+        ensures new { OnOk result (self.new ≡ after_install self.old number
+            (record { members = members.now; request = request; cut = cut.now })) }
         ensures err { OnErr result (self.new ≡ self.old) }
     {
         let verdict = self.verdict(number);
@@ -340,8 +365,8 @@ impl MemberSide {
         Ok(verdict)
     }
 
-    /// Completes an Install: the site keeps its view where a member is here. No Install waits, and nothing is frozen.
-    /// `NoMemory` changes nothing.
+    /// Completes an Install: the site keeps its view where a member is here. No Install waits, and
+    /// nothing is frozen. `NoMemory` changes nothing.
     pub fn complete(
         &mut self,
         here: SiteNo,
@@ -356,8 +381,9 @@ impl MemberSide {
         Ok(())
     }
 
-    /// Takes in that a view of this number has no member here, and answers whether that counts: the site has not reached the
-    /// number. Then it has reached it, and has no view; else nothing changes. Takes no memory.
+    /// Takes in that a view of this number has no member here, and answers whether that counts: the
+    /// site has not reached the number. Then it has reached it, and has no view; else nothing
+    /// changes. Takes no memory.
     pub fn note_outside(&mut self, number: u32) -> bool
         ensures value { result ≡ is_put_out_by self.old number }
         ensures new { self.new ≡ after_out self.old number }
@@ -380,7 +406,8 @@ impl MemberSide {
     }
 }
 
-/// Whether a process that a view names is taken in: it is a member, or joins by a request that the home had applied.
+/// Whether a process that a view names is taken in: it is a member, or joins by a request that the
+/// home had applied.
 pub fn is_taken_in(standing: Standing, request: u32) -> bool
     ensures { result ≡ is_taken_in request standing }
 {
@@ -407,7 +434,8 @@ fn greatest_of(had: &[(Proc, u32)], process: Proc) -> u32
     greatest
 }
 
-// For each of these members, who rise and are at most 64, the greatest of its counts, where that is not 0.
+// For each of these members, who rise and are at most 64, the greatest of its counts, where that is
+// not 0.
 fn greatest_counts(alloc: Global, members: &[Proc], had: &[(Proc, u32)]) -> Result<Counts, NoMemory>
     requires rising { IsTrue (is_rising proc_cmp members.now) }
     requires few { length members.now ≤ 64 }

@@ -2,7 +2,9 @@ ghost use Rattle.std.specs.Prelude.{◌≡◌, ◌++◌, ◌∷◌, [], not, fil
 ghost use Rattle.cast_types.specs.Names.{site_eq, site_cmp};
 ghost use Rattle.cast_types.specs.Sets.{is_among, without};
 ghost use Rattle.std.specs.FinMap.Entries.{put};
-ghost use Rattle.cast_view.specs.Home.{answer_in, awaited_of, waiting_of, is_idle, installing, phase_without, awaits_report, phase_with_report, phase_with_body, awaits_installed};
+ghost use Rattle.cast_view.specs.Home.{answer_in, awaited_of, waiting_of, is_idle};
+ghost use Rattle.cast_view.specs.Home.{installing, phase_without, awaits_report};
+ghost use Rattle.cast_view.specs.Home.{phase_with_report, phase_with_body, awaits_installed};
 
 use crate::sites::{is_among, sites_without};
 use cast_flush::{Report, has_report};
@@ -19,7 +21,8 @@ pub struct Answer {
     pub full: bool,
 }
 
-/// The last request of a site among answers that stand in rising order of their sites, number 0 where there is none.
+/// The last request of a site among answers that stand in rising order of their sites, number 0
+/// where there is none.
 pub(crate) fn answer_in(answers: &[(SiteNo, Answer)], site: SiteNo) -> Answer
     ensures { result ≡ answer_in answers.now site }
 {
@@ -136,7 +139,8 @@ impl Phase {
         }
     }
 
-    /// The sites that are still to install the view that is decided, in rising order; none where none is.
+    /// The sites that are still to install the view that is decided, in rising order; none where
+    /// none is.
     pub fn sites_to_install(&self) -> &[SiteNo]
         ensures { result.now ≡ waiting_of self.now }
     {

@@ -70,7 +70,14 @@ enters g (Entered h n cut) = elim (cases_Bool (group_eq h g)) [
 pub first_entry : (g : GroupNo) (b : List Act) → FirstEntry g b ⊎ NeverEntered g b
 first_entry g [] = inr (λ n cut at. absurd (omega (arith, at.1)))
 first_entry g (x ∷ b) = elim (enters g x) [
-  | does n cut e ↦ inl record { number = n; cut = cut; before = []; later = b; is = ap (λ y. y ∷ b) e; first = λ k c at. absurd (omega (arith, at.1)) }
+  | does n cut e ↦ inl record {
+    number = n;
+    cut = cut;
+    before = [];
+    later = b;
+    is = ap (λ y. y ∷ b) e;
+    first = λ k c at. absurd (omega (arith, at.1));
+  }
   | does_not never ↦ elim (first_entry g b) [
     | inl f ↦ inl record {
       number = f.number;
@@ -94,13 +101,15 @@ is_sending (Left g) = false
 
 sent_before : (acts : List Act) (y : Act) (m : Message) → is_sending y ≡ false → Contains (acts ++ y ∷ []) (Sent m) → Contains acts (Sent m)
 unfolding is_sending
-sent_before acts y m other at = elim (Contains-push_cases acts y (Sent m) at) [ inl old ↦ old | inr new ↦ absurd (true≢false (sym (ap is_sending new) ∙ other)) ]
+sent_before acts y m other at =
+    elim (Contains-push_cases acts y (Sent m) at) [ inl old ↦ old | inr new ↦ absurd (true≢false (sym (ap is_sending new) ∙ other)) ]
 
 pub sent_delivered : (acts : List Act) (x m : Message) → Contains (acts ++ Delivered x ∷ []) (Sent m) → Contains acts (Sent m)
 unfolding is_sending
 sent_delivered acts x m at = sent_before acts (Delivered x) m refl at
 
-pub sent_entered : (acts : List Act) (g : GroupNo) (n : ℕ) (cut : CountList) (m : Message) → Contains (acts ++ Entered g n cut ∷ []) (Sent m) → Contains acts (Sent m)
+pub sent_entered : (acts : List Act) (g : GroupNo) (n : ℕ) (cut : CountList) (m : Message) →
+    Contains (acts ++ Entered g n cut ∷ []) (Sent m) → Contains acts (Sent m)
 unfolding is_sending
 sent_entered acts g n cut m at = sent_before acts (Entered g n cut) m refl at
 

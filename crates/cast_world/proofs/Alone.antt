@@ -16,7 +16,8 @@ use Rattle.cast_events.specs.declared.log.Fault.TheVariants.{Halted, NoDomain}
 use Rattle.cast_types.specs.declared.names.DomainNo.{DomainNo}
 use Rattle.cast_types.specs.declared.names.SiteNo.{SiteNo}
 use Rattle.cast_types.specs.declared.refusal.Refusal.TheVariants as refusal
-use Rattle.cast_table.specs.Tables.{AreTurns, IsApplied, IsAppliedAt, IsAppliedTo, IsNew, IsTaken, IsTicked, IsTurn, IsTurnAt, Lent, answer_in_turn, domain_eq, halted_by, part_in, place_named, halted_in_turn}
+use Rattle.cast_table.specs.Tables.{AreTurns, IsApplied, IsAppliedAt, IsAppliedTo, IsNew, IsTaken, IsTicked, IsTurn, IsTurnAt}
+use Rattle.cast_table.specs.Tables.{Lent, answer_in_turn, domain_eq, halted_by, part_in, place_named, halted_in_turn}
 use Rattle.cast_world.specs.Network.{names}
 
 -- the only domain of a table made its step, and runs on
@@ -42,20 +43,24 @@ number_alone d others number alone = some_is (number_of d) number (ap head alone
 -- the domain that the event names stands first
 first_alone : (d : DomainNo) (o : Domain) (others : List Domain) → (d.0 == (number_of o).0) ≡ true → place_named d (o ∷ others) ≡ Some 0
 first_alone d o others named =
-    ap (λ b. cond b (Some 0) (position_from (λ x. domain_eq (number_of x) d) 1 others)) (eq-eqb (number_of o).0 d.0 (sym (eqb-true d.0 (number_of o).0 named)))
+    ap (λ b. cond b (Some 0) (position_from (λ x. domain_eq (number_of x) d) 1 others))
+    (eq-eqb (number_of o).0 d.0 (sym (eqb-true d.0 (number_of o).0 named)))
 
 -- so there is one
-pub never_nowhere : (e : Event) (number : DomainNo) (olds news : List Domain) (before after : Lent) → map number_of olds ≡ number ∷ [] → names number e ≡ true → IsApplied (Err NoDomain) e olds news before after → ⊥
+pub never_nowhere : (e : Event) (number : DomainNo) (olds news : List Domain) (before after : Lent) → map number_of olds ≡ number ∷ [] →
+    names number e ≡ true → IsApplied (Err NoDomain) e olds news before after → ⊥
 never_nowhere e number [] news before after alone named applied = none_alone alone
   where
     none_alone : [] ≡ number ∷ [] → ⊥
     none_alone alone = cc
 never_nowhere e number (o ∷ others) news before after alone named applied = go (domain_of e) named applied
   where
-    go : (o' : Option DomainNo) → option_map_or (λ d. d.0 == number.0) o' true ≡ true → IsAppliedTo o' (Err NoDomain) e (o ∷ others) news before after → ⊥
+    go : (o' : Option DomainNo) → option_map_or (λ d. d.0 == number.0) o' true ≡ true →
+        IsAppliedTo o' (Err NoDomain) e (o ∷ others) news before after → ⊥
     go None own ticked = ticked
     go (Some d) own at =
-        let here : place_named d (o ∷ others) ≡ Some 0 = first_alone d o others (ap (λ n. d.0 == n.0) (number_alone o others number alone) ∙ own) in
+        let here : place_named d (o ∷ others) ≡ Some 0 =
+        first_alone d o others (ap (λ n. d.0 == n.0) (number_alone o others number alone) ∙ own) in
         (subst (λ place. IsAppliedAt place (Err NoDomain) e (o ∷ others) news before after) here at).turn
 
 -- Its step
@@ -70,7 +75,8 @@ module _ (e : Event) (taken : Taken) (old : Domain) (running : is_halted old ≡
       (took at.next (subst (λ d. IsTaken d e taken at.next before after) (sym (some_is old at.domain at.stands)) at.turn))
 
   -- at a tick; a domain that it halts is told of
-  took_turn : (new : Domain) → taken ≡ Nothing → halted_in_turn (old ∷ []) (new ∷ []) ≡ [] → AreTurns e (old ∷ []) (new ∷ []) before after → StepsAlone e taken old (new ∷ []) before after
+  took_turn : (new : Domain) → taken ≡ Nothing → halted_in_turn (old ∷ []) (new ∷ []) ≡ [] → AreTurns e (old ∷ []) (new ∷ []) before after →
+      StepsAlone e taken old (new ∷ []) before after
   took_turn new nothing none turns = go (is_halted new) refl
     where
       answers : (b : Bool) → is_halted new ≡ b → answer_in_turn old new ≡ cond b (Err (Halted (number_of old))) (Ok Nothing)
@@ -82,18 +88,22 @@ module _ (e : Event) (taken : Taken) (old : Domain) (running : is_halted old ≡
       go : (b : Bool) → is_halted new ≡ b → StepsAlone e taken old (new ∷ []) before after
       go true halts = absurd (one_is_none (sym (ap (λ a. halted_by a ++ []) (answers true halts)) ∙ none))
       go false runs =
-          let turn : IsTaken old e Nothing new before turns.0 = subst (λ a. IsTurn a e old new before turns.0) (answers false runs) turns.1 in
-          took new (subst (λ t. IsTaken old e t new before after) (sym nothing) (subst (λ l. IsTaken old e Nothing new before l) (sym turns.2) turn))
+          let turn : IsTaken old e Nothing new before turns.0 =
+          subst (λ a. IsTurn a e old new before turns.0) (answers false runs) turns.1 in
+          took new
+          (subst (λ t. IsTaken old e t new before after) (sym nothing) (subst (λ l. IsTaken old e Nothing new before l) (sym turns.2) turn))
 
   took_tick : (news : List Domain) → IsTicked (Ok taken) e (old ∷ []) news before after → StepsAlone e taken old news before after
   took_tick [] ticked = absurd ticked.2
   took_tick (new ∷ []) ticked = took_turn new ticked.0 ticked.1 ticked.2
   took_tick (new ∷ n ∷ news) ticked = absurd ticked.2.2
 
-  pub steps_alone : (news : List Domain) → names (number_of old) e ≡ true → IsApplied (Ok taken) e (old ∷ []) news before after → StepsAlone e taken old news before after
+  pub steps_alone : (news : List Domain) → names (number_of old) e ≡ true → IsApplied (Ok taken) e (old ∷ []) news before after →
+      StepsAlone e taken old news before after
   steps_alone news named applied = go (domain_of e) named applied
     where
-      go : (o : Option DomainNo) → option_map_or (λ d. d.0 == (number_of old).0) o true ≡ true → IsAppliedTo o (Ok taken) e (old ∷ []) news before after → StepsAlone e taken old news before after
+      go : (o : Option DomainNo) → option_map_or (λ d. d.0 == (number_of old).0) o true ≡ true →
+          IsAppliedTo o (Ok taken) e (old ∷ []) news before after → StepsAlone e taken old news before after
       go None own ticked = took_tick news ticked
       go (Some d) own at =
           took_there news (subst (λ place. IsAppliedAt place (Ok taken) e (old ∷ []) news before after) (first_alone d old [] own) at)
@@ -105,7 +115,8 @@ pub record BeginsAlone (here : SiteNo) (config : DomainConfig) (domains : List D
   pub served : domains ≡ domain ∷ []
   pub new : IsNew here config domain
 
-pub begins_alone : (here : SiteNo) (config : DomainConfig) (domains : List Domain) → AllZip (IsNew here) (config ∷ []) domains → BeginsAlone here config domains
+pub begins_alone : (here : SiteNo) (config : DomainConfig) (domains : List Domain) → AllZip (IsNew here) (config ∷ []) domains →
+    BeginsAlone here config domains
 begins_alone here config [] new = absurd new
 begins_alone here config (d ∷ []) new = record { domain = d; served = refl; new = new.0 }
 begins_alone here config (d ∷ x ∷ others) new = absurd new.1

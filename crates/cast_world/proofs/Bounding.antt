@@ -10,7 +10,8 @@ use Rattle.std.proofs.lemmas.Bool.{and_from, eq-eqb, eqb-true, false_from_ne_tru
 use Rattle.std.proofs.lemmas.List.Elements.{Contains-push_cases, filter-append}
 use Rattle.std.proofs.lemmas.List.{length-append}
 use Rattle.std.specs.List.{AllByRecursion}
-use Rattle.std.specs.Prelude.{◌&&◌, ◌*◌, ◌+◌, ◌++◌, ◌<◌, ◌==◌, ◌||◌, Bool, Contains, List, None, Option, Some, [], cond, false, filter, if◌then◌else◌, length, nat_lt, not, refl, true, ℕ, ◌∷◌, ◌≡◌, ◌≤◌, ◌⊎◌}
+use Rattle.std.specs.Prelude.{◌&&◌, ◌*◌, ◌+◌, ◌++◌, ◌<◌, ◌==◌, ◌||◌, Bool, Contains, List, None, Option, Some, [], cond}
+use Rattle.std.specs.Prelude.{false, filter, if◌then◌else◌, length, nat_lt, not, refl, true, ℕ, ◌∷◌, ◌≡◌, ◌≤◌, ◌⊎◌}
 use Rattle.cast_ready.specs.Ready.{covered_entries}
 use Rattle.cast_order.proofs.Told.{order_in_words}
 use Rattle.cast_rules.specs.Effects.{next_message}
@@ -55,7 +56,8 @@ use Rattle.cast_view.specs.declared.member.Pending.{Pending}
 use Rattle.cast_world.proofs.Allowed.{contains_more, passed}
 use Rattle.cast_world.proofs.Events.{Any, SetsWell, any_came, event_keeps_fully, rests_keeps_fully}
 use Rattle.cast_world.proofs.Homes.{among_kept, item_was}
-use Rattle.cast_world.proofs.Kept.{Comes, FullyKept, FullyKeptByTelling, IsOwed, MayReceive, Wants, WantsAt, WantsOf, completes, ends, fits, installs, skips, wanted}
+use Rattle.cast_world.proofs.Kept.{Comes, FullyKept, FullyKeptByTelling, IsOwed, MayReceive, Wants}
+use Rattle.cast_world.proofs.Kept.{WantsAt, WantsOf, completes, ends, fits, installs, skips, wanted}
 use Rattle.cast_world.proofs.Laters.{set_group_all}
 use Rattle.cast_world.proofs.Local.{cases_group}
 use Rattle.cast_world.proofs.Ones.{set_here, set_other}
@@ -72,27 +74,36 @@ filter_all p (x ∷ xs) = go (p x) (filter_all p xs)
     go false less = omega (arith, less)
 
 -- where each item of a list that passes one test passes another
-filter_less : {A : Type 0} (p q : A → Bool) (xs : List A) → ((x : A) → Contains xs x → p x ≡ true → q x ≡ true) → length (filter p xs) ≤ length (filter q xs)
+filter_less : {A : Type 0} (p q : A → Bool) (xs : List A) → ((x : A) → Contains xs x → p x ≡ true → q x ≡ true) →
+    length (filter p xs) ≤ length (filter q xs)
 filter_less p q [] more = omega arith
-filter_less {A} p q (x ∷ xs) more = go (p x) (q x) (more x (0, omega arith, refl)) (filter_less p q xs (λ y at. more y (contains_more x xs y at)))
+filter_less {A} p q (x ∷ xs) more =
+    go (p x) (q x) (more x (0, omega arith, refl)) (filter_less p q xs (λ y at. more y (contains_more x xs y at)))
   where
-    go : (b c : Bool) → (b ≡ true → c ≡ true) → length (filter p xs) ≤ length (filter q xs) → length (cond b (x ∷ filter p xs) (filter p xs)) ≤ length (cond c (x ∷ filter q xs) (filter q xs))
+    go : (b c : Bool) → (b ≡ true → c ≡ true) → length (filter p xs) ≤ length (filter q xs) →
+        length (cond b (x ∷ filter p xs) (filter p xs)) ≤ length (cond c (x ∷ filter q xs) (filter q xs))
     go true true one less = omega (arith, less)
     go true false one less = absurd (false≢true (one refl))
     go false true one less = omega (arith, less)
     go false false one less = less
 
 -- where what passes two tests passes a third
-pub both_less : {A : Type 0} (p q r : A → Bool) → ((x : A) → q x ≡ true → p x ≡ true → r x ≡ true) → (xs : List A) → length (filter p (filter q xs)) ≤ length (filter r xs)
+pub both_less : {A : Type 0} (p q r : A → Bool) → ((x : A) → q x ≡ true → p x ≡ true → r x ≡ true) → (xs : List A) →
+    length (filter p (filter q xs)) ≤ length (filter r xs)
 both_less p q r more [] = omega arith
 both_less {A} p q r more (x ∷ xs) = go (q x) (p x) (r x) refl refl refl (both_less p q r more xs)
   where
     go : (b c d : Bool) → q x ≡ b → p x ≡ c → r x ≡ d → length (filter p (filter q xs)) ≤ length (filter r xs) →
         length (filter p (cond b (x ∷ filter q xs) (filter q xs))) ≤ length (cond d (x ∷ filter r xs) (filter r xs))
-    go true true true eb ec ed less = subst (λ z. length (cond z (x ∷ filter p (filter q xs)) (filter p (filter q xs))) ≤ length (x ∷ filter r xs)) (sym ec) (omega (arith, less))
+    go true true true eb ec ed less =
+        subst (λ z. length (cond z (x ∷ filter p (filter q xs)) (filter p (filter q xs))) ≤ length (x ∷ filter r xs)) (sym ec)
+        (omega (arith, less))
     go true true false eb ec ed less = absurd (false≢true (sym ed ∙ more x eb ec))
-    go true false true eb ec ed less = subst (λ z. length (cond z (x ∷ filter p (filter q xs)) (filter p (filter q xs))) ≤ length (x ∷ filter r xs)) (sym ec) (omega (arith, less))
-    go true false false eb ec ed less = subst (λ z. length (cond z (x ∷ filter p (filter q xs)) (filter p (filter q xs))) ≤ length (filter r xs)) (sym ec) less
+    go true false true eb ec ed less =
+        subst (λ z. length (cond z (x ∷ filter p (filter q xs)) (filter p (filter q xs))) ≤ length (x ∷ filter r xs)) (sym ec)
+        (omega (arith, less))
+    go true false false eb ec ed less =
+        subst (λ z. length (cond z (x ∷ filter p (filter q xs)) (filter p (filter q xs))) ≤ length (filter r xs)) (sym ec) less
     go false c true eb ec ed less = omega (arith, less)
     go false c false eb ec ed less = less
 
@@ -113,14 +124,16 @@ pub found_owed : (owed : List Owed) (key : OwedKey) → is_owed owed key ≡ tru
 found_owed [] key e = absurd (false≢true e)
 found_owed (y ∷ owed) key e = go (key_eq y.key key) refl (found_owed owed key)
   where
-    go : (b : Bool) → key_eq y.key key ≡ b → (is_owed owed key ≡ true → (z : Owed) × Contains owed z × (z.key ≡ key)) → (z : Owed) × Contains (y ∷ owed) z × (z.key ≡ key)
+    go : (b : Bool) → key_eq y.key key ≡ b → (is_owed owed key ≡ true → (z : Owed) × Contains owed z × (z.key ≡ key)) →
+        (z : Owed) × Contains (y ∷ owed) z × (z.key ≡ key)
     go true same more = (y, (0, omega arith, refl), same_key y.key key same)
     go false other more =
         let r = more (subst (λ b. (b || is_owed owed key) ≡ true) other e) in
         (r.0, contains_more y owed r.0 r.1, r.2)
 
 -- a site passes to a view of a greater number
-pub number_up : (Came : SiteNo → SiteFrame → Type 0) (s : State) (g : GroupNo) (skipped : Bool) (n : ℕ) (members : Membership) (request : ℕ) (cut : CountList) → Comes Came s g skipped n members request cut →
+pub number_up : (Came : SiteNo → SiteFrame → Type 0) (s : State) (g : GroupNo) (skipped : Bool) (n : ℕ) (members : Membership) (request : ℕ)
+    (cut : CountList) → Comes Came s g skipped n members request cut →
     (s.group g).number < n
 number_up Came s g skipped n members request cut (completes p waits has unskipped is ms rq ct) = omega (arith, is)
 number_up Came s g skipped n members request cut (installs from tail came none unskipped up) = up
@@ -131,12 +144,18 @@ number_up Came s g skipped n members request cut (ends from came is up ms) = up
 pub covers_waits : (group : MemberSide) (u : Uid) → covers group u ≡ true → is_pending group ≡ true
 covers_waits group u = go group.pending
   where
-    go : (o : Option Pending) → (elim o as (λ p. Bool) [ Some p ↦ (u.view == group.number) && is_among entry_eq (entry_of u) (covered_entries p.cut) | None ↦ false ]) ≡ true →
+    go : (o : Option Pending) →
+        (elim o as (λ p. Bool) [
+          | Some p ↦ (u.view == group.number) && is_among entry_eq (entry_of u) (covered_entries p.cut)
+          | None ↦
+              false
+        ]) ≡ true →
         (elim o as (λ p. Bool) [ Some p ↦ true | None ↦ false ]) ≡ true
     go (Some p) e = refl
     go None e = e
 
--- What holds at every moment. While the site passes to a view of a group, messages of the view before are still kept, and frames about it owed
+-- What holds at every moment. While the site passes to a view of a group, messages of the view before are still kept, and frames about it
+-- owed
 
 abbrev over : Option GroupNo → (GroupNo → MemberSide) → Uid → Bool
 over None group u = false
@@ -150,7 +169,8 @@ past (Some g) key = is_of_view g key
 abbrev is_loose : Option GroupNo → (GroupNo → MemberSide) → Message → Bool
 is_loose o group m = not (over o group m.id || covers (group m.id.group) m.id)
 
-record Bounded (most : ℕ) (home_here : Bool) (o : Option GroupNo) (here : SiteNo) (config : DomainConfig) (quotas : Quotas) (group : GroupNo → MemberSide) (kept : List Message) (owed : List Owed) : Type 0 where
+record Bounded (most : ℕ) (home_here : Bool) (o : Option GroupNo) (here : SiteNo) (config : DomainConfig) (quotas : Quotas)
+    (group : GroupNo → MemberSide) (kept : List Message) (owed : List Owed) : Type 0 where
   few : length (filter (is_loose o group) kept) ≤ 2 * most
   current : (m : Message) → Contains kept m → (over o group m.id ≡ true) ⊎ (m.id.view ≡ (group m.id.group).number)
   wants : (x : Owed) → Contains owed x → (past o x.key ≡ true) ⊎ WantsOf group x.key x.key.kind
@@ -163,11 +183,13 @@ module _ (most : ℕ) (home_here : Bool) where
 
   -- Groups that change, but for their numbers, and cover no less
 
-  same_over : (o : Option GroupNo) (a b : GroupNo → MemberSide) → ((h : GroupNo) → (b h).number ≡ (a h).number) → (u : Uid) → over o b u ≡ over o a u
+  same_over : (o : Option GroupNo) (a b : GroupNo → MemberSide) → ((h : GroupNo) → (b h).number ≡ (a h).number) → (u : Uid) →
+      over o b u ≡ over o a u
   same_over None a b same u = refl
   same_over (Some g) a b same u = ap (λ n. group_eq u.group g && nat_lt u.view n) (same g)
 
-  still_wants : (a b : GroupNo → MemberSide) → ((h : GroupNo) → (b h).number ≡ (a h).number) → ((u : Uid) → covers (a u.group) u ≡ true → covers (b u.group) u ≡ true) → (key : OwedKey) (kind : OwedKind) →
+  still_wants : (a b : GroupNo → MemberSide) → ((h : GroupNo) → (b h).number ≡ (a h).number) →
+      ((u : Uid) → covers (a u.group) u ≡ true → covers (b u.group) u ≡ true) → (key : OwedKey) (kind : OwedKind) →
       WantsOf a key kind → WantsOf b key kind
   still_wants a b same more key kinds.Ask w = tt
   still_wants a b same more key kinds.Data w = tt
@@ -188,12 +210,14 @@ module _ (most : ℕ) (home_here : Bool) where
   loose_before false true false true same more loose = loose
   loose_before false true false false same more loose = absurd (false≢true (more refl))
 
-  groups_bounded : (o : Option GroupNo) (s : State) (b : GroupNo → MemberSide) → ((h : GroupNo) → (b h).number ≡ (s.group h).number) → ((u : Uid) → covers (s.group u.group) u ≡ true → covers (b u.group) u ≡ true) →
+  groups_bounded : (o : Option GroupNo) (s : State) (b : GroupNo → MemberSide) → ((h : GroupNo) → (b h).number ≡ (s.group h).number) →
+      ((u : Uid) → covers (s.group u.group) u ≡ true → covers (b u.group) u ≡ true) →
       At o s → At o (record s { group = b })
   groups_bounded o s b same more x = record {
     few = (
         let less = filter_less (is_loose o b) (is_loose o s.group) s.kept (λ m at loose.
-        loose_before (over o s.group m.id) (covers (s.group m.id.group) m.id) (over o b m.id) (covers (b m.id.group) m.id) (same_over o s.group b same m.id) (more m.id) loose) in
+        loose_before (over o s.group m.id) (covers (s.group m.id.group) m.id) (over o b m.id) (covers (b m.id.group) m.id)
+        (same_over o s.group b same m.id) (more m.id) loose) in
         let was = x.few in
         omega (arith, less, was)
         );
@@ -207,14 +231,16 @@ module _ (most : ℕ) (home_here : Bool) where
   }
 
   -- one group changes in nothing that matters here
-  group_bounded : (o : Option GroupNo) (s : State) (g : GroupNo) (v : MemberSide) → v.number ≡ (s.group g).number → ((u : Uid) → covers (s.group g) u ≡ true → covers v u ≡ true) → At o s → At o (set_group s g v)
+  group_bounded : (o : Option GroupNo) (s : State) (g : GroupNo) (v : MemberSide) → v.number ≡ (s.group g).number →
+      ((u : Uid) → covers (s.group g) u ≡ true → covers v u ≡ true) → At o s → At o (set_group s g v)
   group_bounded o s g v number more x = groups_bounded o s (set_at group_eq s.group g v)
       (set_group_all (λ h (z : MemberSide). z.number ≡ (s.group h).number) s.group g v (λ h. refl) number)
       (λ u. set_group_all (λ h (z : MemberSide). covers (s.group h) u ≡ true → covers z u ≡ true) s.group g v (λ h e. e) (more u) u.group) x
 
   -- What is owed
 
-  owed_bounded : (o : Option GroupNo) (s : State) (key : OwedKey) (due : ℕ) (before : List Owed) → ((x : Owed) → Contains before x → Contains s.owed x) → At o s → (past o key ≡ true) ⊎ Wants s key →
+  owed_bounded : (o : Option GroupNo) (s : State) (key : OwedKey) (due : ℕ) (before : List Owed) →
+      ((x : Owed) → Contains before x → Contains s.owed x) → At o s → (past o key ≡ true) ⊎ Wants s key →
       At o (record s { owed = with_owed before key due })
   owed_bounded o s key due before less x wants = record {
     few = x.few;
@@ -236,8 +262,10 @@ module _ (most : ℕ) (home_here : Bool) where
     homes = x.homes;
   }
 
-  renewed_bounded : (o : Option GroupNo) (s : State) (key : OwedKey) (due : ℕ) → At o s → IsOwed s key → At o (record s { owed = renew s.owed key due })
-  renewed_bounded o s key due x (y, at, is) = owed_bounded o s key due (paid (key_eq key) s.owed) (among_kept (λ (z : Owed). not (key_eq key z.key)) s.owed) x
+  renewed_bounded : (o : Option GroupNo) (s : State) (key : OwedKey) (due : ℕ) → At o s → IsOwed s key →
+      At o (record s { owed = renew s.owed key due })
+  renewed_bounded o s key due x (y, at, is) =
+      owed_bounded o s key due (paid (key_eq key) s.owed) (among_kept (λ (z : Owed). not (key_eq key z.key)) s.owed) x
       (subst (λ (k : OwedKey). (past o k ≡ true) ⊎ Wants s k) is (x.wants y at))
 
   released_bounded : (o : Option GroupNo) (s : State) (lets : Uid → Bool) → At o s → At o (releasing s lets)
@@ -277,7 +305,8 @@ module _ (most : ℕ) (home_here : Bool) where
       go true room = ltb-true (length s.kept) (2 * s.quotas.held) room
       go false room = let below = ltb-true (length s.kept) s.quotas.held room in omega (arith, below)
 
-  received_bounded : (s : State) (m : Message) → At None s → m.id.view ≡ (s.group m.id.group).number → length (filter (is_loose None s.group) (s.kept ++ m ∷ [])) ≤ 2 * most → At None (receiving s m)
+  received_bounded : (s : State) (m : Message) → At None s → m.id.view ≡ (s.group m.id.group).number →
+      length (filter (is_loose None s.group) (s.kept ++ m ∷ [])) ≤ 2 * most → At None (receiving s m)
   received_bounded s m x view few = record {
     few = few;
     current = λ y at. elim (Contains-push_cases s.kept m y at) [
@@ -289,14 +318,16 @@ module _ (most : ℕ) (home_here : Bool) where
     homes = x.homes;
   }
 
-  fits_bounded : (s : State) (m : Message) → At None s → may_take history s m.body ≡ true → length (filter (is_loose None s.group) (s.kept ++ m ∷ [])) ≤ 2 * most
+  fits_bounded : (s : State) (m : Message) → At None s → may_take history s m.body ≡ true →
+      length (filter (is_loose None s.group) (s.kept ++ m ∷ [])) ≤ 2 * most
   fits_bounded s m x room =
       let one = filter_one (is_loose None s.group) s.kept m in
       let below = room_below s m.body room in
       let quota = x.quota in
       omega (arith, one, below, quota)
 
-  receives_bounded : (s : State) (m : Message) → At None s → m.id.view ≡ (s.group m.id.group).number → MayReceive s m → At None (receiving s m)
+  receives_bounded : (s : State) (m : Message) → At None s → m.id.view ≡ (s.group m.id.group).number → MayReceive s m →
+      At None (receiving s m)
   receives_bounded s m x view (fits room) = received_bounded s m x view (fits_bounded s m x room)
   receives_bounded s m x view (wanted owed) =
       let key : OwedKey = message_key kinds.Want m.id s.config.home in
@@ -304,7 +335,11 @@ module _ (most : ℕ) (home_here : Bool) where
       let covered_it : covers (s.group m.id.group) m.id ≡ true =
       ap (λ n. covers (s.group m.id.group) (record { group = m.id.group; view = n; proc = m.id.proc; count = m.id.count })) view
       ∙ elim (subst (λ (k : OwedKey). (false ≡ true) ⊎ WantsOf s.group k k.kind) found.2 (x.wants found.0 found.1)) as
-      (λ either. covers (s.group m.id.group) (id_in (s.group m.id.group).number key) ≡ true) [ inl none ↦ absurd (false≢true none) | inr yes_it ↦ yes_it ] in
+      (λ either. covers (s.group m.id.group) (id_in (s.group m.id.group).number key) ≡ true) [
+        | inl none ↦
+            absurd (false≢true none)
+        | inr yes_it ↦ yes_it
+      ] in
       received_bounded s m x view (
       let same = filter_none (is_loose None s.group) s.kept m (ap not covered_it) in
       let was = x.few in
@@ -344,7 +379,8 @@ module _ (most : ℕ) (home_here : Bool) where
         other_group : {h : GroupNo} → (g ≡ h → ⊥) → group_eq h g ≡ false
         other_group {h} apart = false_from_ne_true (group_eq h g) (λ same. apart (sym (ap (λ k. record { 0 = k }) (eqb-true h.0 g.0 same))))
 
-    passed_wants : (key : OwedKey) (kind : OwedKind) → key.kind ≡ kind → WantsOf s.group key kind → (is_of_view g key ≡ true) ⊎ WantsOf now key kind
+    passed_wants : (key : OwedKey) (kind : OwedKind) → key.kind ≡ kind → WantsOf s.group key kind →
+        (is_of_view g key ≡ true) ⊎ WantsOf now key kind
     passed_wants key kinds.Ask e w = inr tt
     passed_wants key kinds.Data e w = inr tt
     passed_wants key kinds.Prepare e w = inr tt
@@ -352,7 +388,8 @@ module _ (most : ℕ) (home_here : Bool) where
       where
         go : (by : Side) → key.side ≡ by → WantsAt s.group key by → (is_of_view g key ≡ true) ⊎ WantsAt now key by
         go side.Site is c = elim (cases_group g key.group) [
-          | inl same ↦ inl ((λ i. group_eq key.group (same i) && is_of_messages (e i) (is i)) ∙ ap (λ b. b && true) (group_itself key.group))
+          | inl same ↦
+              inl ((λ i. group_eq key.group (same i) && is_of_messages (e i) (is i)) ∙ ap (λ b. b && true) (group_itself key.group))
           | inr apart ↦ inr (subst (λ z. covers z (id_in z.number key) ≡ true) (sym (set_other s.group g v key.group apart)) c)
         ]
         go side.Home is c = inr tt
@@ -377,7 +414,9 @@ module _ (most : ℕ) (home_here : Bool) where
   ends_bounded : (s : State) (g : GroupNo) → At (Some g) s → At None (paying_view (releasing_ended s g) g)
   ends_bounded s g x = record {
     few = (
-        let less = both_less (is_loose None s.group) (λ m. not (is_ended s g m.id)) (is_loose (Some g) s.group) (λ m stays loose. both_not (is_ended s g m.id) (covers (s.group m.id.group) m.id) stays loose) s.kept in
+        let less =
+        both_less (is_loose None s.group) (λ m. not (is_ended s g m.id)) (is_loose (Some g) s.group)
+        (λ m stays loose. both_not (is_ended s g m.id) (covers (s.group m.id.group) m.id) stays loose) s.kept in
         let was = x.few in
         omega (arith, less, was)
         );
@@ -418,8 +457,10 @@ module _ (most : ℕ) (home_here : Bool) where
     learns = λ s from u x came. x;
     delivers = λ s k m x c ready. x;
     freezes = λ s g x current. group_bounded None s g (frozen_side (s.group g)) refl (λ u e. e) x;
-    pends = λ s from g p tail x came current quiet known. group_bounded None s g (with_pending (s.group g) p) refl (λ u e. absurd (false≢true (sym quiet ∙ covers_waits (s.group g) u e))) x;
-    passes = λ s g skipped n members request cut x comes. passes_bounded s g n (with_view s.here n members (s.group g)) x (number_up Any s g skipped n members request cut comes) refl;
+    pends = λ s from g p tail x came current quiet known.
+        group_bounded None s g (with_pending (s.group g) p) refl (λ u e. absurd (false≢true (sym quiet ∙ covers_waits (s.group g) u e))) x;
+    passes = λ s g skipped n members request cut x comes.
+        passes_bounded s g n (with_view s.here n members (s.group g)) x (number_up Any s g skipped n members request cut comes) refl;
     ends = λ s g x. ends_bounded s g x;
     homes = λ s g what x may. x;
   }
@@ -432,7 +473,13 @@ module _ (most : ℕ) (home_here : Bool) where
   sets_bounded s (event.Gone d k) x most_it = tt
   sets_bounded s (event.Frame d from f) x most_it = tt
   sets_bounded s (event.Suspect d site) x most_it = tt
-  sets_bounded s (event.Quota d name value) x most_it = record { few = x.few; current = x.current; wants = x.wants; quota = go name most_it; homes = x.homes }
+  sets_bounded s (event.Quota d name value) x most_it = record {
+    few = x.few;
+    current = x.current;
+    wants = x.wants;
+    quota = go name most_it;
+    homes = x.homes;
+  }
     where
       go : (name : QuotaName) → IsHeldAtMost most name value → (with_quota name value s.quotas).held ≤ most
       go Sessions is = x.quota
@@ -445,9 +492,11 @@ module _ (most : ℕ) (home_here : Bool) where
   step_bounded : (s : State) (e : Event) (answer : Taken) (t : State) → IsStep s e answer t → SetsAtMost most e → At None s → At None t
   step_bounded s e answer t is sets x =
       rests_keeps_fully (At None) (λ g. At (Some g)) (λ u. At None) Any home_here kept_bounded (after_event s e) t is.rests
-      (event_keeps_fully (At None) (λ g. At (Some g)) (λ u. At None) Any home_here kept_bounded s e x (any_came e) (sets_bounded (before_event s) e x sets))
+      (event_keeps_fully (At None) (λ g. At (Some g)) (λ u. At None) Any home_here kept_bounded s e x (any_came e)
+      (sets_bounded (before_event s) e x sets))
 
-  run_bounded : (events : List Event) (answers : List Taken) (s t : State) (sent : List (SiteNo × SiteFrame)) (pushed : List (ℕ × Push)) → AllByRecursion (SetsAtMost most) events →
+  run_bounded : (events : List Event) (answers : List Taken) (s t : State) (sent : List (SiteNo × SiteFrame)) (pushed : List (ℕ × Push)) →
+      AllByRecursion (SetsAtMost most) events →
       IsRun s events answers sent pushed t → At None s → At None t
   run_bounded [] [] s t sent pushed sets run x = subst (At None) (sym run.2) x
   run_bounded [] (a ∷ answers) s t sent pushed sets run x = absurd run
@@ -458,7 +507,13 @@ module _ (most : ℕ) (home_here : Bool) where
 pub what_is_kept_is_bounded : WhatIsKeptIsBounded
 what_is_kept_is_bounded most here config events answers sent pushed s quota sets run =
     let x = run_bounded most (site_eq here config.home) events answers (opening here config) s sent pushed sets run
-    (record { few = omega arith; current = λ m at. absurd (omega (arith, at.1)); wants = λ y at. absurd (omega (arith, at.1)); quota = quota; homes = refl }) in
+    (record {
+      few = omega arith;
+      current = λ m at. absurd (omega (arith, at.1));
+      wants = λ y at. absurd (omega (arith, at.1));
+      quota = quota;
+      homes = refl;
+    }) in
     record {
       few = x.few;
       current = λ m at. elim (x.current m at) [ inl none ↦ absurd (false≢true none) | inr is ↦ is ];

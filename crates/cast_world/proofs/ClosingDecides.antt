@@ -1,10 +1,11 @@
--- The home ends a view's order with the longest order that was reported, and behind it ABCASTs without a place. Each order that was reported is
--- a prefix of the longest one.
+-- The home ends a view's order with the longest order that was reported, and behind it ABCASTs without a place. Each order that was
+-- reported is a prefix of the longest one.
 use Rattle.std.proofs.Common.{ap, arith, inl, inr, subst, sym, ◌∙◌}
 use Rattle.std.proofs.lemmas.Bool.{ltb-false, ltb-true}
 use Rattle.std.proofs.lemmas.List.{length-append}
 use Rattle.std.specs.List.{flat_map, fold}
-use Rattle.std.specs.Prelude.{◌++◌, ◌-◌, Bool, Contains, List, Option, [], drop, false, filter, if◌then◌else◌, length, map, min, nat_lt, not, refl, suc, take, true, unwrap_or, zero, ℕ, ◌∷◌, ◌≡◌, ◌≤◌, ◌⊎◌}
+use Rattle.std.specs.Prelude.{◌++◌, ◌-◌, Bool, Contains, List, Option, [], drop, false, filter, if◌then◌else◌, length}
+use Rattle.std.specs.Prelude.{map, min, nat_lt, not, refl, suc, take, true, unwrap_or, zero, ℕ, ◌∷◌, ◌≡◌, ◌≤◌, ◌⊎◌}
 use Rattle.cast_flush.specs.Decisions.{added_entries, end_of, longest, no_stretch, order_from, unplaced_entries}
 use Rattle.cast_flush.specs.Reports.{Reports}
 use Rattle.cast_flush.specs.declared.report.Report.{Report}
@@ -76,24 +77,33 @@ longer t r = if nat_lt (end_of t) (end_of r.1.tail) then r.1.tail else t
 
 abbrev IsLongest : Tail → Reports → Tail → Type 0
 IsLongest first reports t =
-    ((t ≡ first) ⊎ ((x : SiteNo × Report) × Contains reports x × (t ≡ x.1.tail))) × (end_of first ≤ end_of t) × ((x : SiteNo × Report) → Contains reports x → end_of x.1.tail ≤ end_of t)
+    ((t ≡ first) ⊎ ((x : SiteNo × Report) × Contains reports x × (t ≡ x.1.tail)))
+    × (end_of first ≤ end_of t)
+    × ((x : SiteNo × Report) → Contains reports x → end_of x.1.tail ≤ end_of t)
 
 longest_from : (first : Tail) (reports : Reports) → IsLongest first reports (fold longer first reports)
 longest_from first [] = (inl refl, omega arith, (λ x c. absurd (omega (arith, c.1))))
 longest_from first (r ∷ reports) = go (nat_lt (end_of first) (end_of r.1.tail)) refl (longest_from (longer first r) reports)
   where
     each : (x : SiteNo × Report) → Contains (r ∷ reports) x → end_of r.1.tail ≤ end_of (fold longer (longer first r) reports) →
-        ((z : SiteNo × Report) → Contains reports z → end_of z.1.tail ≤ end_of (fold longer (longer first r) reports)) → end_of x.1.tail ≤ end_of (fold longer (longer first r) reports)
+        ((z : SiteNo × Report) → Contains reports z → end_of z.1.tail ≤ end_of (fold longer (longer first r) reports)) →
+        end_of x.1.tail ≤ end_of (fold longer (longer first r) reports)
     each x (zero, lt, is) here more = let same = ap (λ (z : SiteNo × Report). end_of z.1.tail) is in omega (arith, same, here)
     each x (suc n, lt, is) here more = more x (n, omega (arith, lt), is)
 
-    go : (b : Bool) → nat_lt (end_of first) (end_of r.1.tail) ≡ b → IsLongest (longer first r) reports (fold longer (longer first r) reports) → IsLongest first (r ∷ reports) (fold longer (longer first r) reports)
+    go : (b : Bool) → nat_lt (end_of first) (end_of r.1.tail) ≡ b →
+        IsLongest (longer first r) reports (fold longer (longer first r) reports) →
+        IsLongest first (r ∷ reports) (fold longer (longer first r) reports)
     go true e more =
         let lt = ltb-true (end_of first) (end_of r.1.tail) e in
         let here : longer first r ≡ r.1.tail = ap (λ b. if b then r.1.tail else first) e in
         let same = ap end_of here in
         let up = more.1 in (
-          inr (elim more.0 [ inl is ↦ (r, (0, omega arith, refl), is ∙ here) | inr x ↦ (x.0, (suc x.1.0, omega (arith, x.1.1), x.1.2), x.2) ]),
+          inr
+              (elim more.0 [
+                | inl is ↦ (r, (0, omega arith, refl), is ∙ here)
+                | inr x ↦ (x.0, (suc x.1.0, omega (arith, x.1.1), x.1.2), x.2)
+              ]),
           omega (arith, lt, same, up),
           λ x c. each x c (omega (arith, same, up)) more.2,
         )
@@ -109,19 +119,23 @@ longest_from first (r ∷ reports) = go (nat_lt (end_of first) (end_of r.1.tail)
 
 -- Orders that were said of one view are comparable
 
-pub comparable_said : (choice : Choice) (at : Sites) (order : Orders) (handed : HandOvers) (s q : SiteNo) (g : GroupNo) (v : ℕ) (one two : List Entry) → Sided choice at order handed s g v one → Sided choice at order handed q g v two → IsPrefix one two ⊎ IsPrefix two one
+pub comparable_said : (choice : Choice) (at : Sites) (order : Orders) (handed : HandOvers) (s q : SiteNo) (g : GroupNo) (v : ℕ)
+    (one two : List Entry) → Sided choice at order handed s g v one → Sided choice at order handed q g v two →
+    IsPrefix one two ⊎ IsPrefix two one
 comparable_said choice at order handed s q g v one two (inl a) (inl b) = comparable one two (order g v) a b
 comparable_said choice at order handed s q g v one two (inl a) (inr b) = inl (prefix_trans one (order g v) two a b.all)
 comparable_said choice at order handed s q g v one two (inr a) (inl b) = inr (prefix_trans two (order g v) one b a.all)
 comparable_said choice at order handed s q g v one two (inr a) (inr b) =
     let same : a.holder ≡ b.holder = ap (λ (o : Option Proc). unwrap_or o a.holder) (sym a.chosen ∙ b.chosen) in
     let place : s ≡ q = sym a.there ∙ ap (λ (p : Proc). p.site) same ∙ b.there in
-    comparable one two (done_in g v ((at q).abcasts b.holder.serial)) (subst (IsPrefix one) (λ i. done_in g v ((at (place i)).abcasts (same i).serial)) a.done) b.done
+    comparable one two (done_in g v ((at q).abcasts b.holder.serial))
+    (subst (IsPrefix one) (λ i. done_in g v ((at (place i)).abcasts (same i).serial)) a.done) b.done
 
 -- The end that the home decides
 
 module _ (choice : Choice) (at : Sites) (order : Orders) (handed : HandOvers) (safe : Safe) (g : GroupNo) (v : ℕ) (reports : Reports)
-    (said : (q : SiteNo) (r : Report) → Contains reports (q, r) → HasReported choice at order handed safe q g v r.tail r.kept) (cut : CountList) where
+    (said : (q : SiteNo) (r : Report) → Contains reports (q, r) → HasReported choice at order handed safe q g v r.tail r.kept)
+    (cut : CountList) where
   abbrev placed : List Entry
   placed = filter (is_within cut) (longest reports).ids
 
@@ -164,10 +178,16 @@ module _ (choice : Choice) (at : Sites) (order : Orders) (handed : HandOvers) (s
   each_begins q r c =
       let one = said q r c in
       let short : length one.0 ≤ length longest_is.whole =
-      (let far = is_longest.2 (q, r) c in let mine = ap end_of one.2 ∙ tail_ends one.0 one.1.few in let most = ap end_of longest_is.tail ∙ tail_ends longest_is.whole longest_is.few in omega (arith, far, mine, most)) in
+      (let far =
+      is_longest.2 (q, r) c in
+      let mine = ap end_of one.2 ∙ tail_ends one.0 one.1.few in
+      let most = ap end_of longest_is.tail ∙ tail_ends longest_is.whole longest_is.few in
+      omega (arith, far, mine, most)) in
       elim longest_is.side [
         | inl none ↦ (longest_is.whole, ap (λ l. l ++ longest_is.whole) (empty one.0 (let n = ap length none in omega (arith, short, n))))
-        | inr s ↦ shorter_begins one.0 longest_is.whole (comparable_said choice at order handed q s.0 g v one.0 longest_is.whole one.1.side s.1.side) short
+        | inr s ↦
+            shorter_begins one.0 longest_is.whole
+            (comparable_said choice at order handed q s.0 g v one.0 longest_is.whole one.1.side s.1.side) short
       ]
     where
       empty : (l : List Entry) → length l ≡ 0 → l ≡ []
@@ -178,17 +198,22 @@ module _ (choice : Choice) (at : Sites) (order : Orders) (handed : HandOvers) (s
   pub added_kinds : (e : Entry) → Contains extra e → IsAbcast at g v e
   added_kinds e c =
       let apart = taken_of MAX_PLACED (apart_from entry_eq (filter (is_within cut) (unplaced_entries reports)) placed) e c in
-      let within = among_kept (λ (z : Entry). not (is_among entry_eq z placed)) (filter (is_within cut) (unplaced_entries reports)) e apart in
-      let all = set_had entry_cmp (flat_map (λ (r : SiteNo × Report). map (λ (k : Entry × Bool). k.0) (filter (λ k. k.1) r.1.kept)) reports) e (among_kept (is_within cut) (unplaced_entries reports) e within) in
+      let within =
+      among_kept (λ (z : Entry). not (is_among entry_eq z placed)) (filter (is_within cut) (unplaced_entries reports)) e apart in
+      let all =
+      set_had entry_cmp (flat_map (λ (r : SiteNo × Report). map (λ (k : Entry × Bool). k.0) (filter (λ k. k.1) r.1.kept)) reports)
+      e (among_kept (is_within cut) (unplaced_entries reports) e within) in
       let r = in_flat (λ (r : SiteNo × Report). map (λ (k : Entry × Bool). k.0) (filter (λ k. k.1) r.1.kept)) reports e all in
       let k = from_mapped (λ (k : Entry × Bool). k.0) (filter (λ k. k.1) r.0.1.kept) e r.2 in
       let mark : k.0.1 ≡ true = passed (λ (z : Entry × Bool). z.1) r.0.1.kept k.0 k.1 in
-      (said r.0.0 r.0.1 r.1).3 e (subst (Contains r.0.1.kept) (λ i. (k.2 i, mark i)) (among_kept (λ (z : Entry × Bool). z.1) r.0.1.kept k.0 k.1))
+      (said r.0.0 r.0.1 r.1).3 e
+      (subst (Contains r.0.1.kept) (λ i. (k.2 i, mark i)) (among_kept (λ (z : Entry × Bool). z.1) r.0.1.kept k.0 k.1))
 
   -- the tail that goes with the Installs
   pub decided_tail : order_from cut reports ≡ end_tail cut decided_end
   decided_tail =
-      let ids_are : (longest reports).ids ≡ drop (longest reports).start longest_is.whole = ap (λ (s : Tail). s.ids) longest_is.tail ∙ ap (λ n. drop n longest_is.whole) (sym start_is) in
+      let ids_are : (longest reports).ids ≡ drop (longest reports).start longest_is.whole =
+      ap (λ (s : Tail). s.ids) longest_is.tail ∙ ap (λ n. drop n longest_is.whole) (sym start_is) in
       let few : length (placed ++ extra) ≤ MAX_ORDER =
       (let parts = length-append placed extra in
       let kept = kept_length (is_within cut) (longest reports).ids in
@@ -196,9 +221,13 @@ module _ (choice : Choice) (at : Sites) (order : Orders) (handed : HandOvers) (s
       let short = tail_few longest_is.whole in
       let more = take_most MAX_PLACED (apart_from entry_eq (filter (is_within cut) (unplaced_entries reports)) placed) in
       omega (arith, parts, kept, tail, short, more)) in
-      λ i. record { start = (longest reports).start; ids = (take_all MAX_ORDER (placed ++ extra) few ∙ ap (λ l. filter (is_within cut) l ++ extra) ids_are) i }
+      λ i. record {
+        start = (longest reports).start;
+        ids = (take_all MAX_ORDER (placed ++ extra) few ∙ ap (λ l. filter (is_within cut) l ++ extra) ids_are) i;
+      }
 
 -- a phase that installs has the decision
-pub installing_is : (left : List SiteNo) (c : Decision) (more : List Message) (waiting : List SiteNo) (d : Decision) (bodies : List Message) → installing left c more ≡ Installing waiting d bodies → d ≡ c
+pub installing_is : (left : List SiteNo) (c : Decision) (more : List Message) (waiting : List SiteNo) (d : Decision)
+    (bodies : List Message) → installing left c more ≡ Installing waiting d bodies → d ≡ c
 installing_is [] c more waiting d bodies e = absurd (idle_not waiting d bodies e)
 installing_is (q ∷ left) c more waiting d bodies e = sym (same_decision (q ∷ left) waiting c d more bodies e)

@@ -15,7 +15,8 @@ use Rattle.cast_types.specs.Names.{group_eq, uid_eq}
 use Rattle.cast_types.specs.declared.names.Uid.{Uid}
 use Rattle.cast_world.specs.HappenedBefore.{HappenedBefore, IsDue, acts_of, edge}
 use Rattle.std.specs.List.{find, fold, list_any}
-use Rattle.std.specs.Prelude.{Bool, Contains, List, None, Some, [], false, filter, length, map, min, nat_lt, refl, slice_get, suc, true, zero, ℕ, ◌&&◌, ◌++◌, ◌+◌, ◌==◌, ◌||◌, ◌∷◌, ◌≡◌}
+use Rattle.std.specs.Prelude.{Bool, Contains, List, None, Some, [], false, filter, length, map, min, nat_lt}
+use Rattle.std.specs.Prelude.{refl, slice_get, suc, true, zero, ℕ, ◌&&◌, ◌++◌, ◌+◌, ◌==◌, ◌||◌, ◌∷◌, ◌≡◌}
 use Rattle.cast_ready.specs.Ready.{Process, is_ready}
 use Rattle.cast_events.specs.declared.event.Event.{Event}
 use Rattle.cast_flush.specs.Reports.{Reports, greatest_count}
@@ -39,7 +40,8 @@ use Rattle.cast_types.specs.declared.names.Standing.TheVariants.{Joining, Member
 use Rattle.cast_view.specs.Home.{Home, apply_move as home_moved}
 use Rattle.cast_view.specs.declared.phase.Phase.{Phase}
 use Rattle.cast_view.specs.declared.phase.Phase.TheVariants.{Gathering, Idle, Installing}
-use Rattle.cast_world.proofs.Schedules.{both, casts, delivered, group, hand, is_leaving, joins, never_left, pair, passes_at, proc, suspects, three, uid}
+use Rattle.cast_world.proofs.Schedules.{both, casts, delivered, group, hand, is_leaving, joins}
+use Rattle.cast_world.proofs.Schedules.{never_left, pair, passes_at, proc, suspects, three, uid}
 use Rattle.cast_world.specs.Agreement.{Passes, delivered_of}
 use Rattle.cast_world.specs.Laws.{DeliversInOrder, SameMessages}
 use Rattle.cast_world.specs.Network.{Network, event_of, move_site}
@@ -92,13 +94,15 @@ stands_there : (first second : Act → Bool) (a b c : List Act) (x y : Act) → 
 unfolding stands
 stands_there first second [] b c x y one two =
     let later = member_any second (b ++ y ∷ c) y (Contains-append_right b (y ∷ c) y (contains_here y c)) two in
-    or_left (first x && list_any second (b ++ y ∷ c)) (stands first second (b ++ y ∷ c)) (and_from (first x) (list_any second (b ++ y ∷ c)) one later)
+    or_left (first x && list_any second (b ++ y ∷ c)) (stands first second (b ++ y ∷ c))
+    (and_from (first x) (list_any second (b ++ y ∷ c)) one later)
 stands_there first second (z ∷ a) b c x y one two =
     let acts : List Act = a ++ x ∷ b ++ y ∷ c in
     or_right (first z && list_any second acts) (stands first second acts) (stands_there first second a b c x y one two)
 
 -- x happened before m, and is due to a process that did this: it delivered m, and did not deliver x earlier
-breaks_causality : (w : Network) (p : Proc) (acts : List Act) (x m : Message) (cut : CountList) → acts_of w p ≡ acts → HappenedBefore w x m →
+breaks_causality : (w : Network) (p : Proc) (acts : List Act) (x m : Message) (cut : CountList) → acts_of w p ≡ acts →
+    HappenedBefore w x m →
     Contains acts (Delivered m) → Contains acts (Entered x.id.group x.id.view cut) →
     list_any is_leaving acts ≡ false → list_any (is_entry_of x.id.group (x.id.view + 1)) acts ≡ false →
     stands (is_delivery_of x.id) (is_delivery_of m.id) acts ≡ false → DeliversInOrder w → ⊥
@@ -122,11 +126,13 @@ breaks_causality w p acts x m cut did before delivers entered stays none not_bef
           (and_from (group_eq g g) ((x.id.view + 1) == (x.id.view + 1)) (group_itself g) (eq-eqb (x.id.view + 1) (x.id.view + 1) refl)))
           ∙ none));
     } in
-    let there = law p x m (subst (λ l. Contains l (Delivered m)) (sym did) delivers) before (subst (λ l. IsDue l x.id m) (sym did) is_due) in
+    let there =
+    law p x m (subst (λ l. Contains l (Delivered m)) (sym did) delivers) before (subst (λ l. IsDue l x.id m) (sym did) is_due) in
     true≢false
     (sym
     (ap (stands (is_delivery_of x.id) (is_delivery_of m.id)) (sym did ∙ there.3)
-    ∙ stands_there (is_delivery_of x.id) (is_delivery_of m.id) there.0 there.1 there.2 (Delivered x) (Delivered m) (uid_itself x.id) (uid_itself m.id))
+    ∙ stands_there (is_delivery_of x.id) (is_delivery_of m.id) there.0 there.1 there.2 (Delivered x) (Delivered m) (uid_itself x.id)
+    (uid_itself m.id))
     ∙ not_before)
 
 -- an empty causal message, whose time is in groups 1 and 2, each in view 2
@@ -163,13 +169,15 @@ y_of p = causal (uid 2 2 p 1) ((p, 1) ∷ []) ((p, 1) ∷ [])
 
 crossed_over_sent :
     acts_of crossed_over (proc 2 1)
-    ≡ Entered (group 1) 2 [] ∷ Entered (group 2) 2 [] ∷ Sends (x_of (proc 2 1)) ∷ Delivered (x_of (proc 2 1)) ∷ Sends (y_of (proc 2 1)) ∷ Delivered (y_of (proc 2 1)) ∷ []
+    ≡ Entered (group 1) 2 [] ∷ Entered (group 2) 2 [] ∷ Sends (x_of (proc 2 1)) ∷ Delivered (x_of (proc 2 1)) ∷ Sends (y_of (proc 2 1))
+    ∷ Delivered (y_of (proc 2 1)) ∷ []
 unfolding crossed_over both own_group_alone causal x_of y_of
 crossed_over_sent = refl
 
 crossed_over_did :
     acts_of crossed_over (proc 1 1)
-    ≡ Entered (group 1) 1 [] ∷ Entered (group 2) 1 [] ∷ Entered (group 1) 2 [] ∷ Entered (group 2) 2 [] ∷ Delivered (y_of (proc 2 1)) ∷ Delivered (x_of (proc 2 1)) ∷ []
+    ≡ Entered (group 1) 1 [] ∷ Entered (group 2) 1 [] ∷ Entered (group 1) 2 [] ∷ Entered (group 2) 2 [] ∷ Delivered (y_of (proc 2 1))
+    ∷ Delivered (x_of (proc 2 1)) ∷ []
 unfolding crossed_over both own_group_alone causal x_of y_of
 crossed_over_did = refl
 
@@ -180,8 +188,10 @@ crossed_over_breaks_causality =
     let x : Message = x_of (proc 2 1) in
     let y : Message = y_of (proc 2 1) in
     breaks_causality crossed_over (proc 1 1)
-    (Entered (group 1) 1 [] ∷ Entered (group 2) 1 [] ∷ Entered (group 1) 2 [] ∷ Entered (group 2) 2 [] ∷ Delivered y ∷ Delivered x ∷ []) x y [] crossed_over_did
-    (edge {x = x} {y = y} (inl (Entered (group 1) 2 [] ∷ Entered (group 2) 2 [] ∷ [], Delivered x ∷ [], Delivered y ∷ [], crossed_over_sent)))
+    (Entered (group 1) 1 [] ∷ Entered (group 2) 1 [] ∷ Entered (group 1) 2 [] ∷ Entered (group 2) 2 [] ∷ Delivered y ∷ Delivered x ∷ [])
+    x y [] crossed_over_did
+    (edge {x = x} {y = y}
+    (inl (Entered (group 1) 2 [] ∷ Entered (group 2) 2 [] ∷ [], Delivered x ∷ [], Delivered y ∷ [], crossed_over_sent)))
     (4, omega arith, refl) (2, omega arith, refl) refl refl refl
 
 -- What a joining process had heard of is not looked at
@@ -213,7 +223,8 @@ joined_over_delivered = refl
 
 joined_over_sent :
     acts_of joined_over (proc 1 1)
-    ≡ Entered (group 1) 1 [] ∷ Entered (group 2) 1 [] ∷ Entered (group 2) 2 [] ∷ Entered (group 1) 2 [] ∷ Sends (x_of (proc 1 1)) ∷ Delivered (x_of (proc 1 1)) ∷ Sends (y_of (proc 1 1)) ∷ Delivered (y_of (proc 1 1)) ∷ []
+    ≡ Entered (group 1) 1 [] ∷ Entered (group 2) 1 [] ∷ Entered (group 2) 2 [] ∷ Entered (group 1) 2 [] ∷ Sends (x_of (proc 1 1))
+    ∷ Delivered (x_of (proc 1 1)) ∷ Sends (y_of (proc 1 1)) ∷ Delivered (y_of (proc 1 1)) ∷ []
 unfolding joined_over pair no_mark unmarked without_marks causal x_of y_of
 joined_over_sent = refl
 
@@ -228,8 +239,14 @@ unfolding stands is_delivery_of is_entry_of is_leaving causal x_of y_of
 joined_over_breaks_causality =
     let x : Message = x_of (proc 1 1) in
     let y : Message = y_of (proc 1 1) in
-    breaks_causality joined_over (proc 3 1) (Entered (group 2) 2 [] ∷ Delivered y ∷ Entered (group 1) 2 [] ∷ Delivered x ∷ []) x y [] joined_over_did
-    (edge {x = x} {y = y} (inl (Entered (group 1) 1 [] ∷ Entered (group 2) 1 [] ∷ Entered (group 2) 2 [] ∷ Entered (group 1) 2 [] ∷ [], Delivered x ∷ [], Delivered y ∷ [], joined_over_sent)))
+    breaks_causality joined_over (proc 3 1) (Entered (group 2) 2 [] ∷ Delivered y ∷ Entered (group 1) 2 [] ∷ Delivered x ∷ [])
+    x y [] joined_over_did
+    (edge {x = x} {y = y} (inl (
+      Entered (group 1) 1 [] ∷ Entered (group 2) 1 [] ∷ Entered (group 2) 2 [] ∷ Entered (group 1) 2 [] ∷ [],
+      Delivered x ∷ [],
+      Delivered y ∷ [],
+      joined_over_sent,
+    )))
     (1, omega arith, refl) (2, omega arith, refl) refl refl refl
 
 -- The cut has the least counts that are reported, and not the greatest

@@ -32,14 +32,19 @@ module _ (me : Proc) (acts : List Act) (each : Each (ActWell me) acts) (g : Grou
     | does k other is ↦
         let here = each x (y ++ Entered g n cut ∷ c) (Entered g k other) (e ∙ ap (λ z. x ++ (z ∷ (y ++ Entered g n cut ∷ c))) is) in
         let next : k ≡ v + 1 = here.next v is_in in
-        let up : k < n = rising y (x ++ act ∷ []) k (x, [], other, ap (λ z. x ++ z ∷ []) is, (λ at. omega (arith, at.1)), (λ j d at. omega (arith, at.1))) whole later in
+        let up : k < n =
+        rising y (x ++ act ∷ []) k (x, [], other, ap (λ z. x ++ z ∷ []) is, (λ at. omega (arith, at.1)), (λ j d at. omega (arith, at.1)))
+        whole later in
         omega (arith, next, up)
     | does_not never ↦ rising y (x ++ act ∷ []) v (
       is_in.0,
       is_in.1 ++ act ∷ [],
       is_in.2,
       ap (λ z. z ++ act ∷ []) is_in.3 ∙ append_assoc is_in.0 (Entered g v is_in.2 ∷ is_in.1) (act ∷ []),
-      (λ at. elim (Contains-push_cases is_in.1 act (Left g) at) [ inl old ↦ is_in.4 old | inr same ↦ stays (subst (λ z. Contains (act ∷ y) z) same (contains_here [] y act)) ]),
+      (λ at. elim (Contains-push_cases is_in.1 act (Left g) at) [
+        | inl old ↦ is_in.4 old
+        | inr same ↦ stays (subst (λ z. Contains (act ∷ y) z) same (contains_here [] y act))
+      ]),
       (λ j d at. elim (Contains-push_cases is_in.1 act (Entered g j d) at) [ inl old ↦ is_in.5 j d old | inr same ↦ never j d same ]),
     ) whole later
   ]
@@ -60,16 +65,28 @@ module _ (w : Network) (f : Facts w) (p : Proc) (g : GroupNo) (view : ℕ) (befo
     | inr none ↦ none
     | inl n ↦ absurd (
         let first : List Act = a ++ Entered g view before ∷ n.before in
-        let in_first : IsIn first g view = (a, n.before, before, refl, (λ at. stays (subst (λ z. Contains z (Left g)) (sym n.is) (Contains-append_left n.before _ _ at))), n.first) in
+        let in_first : IsIn first g view = (
+          a,
+          n.before,
+          before,
+          refl,
+          (λ at. stays (subst (λ z. Contains z (Left g)) (sym n.is) (Contains-append_left n.before _ _ at))),
+          n.first,
+        ) in
         let whole : acts_of w p ≡ (first ++ Entered g n.number n.cut ∷ n.later) ++ Entered g (view + 1) cut ∷ c =
         is ∙ ap (λ z. (a ++ Entered g view before ∷ z) ++ Entered g (view + 1) cut ∷ c) n.is
-        ∙ ap (λ z. z ++ Entered g (view + 1) cut ∷ c) (sym (append_assoc a (Entered g view before ∷ n.before) (Entered g n.number n.cut ∷ n.later))) in
+        ∙ ap (λ z. z ++ Entered g (view + 1) cut ∷ c)
+        (sym (append_assoc a (Entered g view before ∷ n.before) (Entered g n.number n.cut ∷ n.later))) in
         let number : n.number ≡ view + 1 = (f.each p first (n.later ++ Entered g (view + 1) cut ∷ c) (Entered g n.number n.cut)
         (whole ∙ append_assoc first (Entered g n.number n.cut ∷ n.later) (Entered g (view + 1) cut ∷ c))).next view in_first in
-        let up : n.number < view + 1 = rising p (acts_of w p) (f.each p) g (view + 1) cut c n.later (first ++ Entered g n.number n.cut ∷ []) n.number
+        let up : n.number < view + 1 =
+        rising p (acts_of w p) (f.each p) g (view + 1) cut c n.later (first ++ Entered g n.number n.cut ∷ []) n.number
         (first, [], n.cut, refl, (λ at. omega (arith, at.1)), (λ j d at. omega (arith, at.1)))
-        (whole ∙ append_assoc first (Entered g n.number n.cut ∷ n.later) (Entered g (view + 1) cut ∷ c) ∙ sym (append_assoc first (Entered g n.number n.cut ∷ []) (n.later ++ Entered g (view + 1) cut ∷ c)))
-        (λ at. stays (subst (λ z. Contains z (Left g)) (sym n.is) (Contains-append_right n.before (Entered g n.number n.cut ∷ n.later) (Left g) (contains_more (Entered g n.number n.cut) n.later (Left g) at)))) in
+        (whole
+        ∙ append_assoc first (Entered g n.number n.cut ∷ n.later) (Entered g (view + 1) cut ∷ c)
+        ∙ sym (append_assoc first (Entered g n.number n.cut ∷ []) (n.later ++ Entered g (view + 1) cut ∷ c)))
+        (λ at. stays (subst (λ z. Contains z (Left g)) (sym n.is) (Contains-append_right n.before (Entered g n.number n.cut ∷ n.later)
+        (Left g) (contains_more (Entered g n.number n.cut) n.later (Left g) at)))) in
         omega (arith, number, up))
   ]
 
@@ -81,10 +98,16 @@ module _ (w : Network) (f : Facts w) (p : Proc) (g : GroupNo) (view : ℕ) (befo
   pub delivered_within : (m : Message) → Contains until (Delivered m) → m.id.group ≡ g → m.id.view ≡ view → Contains b (Delivered m)
   delivered_within m at group in_view = elim (contains_around a b (Entered g view before) (Delivered m) at) [
     | inl early ↦
-        let low : view_of m.times g < view = (f.each p a (b ++ Entered g (view + 1) cut ∷ c) (Entered g view before) (is ∙ append_assoc a (Entered g view before ∷ b) (Entered g (view + 1) cut ∷ c))).above m (inr early) in
+        let low : view_of m.times g < view =
+        (f.each p a (b ++ Entered g (view + 1) cut ∷ c) (Entered g view before)
+        (is ∙ append_assoc a (Entered g view before ∷ b) (Entered g (view + 1) cut ∷ c))).above m (inr early) in
         let itself = (source w f p m until (Entered g (view + 1) cut ∷ c) is (inr at)).well.itself in
         let same : view_of m.times m.id.group ≡ view_of m.times g = ap (view_of m.times) group in
-        absurd (elim itself [ inl above ↦ omega (arith, low, above, same, in_view) | inr level ↦ (let equal : m.id.view ≡ view_of m.times m.id.group = level.0 in omega (arith, low, equal, same, in_view)) ])
+        absurd (elim itself [
+          | inl above ↦ omega (arith, low, above, same, in_view)
+          | inr level ↦
+              (let equal : m.id.view ≡ view_of m.times m.id.group = level.0 in omega (arith, low, equal, same, in_view))
+        ])
     | inr (inl same) ↦ absurd (entered_other m g view before (sym same))
     | inr (inr within_b) ↦ within_b
   ]
@@ -101,9 +124,14 @@ PassesAboveCut w =
 
 pub passes_above : (w : Network) → Facts w → PassesAboveCut w
 passes_above w f p g view before cut a b c e is stays counted_it within =
-    let has = (f.each p (a ++ Entered g view before ∷ b) c (Entered g (view + 1) cut) is).cuts view e tt (still_in w f p g view before cut a b c is stays) counted_it within in
-    let m : Message = has.0 in
-    (m, has.1, delivered_within w f p g view before cut a b c is stays m has.2 (ap (λ (u : Uid). u.group) has.1) (ap (λ (u : Uid). u.view) has.1))
+    let has =
+    (f.each p (a ++ Entered g view before ∷ b) c (Entered g (view + 1) cut) is).cuts view e tt
+    (still_in w f p g view before cut a b c is stays) counted_it within in
+    let m : Message = has.0 in (
+      m,
+      has.1,
+      delivered_within w f p g view before cut a b c is stays m has.2 (ap (λ (u : Uid). u.group) has.1) (ap (λ (u : Uid). u.view) has.1),
+    )
 
 -- The laws
 
@@ -120,7 +148,8 @@ stamps_at_most sites config steps w r x m before =
     below_at_most x.times m.times (first_source w f x m before).well.sorted (risen w f x m before).0
 
 pub names_are_unique : AllNamesAreUnique
-names_are_unique sites config steps w r p x y at_x at_y same = unique p (acts_of w p) ((fact sites config steps w r).each p) x y at_x at_y same
+names_are_unique sites config steps w r p x y at_x at_y same =
+    unique p (acts_of w p) ((fact sites config steps w r).each p) x y at_x at_y same
 
 pub deliveries_were_sent : AllDeliveriesWereSent
 deliveries_were_sent sites config steps w r p m at = (fact sites config steps w r).was_sent p m at

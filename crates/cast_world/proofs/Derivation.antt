@@ -25,7 +25,8 @@ stood : (acts : List Act) (x y : Act) → StandsBefore acts x y → (a c : List 
 stood acts x y (a, b, c, e) = (a ++ x ∷ b, c, e, contains_here a b x)
 
 -- a process sends one message of each id
-pub unique : (p : Proc) (acts : List Act) → Each (ActWell p) acts → (x y : Message) → Contains acts (Sent x) → Contains acts (Sent y) → x.id ≡ y.id → x ≡ y
+pub unique : (p : Proc) (acts : List Act) → Each (ActWell p) acts → (x y : Message) → Contains acts (Sent x) → Contains acts (Sent y) →
+    x.id ≡ y.id → x ≡ y
 unique p acts each x y at_x at_y same =
     let s = contains_split acts (Sent x) at_x in
     let well = each s.0 s.1 (Sent x) s.2 in
@@ -53,11 +54,16 @@ module _ (w : Network) (f : Facts w) where
   sent_source p x at =
       let s = contains_split _ _ at in
       let well = f.each p s.0 s.1 (Sent x) s.2 in
-      record { at = subst (λ q. Contains (acts_of w q) (Sent x)) (sym well.own) at; before = s.0; well = subst (λ q. SentWell q s.0 x) (sym well.own) well }
+      record {
+        at = subst (λ q. Contains (acts_of w q) (Sent x)) (sym well.own) at;
+        before = s.0;
+        well = subst (λ q. SentWell q s.0 x) (sym well.own) well;
+      }
 
   pub source : (p : Proc) (x : Message) (a c : List Act) → acts_of w p ≡ a ++ c → HasDone a x → Source x
   source p x a c e (inl at) = sent_source p x (subst (λ h. Contains h (Sent x)) (sym e) (Contains-append_left a c _ at))
-  source p x a c e (inr at) = sent_source x.id.proc x (f.was_sent p x (subst (λ h. Contains h (Delivered x)) (sym e) (Contains-append_left a c _ at)))
+  source p x a c e (inr at) =
+      sent_source x.id.proc x (f.was_sent p x (subst (λ h. Contains h (Delivered x)) (sym e) (Contains-append_left a c _ at)))
 
   done : (y z : Message) → Edge w y z → (a c : List Act) × (acts_of w z.id.proc ≡ a ++ Sent z ∷ c) × HasDone a y
   done y z (inl s) = let t = stood _ _ _ s in (t.0, t.1, t.2, inl t.3)
@@ -87,7 +93,8 @@ module _ (w : Network) (f : Facts w) where
     too_late cut at =
         let s = contains_split _ _ at in
         let is = e ∙ ap (λ z. a ++ Delivered m ∷ z) s.2 ∙ sym (append_assoc a (Delivered m ∷ s.0) (Entered x.group x.view cut ∷ s.1)) in
-        let low = (f.each p (a ++ Delivered m ∷ s.0) s.1 (Entered x.group x.view cut) is).above m (inr (contains_here a s.0 (Delivered m))) in
+        let low =
+        (f.each p (a ++ Delivered m ∷ s.0) s.1 (Entered x.group x.view cut) is).above m (inr (contains_here a s.0 (Delivered m))) in
         elim covers [ inl above ↦ omega (arith, above, low) | inr level ↦ omega (arith, level.0, low) ]
 
     inside : (cut : CountList) → Contains a (Entered x.group x.view cut) → HasDelivered a x
@@ -99,17 +106,26 @@ module _ (w : Network) (f : Facts w) where
         elim (first_entry x.group b) [
           | inr none ↦ f.each p a c (Delivered m) e x (first, b, cut, s.2, stays, none) covers other counted
           | inl n ↦
-              let left : NeverLeft x.group n.before = λ at. stays (subst (λ z. Contains z (Left x.group)) (sym n.is) (Contains-append_left n.before _ _ at)) in
+              let left : NeverLeft x.group n.before =
+              λ at. stays (subst (λ z. Contains z (Left x.group)) (sym n.is) (Contains-append_left n.before _ _ at)) in
               let until : List Act = first ++ Entered x.group x.view cut ∷ n.before in
               let whole : a ≡ until ++ Entered x.group n.number n.cut ∷ n.later =
-              s.2 ∙ ap (λ z. first ++ Entered x.group x.view cut ∷ z) n.is ∙ sym (append_assoc first (Entered x.group x.view cut ∷ n.before) _) in
+              s.2
+              ∙ ap (λ z. first ++ Entered x.group x.view cut ∷ z) n.is
+              ∙ sym (append_assoc first (Entered x.group x.view cut ∷ n.before) _) in
               let all = e ∙ ap (λ z. z ++ Delivered m ∷ c) whole in
               let was : IsIn until x.group x.view = (first, n.before, cut, refl, left, n.first) in
               let entered = f.each p until (n.later ++ Delivered m ∷ c) (Entered x.group n.number n.cut)
               (all ∙ append_assoc until (Entered x.group n.number n.cut ∷ n.later) (Delivered m ∷ c)) in
-              let within = due.cut until n.later c n.cut (all ∙ ap (λ k. until ++ Entered x.group k n.cut ∷ n.later ++ Delivered m ∷ c) (entered.next x.view was)) in
-              let has = entered.cuts x.view (entry_of x) tt was counted within in
-              (has.0, has.1, subst (λ z. Contains z (Delivered has.0)) (sym whole) (Contains-append_left until (Entered x.group n.number n.cut ∷ n.later) (Delivered has.0) has.2))
+              let within =
+              due.cut until n.later c n.cut
+              (all ∙ ap (λ k. until ++ Entered x.group k n.cut ∷ n.later ++ Delivered m ∷ c) (entered.next x.view was)) in
+              let has = entered.cuts x.view (entry_of x) tt was counted within in (
+                has.0,
+                has.1,
+                subst (λ z. Contains z (Delivered has.0)) (sym whole)
+                    (Contains-append_left until (Entered x.group n.number n.cut ∷ n.later) (Delivered has.0) has.2),
+              )
         ]
 
   pub delivers : DeliversInOrder w
@@ -119,11 +135,14 @@ module _ (w : Network) (f : Facts w) where
       let r = risen x m before in
       let covers = r.0 x.id from.well.itself in
       let other : x.id ≡ m.id → ⊥ = λ same. r.1 (subst (λ u. Covers x.times u) same from.well.itself) in
-      elim (contains_around s.0 s.1 (Delivered m) (Entered x.id.group x.id.view due.entered.0) (subst (λ h. Contains h (Entered x.id.group x.id.view due.entered.0)) s.2 due.entered.1)) [
+      elim (contains_around s.0 s.1 (Delivered m) (Entered x.id.group x.id.view due.entered.0)
+      (subst (λ h. Contains h (Entered x.id.group x.id.view due.entered.0)) s.2 due.entered.1)) [
         | inl earlier ↦
             let y = inside p x.id m due s.0 s.1 s.2 covers other from.well.counted due.entered.0 earlier in
             let sent = f.was_sent p y.0 (subst (λ h. Contains h (Delivered y.0)) (sym s.2) (Contains-append_left s.0 _ _ y.2)) in
-            let same : y.0 ≡ x = unique x.id.proc _ (f.each x.id.proc) y.0 x (subst (λ q. Contains (acts_of w q) (Sent y.0)) (ap (λ (u : Uid). u.proc) y.1) sent) from.at y.1 in
+            let same : y.0 ≡ x =
+            unique x.id.proc _ (f.each x.id.proc) y.0 x (subst (λ q. Contains (acts_of w q) (Sent y.0)) (ap (λ (u : Uid). u.proc) y.1) sent)
+            from.at y.1 in
             stands _ s.0 s.1 _ _ s.2 (subst (λ z. Contains s.0 (Delivered z)) same y.2)
         | inr (inl same) ↦ absurd (entered_other m x.id.group x.id.view due.entered.0 same)
         | inr (inr later) ↦ absurd (too_late p x.id m due s.0 s.1 s.2 covers other from.well.counted due.entered.0 later)

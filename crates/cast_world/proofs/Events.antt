@@ -3,7 +3,8 @@ use Rattle.std.proofs.Common.{ap, inl, inr, subst, sym, ◌∙◌}
 use Rattle.std.proofs.lemmas.Bool.{and_from, and_parts, eq-eqb, false≢true}
 use Rattle.std.specs.List.{find, fold, list_any}
 use Rattle.std.specs.Option.{option_map_or}
-use Rattle.std.specs.Prelude.{Bool, Contains, None, List, Option, Some, [], false, filter, if◌then◌else◌, is_some, length, not, refl, true, unwrap_or, ℕ, ◌&&◌, ◌||◌, ◌+◌, ◌==◌, ◌∷◌, ◌≡◌, ◌⊎◌}
+use Rattle.std.specs.Prelude.{Bool, Contains, None, List, Option, Some, [], false, filter, if◌then◌else◌, is_some}
+use Rattle.std.specs.Prelude.{length, not, refl, true, unwrap_or, ℕ, ◌&&◌, ◌||◌, ◌+◌, ◌==◌, ◌∷◌, ◌≡◌, ◌⊎◌}
 use Rattle.cast_ready.specs.Ready.{covered_entries, is_member}
 use Rattle.cast_rules.specs.Acts.Act.{Delivered}
 use Rattle.cast_rules.specs.Effects.{delivering, sending}
@@ -94,7 +95,8 @@ SetsWell I s (event.Take d n most) = Unit {0}
 SetsWell I s (event.Tick t) = Unit {0}
 
 -- so it is where any quotas are
-pub sets_any : (I : State → Type 0) → ((s : State) (quotas : Quotas) → I s → I (record s { quotas = quotas })) → (s : State) (e : Event) → I s → SetsWell I s e
+pub sets_any : (I : State → Type 0) → ((s : State) (quotas : Quotas) → I s → I (record s { quotas = quotas })) → (s : State) (e : Event) →
+    I s → SetsWell I s e
 sets_any I any s (event.Open d) i = tt
 sets_any I any s (event.Command d n c) i = tt
 sets_any I any s (event.Gone d n) i = tt
@@ -105,14 +107,18 @@ sets_any I any s (event.Take d n most) i = tt
 sets_any I any s (event.Tick t) i = tt
 
 -- what is missing within a cut is one that the cut names
-missing_named : (s : State) (g : GroupNo) (cut : CountList) (x : Entry) → Contains (missing_in s g cut) x → is_among entry_eq x (covered_entries cut) ≡ true
+missing_named : (s : State) (g : GroupNo) (cut : CountList) (x : Entry) → Contains (missing_in s g cut) x →
+    is_among entry_eq x (covered_entries cut) ≡ true
 missing_named s g cut x at =
-    among_of entry_eq entry_itself (covered_entries cut) x (among_kept (is_missing s g) (covered_entries cut) x (taken_of MAX_PLACED (filter (is_missing s g) (covered_entries cut)) x at))
+    among_of entry_eq entry_itself (covered_entries cut)
+    x (among_kept (is_missing s g) (covered_entries cut) x (taken_of MAX_PLACED (filter (is_missing s g) (covered_entries cut)) x at))
 
 -- it was not received
-missing_lacked : (s : State) (g : GroupNo) (cut : CountList) (x : Entry) → Contains (missing_in s g cut) x → is_received s (uid_in g (s.group g).number x) ≡ false
+missing_lacked : (s : State) (g : GroupNo) (cut : CountList) (x : Entry) → Contains (missing_in s g cut) x →
+    is_received s (uid_in g (s.group g).number x) ≡ false
 missing_lacked s g cut x at =
-    neither (is_delivered_here s g x) (is_received s (uid_in g (s.group g).number x)) (passed (is_missing s g) (covered_entries cut) x (taken_of MAX_PLACED (filter (is_missing s g) (covered_entries cut)) x at))
+    neither (is_delivered_here s g x) (is_received s (uid_in g (s.group g).number x))
+    (passed (is_missing s g) (covered_entries cut) x (taken_of MAX_PLACED (filter (is_missing s g) (covered_entries cut)) x at))
   where
     neither : (a b : Bool) → not (a || b) ≡ true → b ≡ false
     neither true b e = absurd (false≢true e)
@@ -120,16 +126,23 @@ missing_lacked s g cut x at =
     neither false false e = refl
 
 -- so a Want of it is of a message that the waiting Install covers
-named_covers : (s : State) (g : GroupNo) (p : Pending) → (s.group g).pending ≡ Some p → (x : Entry) → is_among entry_eq x (covered_entries p.cut) ≡ true → Wants s (own_want_key history s g x)
+named_covers : (s : State) (g : GroupNo) (p : Pending) → (s.group g).pending ≡ Some p → (x : Entry) →
+    is_among entry_eq x (covered_entries p.cut) ≡ true → Wants s (own_want_key history s g x)
 named_covers s g p pending x named_it =
-    ap (λ (o : Option Pending). elim o [ Some q ↦ ((s.group g).number == (s.group g).number) && is_among entry_eq x (covered_entries q.cut) | None ↦ false ]) pending
-    ∙ and_from ((s.group g).number == (s.group g).number) (is_among entry_eq x (covered_entries p.cut)) (eq-eqb (s.group g).number (s.group g).number refl) named_it
+    ap (λ (o : Option Pending). elim o [
+      | Some q ↦
+          ((s.group g).number == (s.group g).number) && is_among entry_eq x (covered_entries q.cut)
+      | None ↦ false
+    ]) pending
+    ∙ and_from ((s.group g).number == (s.group g).number) (is_among entry_eq x (covered_entries p.cut))
+    (eq-eqb (s.group g).number (s.group g).number refl) named_it
 
 is_false : (b : Bool) → not b ≡ true → b ≡ false
 is_false true e = absurd (false≢true e)
 is_false false e = refl
 
-module _ (I : State → Type 0) (Between : GroupNo → State → Type 0) (During : Uid → State → Type 0) (Came : SiteNo → SiteFrame → Type 0) (home_here : Bool) (k : FullyKept I Between During Came home_here) where
+module _ (I : State → Type 0) (Between : GroupNo → State → Type 0) (During : Uid → State → Type 0) (Came : SiteNo → SiteFrame → Type 0)
+    (home_here : Bool) (k : FullyKept I Between During Came home_here) where
   abbrev t : FullyKeptByTelling I
   t = k.telling
 
@@ -138,7 +151,8 @@ module _ (I : State → Type 0) (Between : GroupNo → State → Type 0) (During
   let_go_keeps : (s : State) → I s → I (let_go s)
   let_go_keeps s i = t.releases s (is_free s) i
 
-  tell_of_keeps : (s : State) (n : ℕ) (m : Message) → I s → Contains (s.acts n) (Delivered m) → I (tell_if history s n (told_of m.id m.body))
+  tell_of_keeps : (s : State) (n : ℕ) (m : Message) → I s → Contains (s.acts n) (Delivered m) →
+      I (tell_if history s n (told_of m.id m.body))
   tell_of_keeps s n m i delivered = go (told_of m.id m.body) refl
     where
       go : (o : Option Push) → told_of m.id m.body ≡ o → I (tell_if history s n o)
@@ -152,13 +166,16 @@ module _ (I : State → Type 0) (Between : GroupNo → State → Type 0) (During
       go None e = i
       go (Some m) e =
           let found = found_is (is_ready_for s n) s.got m e in
-          let_go_keeps (delivering s n m) (tell_of_keeps (with_delivery s n m) n m (k.delivers s n m i found.1 found.0) (delivered_now s n m))
+          let_go_keeps (delivering s n m)
+          (tell_of_keeps (with_delivery s n m) n m (k.delivers s n m i found.1 found.0) (delivered_now s n m))
 
   settle_keeps : (s : State) → I s → I (settle s)
-  settle_keeps s i = keeps_fold I deliver_all (λ r n j. keeps_iterate I (deliver_first n) (deliver_first_keeps n) (length r.got) r j) (serials s) s i
+  settle_keeps s i =
+      keeps_fold I deliver_all (λ r n j. keeps_iterate I (deliver_first n) (deliver_first_keeps n) (length r.got) r j) (serials s) s i
 
   -- the places that a holder sets next are those after the order known here
-  next_are : (s : State) (g : GroupNo) (n : ℕ) (places : Placement) → next_places s g n ≡ Some places → body.Order places ≡ body.Order (places_of s g n)
+  next_are : (s : State) (g : GroupNo) (n : ℕ) (places : Placement) → next_places s g n ≡ Some places →
+      body.Order places ≡ body.Order (places_of s g n)
   next_are s g n places e = ap (λ (p : Placement). body.Order p) (go (not (is_empty (unlisted_ids s g n)) && has_place (order_told s g)) e)
     where
       go : (b : Bool) → (if b then Some (places_of s g n) else None) ≡ Some places → places ≡ places_of s g n
@@ -169,10 +186,14 @@ module _ (I : State → Type 0) (Between : GroupNo → State → Type 0) (During
   set_order_by_keeps s g n i held = keeps_if I (may_list history resting s g n) _ s
       (λ may. keeps_option I (list_places history resting s g n) (next_places s g n) s
       (λ places next. keeps_if I (may_raise (s.process n).time g (local s n)) (let_go (sending s g n (body.Order places))) s
-      (λ _. let_go_keeps (sending s g n (body.Order places)) (sending_keeps I Between During Came home_here k s g n (body.Order places) i (and_parts (is_member ((s.process n).standing g)) _ may).0
-      (lists held (is_false (s.group g).frozen (and_parts (not (s.group g).frozen) (may_order history s) (and_parts (is_member ((s.process n).standing g)) _ may).1).0) (next_are s g n places next))
+      (λ _. let_go_keeps (sending s g n (body.Order places)) (sending_keeps I Between During Came home_here k s g n (body.Order places)
+      i (and_parts (is_member ((s.process n).standing g)) _ may).0
+      (lists held (is_false (s.group g).frozen
+      (and_parts (not (s.group g).frozen) (may_order history s) (and_parts (is_member ((s.process n).standing g)) _ may).1).0)
+      (next_are s g n places next))
       (and_parts (not (s.group g).frozen) (may_order history s) (and_parts (is_member ((s.process n).standing g)) _ may).1).1
-      (is_false (s.group g).frozen (and_parts (not (s.group g).frozen) (may_order history s) (and_parts (is_member ((s.process n).standing g)) _ may).1).0)))
+      (is_false (s.group g).frozen
+      (and_parts (not (s.group g).frozen) (may_order history s) (and_parts (is_member ((s.process n).standing g)) _ may).1).0)))
       (λ _. i)) i) (λ _. i)
 
   set_order_keeps : (s : State) (g : GroupNo) → I s → I (set_order s g)
@@ -180,13 +201,16 @@ module _ (I : State → Type 0) (Between : GroupNo → State → Type 0) (During
     where
       each : (ns : List ℕ) (r : State) → I r → ((n : ℕ) → Contains ns n → holds r g n ≡ true) → I (fold (λ t n. set_order_by t g n) r ns)
       each [] r j held = j
-      each (n ∷ ns) r j held = each ns (set_order_by r g n) (set_order_by_keeps r g n j (held n (contains_here [] ns n))) (λ m at. holds_still r g n m ∙ held m (contains_more n ns m at))
+      each (n ∷ ns) r j held =
+          each ns (set_order_by r g n) (set_order_by_keeps r g n j (held n (contains_here [] ns n)))
+          (λ m at. holds_still r g n m ∙ held m (contains_more n ns m at))
 
   -- owing a Want changes no group
   same_group : (s : State) (key : OwedKey) → (owe history s key).group ≡ s.group
   same_group s key = go (is_owed s.owed key) (frame_for history s key)
     where
-      go : (b : Bool) (o : Option SiteFrame) → (if b then s else noting_owed (option_map_or (history.send s key.site) o s) key).group ≡ s.group
+      go : (b : Bool) (o : Option SiteFrame) →
+          (if b then s else noting_owed (option_map_or (history.send s key.site) o s) key).group ≡ s.group
       go true o = refl
       go false None = refl
       go false (Some f) = refl
@@ -200,24 +224,29 @@ module _ (I : State → Type 0) (Between : GroupNo → State → Type 0) (During
       go false None = refl
       go false (Some f) = refl
 
-  want_all : (g : GroupNo) (p : Pending) (xs : List Entry) (s : State) → I s → (s.group g).pending ≡ Some p → ((x : Entry) → Contains xs x → is_among entry_eq x (covered_entries p.cut) ≡ true) →
+  want_all : (g : GroupNo) (p : Pending) (xs : List Entry) (s : State) → I s → (s.group g).pending ≡ Some p →
+      ((x : Entry) → Contains xs x → is_among entry_eq x (covered_entries p.cut) ≡ true) →
       ((x : Entry) → Contains xs x → is_received s (uid_in g (s.group g).number x) ≡ false) →
       I (fold (want_own history g) s xs)
   want_all g p [] s i pending named_all lacked = i
   want_all g p (x ∷ xs) s i pending named_all lacked =
       let key : OwedKey = own_want_key history s g x in
-      want_all g p xs (owe history s key) (owe_keeps I t s key i tt (named_covers s g p pending x (named_all x (contains_here [] xs x))) (lacked x (contains_here [] xs x)))
+      want_all g p xs (owe history s key)
+      (owe_keeps I t s key i tt (named_covers s g p pending x (named_all x (contains_here [] xs x))) (lacked x (contains_here [] xs x)))
       (ap (λ (f : GroupNo → MemberSide). (f g).pending) (same_group s key) ∙ pending) (λ y at. named_all y (contains_more x xs y at))
-      (λ y at. (λ i_at. list_any (λ (m : Message). uid_eq m.id (uid_in g (same_group s key i_at g).number y)) (same_got s key i_at)) ∙ lacked y (contains_more x xs y at))
+      (λ y at. (λ i_at. list_any (λ (m : Message). uid_eq m.id (uid_in g (same_group s key i_at g).number y)) (same_got s key i_at))
+      ∙ lacked y (contains_more x xs y at))
 
   go_on_keeps : (s : State) (g : GroupNo) → I s → I (go_on history resting s g)
   go_on_keeps s g i = go (s.group g).pending refl
     where
       go : (o : Option Pending) → (s.group g).pending ≡ o → I (elim o [ Some p ↦ complete_or_want history resting s g p | None ↦ s ])
       go None e = i
-      go (Some p) e = keeps_if I (has_delivered_cut s g p.cut) (let_go (complete history s g p)) (fold (want_own history g) s (missing_in s g p.cut))
+      go (Some p) e =
+          keeps_if I (has_delivered_cut s g p.cut) (let_go (complete history s g p)) (fold (want_own history g) s (missing_in s g p.cut))
           (λ all. let_go_keeps (complete history s g p)
-          (install_keeps I Between During Came home_here k s g false s.config.home ((s.group g).number + 1) p.members p.request p.cut i (completes p e all refl refl refl refl refl)))
+          (install_keeps I Between During Came home_here k s g false s.config.home ((s.group g).number + 1)
+          p.members p.request p.cut i (completes p e all refl refl refl refl refl)))
           (λ _. want_all g p (missing_in s g p.cut) s i e (missing_named s g p.cut) (missing_lacked s g p.cut))
 
   pub pass_keeps : (s : State) → I s → I (pass s)
@@ -249,7 +278,8 @@ module _ (I : State → Type 0) (Between : GroupNo → State → Type 0) (During
       (λ _. t.sets_session s n (taken_from most (s.session n)) i (λ e. e)) (λ _. i)
   acted_keeps s (event.Tick time) i come sets = tick_keeps I t s time i (owed_or_free s i)
 
-  pub event_keeps_fully : (s : State) (e : Event) → I (before_event s) → HasCome Came e → SetsWell I (before_event s) e → I (after_event s e)
+  pub event_keeps_fully : (s : State) (e : Event) → I (before_event s) → HasCome Came e → SetsWell I (before_event s) e →
+      I (after_event s e)
   event_keeps_fully s e i come sets = let_go_keeps (act_of_event (before_event s) e) (acted_keeps (before_event s) e i come sets)
 
 -- the same of what does not look at what is owed

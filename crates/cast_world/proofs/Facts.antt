@@ -115,6 +115,7 @@ Fits me p acts = FitsParts me p.time p.standing p.delivered acts
 -- a message is allowed to a process: of its groups it has delivered what the message's time covers
 pub record IsAllowed (p : Process) (m : Message) : Type 0 where
   pub view : (g : GroupNo) → p.standing g ≡ Member → view_of m.times g ≤ view_of p.time g
-  pub past : (u : Uid) → LooksIn m u.group → p.standing u.group ≡ Member → u.view ≡ view_of m.times u.group → u.view ≡ view_of p.time u.group →
+  pub past : (u : Uid) → LooksIn m u.group → p.standing u.group ≡ Member → u.view ≡ view_of m.times u.group →
+      u.view ≡ view_of p.time u.group →
       u.count ≤ count_in m.times u.group u.proc → 1 ≤ u.count → (u ≡ m.id → ⊥) → Contains p.delivered u
   pub heard : (g : GroupNo) (request heard : ℕ) → HeedsIn m g → p.standing g ≡ Joining request heard → view_of m.times g ≤ heard

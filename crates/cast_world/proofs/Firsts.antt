@@ -4,7 +4,8 @@ use Rattle.std.proofs.Common.{ap, append_assoc, arith, inl, inr, subst, sym, ◌
 use Rattle.std.proofs.lemmas.Bool.{false_from_ne_true, true≢false}
 use Rattle.std.proofs.lemmas.List.Elements.{filter-append}
 use Rattle.std.proofs.lemmas.List.{append-nil, length-append}
-use Rattle.std.specs.Prelude.{◌+◌, ◌++◌, Bool, Contains, List, Some, [], cond, drop, false, filter, length, not, refl, suc, take, true, zero, ℕ, ◌∷◌, ◌≡◌, ◌≤◌, ◌⊎◌}
+use Rattle.std.specs.Prelude.{◌+◌, ◌++◌, Bool, Contains, List, Some, [], cond, drop, false, filter}
+use Rattle.std.specs.Prelude.{length, not, refl, suc, take, true, zero, ℕ, ◌∷◌, ◌≡◌, ◌≤◌, ◌⊎◌}
 use Rattle.cast_order.specs.Order.{next_of}
 use Rattle.cast_types.specs.Names.{Entry, entry_eq}
 use Rattle.cast_world.proofs.Allowed.{contains_more, passed}
@@ -24,7 +25,8 @@ firsts (x ∷ xs) = x ∷ but x (firsts xs)
 pub firsts_had : (xs : List Entry) (e : Entry) → Contains (firsts xs) e → Contains xs e
 firsts_had [] e at = at
 firsts_had (x ∷ xs) e (zero, lt, is) = (0, omega arith, is)
-firsts_had (x ∷ xs) e (suc n, lt, is) = contains_more x xs e (firsts_had xs e (among_kept (λ y. not (entry_eq x y)) (firsts xs) e (n, omega (arith, lt), is)))
+firsts_had (x ∷ xs) e (suc n, lt, is) =
+    contains_more x xs e (firsts_had xs e (among_kept (λ y. not (entry_eq x y)) (firsts xs) e (n, omega (arith, lt), is)))
 
 pub apart_kept : (test : Entry → Bool) (xs : List Entry) → Apart xs → Apart (filter test xs)
 apart_kept test [] apart = tt
@@ -48,16 +50,19 @@ firsts_begin (x ∷ xs) ys apart =
     let more = firsts_begin xs ys apart.1 in (
       but x more.0,
       ap (λ l. x ∷ l) (
-          ap (λ l. l ++ but x more.0) (sym (keeps_every (λ y. not (entry_eq x y)) xs (λ y at. ap not (false_from_ne_true (entry_eq x y) (λ same. apart.0 (subst (Contains xs) (sym (same_entry x y same)) at))))))
+          ap (λ l. l ++ but x more.0) (sym (keeps_every (λ y. not (entry_eq x y))
+          xs (λ y at. ap not (false_from_ne_true (entry_eq x y) (λ same. apart.0 (subst (Contains xs) (sym (same_entry x y same)) at))))))
           ∙ sym (filter-append (λ y. not (entry_eq x y)) xs more.0) ∙ ap (but x) more.1),
     )
 
 -- the first one that was not delivered is the first one of the first elements
-next_kept : (has keep : Entry → Bool) (xs : List Entry) → ((y : Entry) → keep y ≡ false → has y ≡ true) → next_of has (filter keep xs) ≡ next_of has xs
+next_kept : (has keep : Entry → Bool) (xs : List Entry) → ((y : Entry) → keep y ≡ false → has y ≡ true) →
+    next_of has (filter keep xs) ≡ next_of has xs
 next_kept has keep [] all = refl
 next_kept has keep (x ∷ xs) all = go (keep x) refl (next_kept has keep xs all)
   where
-    go : (b : Bool) → keep x ≡ b → next_of has (filter keep xs) ≡ next_of has xs → next_of has (cond b (x ∷ filter keep xs) (filter keep xs)) ≡ next_of has (x ∷ xs)
+    go : (b : Bool) → keep x ≡ b → next_of has (filter keep xs) ≡ next_of has xs →
+        next_of has (cond b (x ∷ filter keep xs) (filter keep xs)) ≡ next_of has (x ∷ xs)
     go true e more = ap (λ r. cond (not (has x)) (Some x) r) more
     go false e more = more ∙ sym (ap (λ b. cond (not b) (Some x) (next_of has xs)) (all x e))
 
@@ -69,9 +74,12 @@ next_first has (x ∷ xs) = go (has x) refl (next_first has xs)
     is_same true e = refl
     is_same false e = absurd (true≢false e)
 
-    go : (b : Bool) → has x ≡ b → next_of has (firsts xs) ≡ next_of has xs → cond (not b) (Some x) (next_of has (but x (firsts xs))) ≡ cond (not b) (Some x) (next_of has xs)
+    go : (b : Bool) → has x ≡ b → next_of has (firsts xs) ≡ next_of has xs →
+        cond (not b) (Some x) (next_of has (but x (firsts xs))) ≡ cond (not b) (Some x) (next_of has xs)
     go false e more = refl
-    go true e more = next_kept has (λ y. not (entry_eq x y)) (firsts xs) (λ y same. ap has (sym (same_entry x y (is_same (entry_eq x y) same))) ∙ e) ∙ more
+    go true e more =
+        next_kept has (λ y. not (entry_eq x y)) (firsts xs) (λ y same. ap has (sym (same_entry x y (is_same (entry_eq x y) same))) ∙ e)
+        ∙ more
 
 -- Filters
 

@@ -44,7 +44,8 @@ IsChosen choice g view p = Contains (choice g view).members.list p
 
 -- A site has told the home these counts of a view: it is frozen while that view stands, and all of the view that its processes
 -- delivered is within the counts, or within the cut that was decided since
-pub record HasTold (choice : Choice) (number : GroupNo → ℕ) (group : GroupNo → MemberSide) (acts : ℕ → List Act) (g : GroupNo) (view : ℕ) (counts : CountList) : Type 0 where
+pub record HasTold (choice : Choice) (number : GroupNo → ℕ) (group : GroupNo → MemberSide) (acts : ℕ → List Act) (g : GroupNo) (view : ℕ)
+    (counts : CountList) : Type 0 where
   pub reached : view ≤ (group g).number
   pub frozen : (group g).number ≡ view → (group g).frozen ≡ true
   pub within : (k : ℕ) (m : Message) → Contains (acts k) (Delivered m) → m.id.group ≡ g → m.id.view ≡ view →
@@ -76,14 +77,17 @@ IsTrueOf choice number at from (frame.Out g view) = Unit {0}
 -- a group at a site has what was decided, and is frozen only while it has a view
 pub record GroupAgrees (choice : Choice) (g : GroupNo) (group : MemberSide) : Type 0 where
   pub view : (m : Membership) → group.view ≡ Some m → m ≡ (choice g group.number).members
-  pub pending : (p : Pending) → group.pending ≡ Some p → (p.members ≡ (choice g (group.number + 1)).members) × (p.cut ≡ (choice g (group.number + 1)).cut)
+  pub pending : (p : Pending) → group.pending ≡ Some p →
+      (p.members ≡ (choice g (group.number + 1)).members) × (p.cut ≡ (choice g (group.number + 1)).cut)
   pub frozen : group.frozen ≡ true → has_view group ≡ true
 
 -- after these acts a process enters a view with nothing delivered beyond the cut
 abbrev pub CutWell : List Act → Act → Type 0
 CutWell a (Sent m) = Unit {0}
 CutWell a (Delivered m) = Unit {0}
-CutWell a (Entered g n cut) = (view : ℕ) (m : Message) → IsIn a g view → Contains a (Delivered m) → m.id.group ≡ g → m.id.view ≡ view → IsTrue (is_within cut (entry_of m.id))
+CutWell a (Entered g n cut) =
+    (view : ℕ) (m : Message) → IsIn a g view → Contains a (Delivered m) → m.id.group ≡ g → m.id.view ≡ view →
+    IsTrue (is_within cut (entry_of m.id))
 CutWell a (Left g) = Unit {0}
 
 pub record OneAgrees (choice : Choice) (number : GroupNo → ℕ) (here : SiteNo) (used : ℕ) (group : GroupNo → MemberSide) (k : ℕ)
@@ -98,12 +102,14 @@ pub record OneAgrees (choice : Choice) (number : GroupNo → ℕ) (here : SiteNo
 -- a home's members and decision are those that were chosen, it awaits whom it must, and its reports were told
 pub record HomeAgrees (choice : Choice) (number : GroupNo → ℕ) (at : Sites) (g : GroupNo) (h : Home) : Type 0 where
   pub members : h.members ≡ (choice g h.number).members
-  pub decision : (waiting : List SiteNo) (d : Decision) (bodies : List Message) → h.phase ≡ Installing waiting d bodies → d.cut ≡ (choice g h.number).cut
+  pub decision : (waiting : List SiteNo) (d : Decision) (bodies : List Message) → h.phase ≡ Installing waiting d bodies →
+      d.cut ≡ (choice g h.number).cut
   pub awaits : Awaits h
   pub reports : (s : SiteNo) (r : Report) → Contains (reports_of h.phase) (s, r) → Told choice number (at s) g h.number r.counts
 
 -- the parts of a site, each of the fields that it reads
-pub record AgreeParts (choice : Choice) (number : GroupNo → ℕ) (at : Sites) (s : SiteNo) (here : SiteNo) (used : ℕ) (process : ℕ → Process) (acts : ℕ → List Act)
+pub record AgreeParts (choice : Choice) (number : GroupNo → ℕ) (at : Sites) (s : SiteNo) (here : SiteNo) (used : ℕ) (process : ℕ → Process)
+    (acts : ℕ → List Act)
     (group : GroupNo → MemberSide) (home_of : GroupNo → Home) (got : List Message) (frames : List (SiteNo × SiteFrame)) : Type 0 where
   pub groups : (g : GroupNo) → GroupAgrees choice g (group g)
   pub ones : (k : ℕ) → OneAgrees choice number here used group k (process k).standing (process k).delivered (acts k)

@@ -20,10 +20,12 @@ use Rattle.cast_types.specs.declared.names.Uid.{Uid}
 use Rattle.cast_view.specs.MemberSide.{MemberSide, members_of, with_view}
 use Rattle.cast_world.proofs.Flush.{Choice, CutWell, IsMembers, OneAgrees, Told}
 use Rattle.cast_world.proofs.Laters.{set_all, set_group_all}
-use Rattle.cast_world.proofs.Lists.{before_delivered, before_entered, before_left, before_sent, each_more, entered_same, entry_delivered, entry_left, entry_sent, same_cut}
+use Rattle.cast_world.proofs.Lists.{before_delivered, before_entered, before_left, before_sent, each_more}
+use Rattle.cast_world.proofs.Lists.{entered_same, entry_delivered, entry_left, entry_sent, same_cut}
 
 -- what a process delivered before some were put out it delivered
-pub parted_old : (s : State) (g : GroupNo) (goes : ℕ → Bool) (k : ℕ) (m : Message) → Contains ((all_parted s g goes).acts k) (Delivered m) → Contains (s.acts k) (Delivered m)
+pub parted_old : (s : State) (g : GroupNo) (goes : ℕ → Bool) (k : ℕ) (m : Message) → Contains ((all_parted s g goes).acts k) (Delivered m) →
+    Contains (s.acts k) (Delivered m)
 parted_old s g goes k m at = go (goes k) at
   where
     go : (b : Bool) → Contains (if b then s.acts k ++ Left g ∷ [] else s.acts k) (Delivered m) → Contains (s.acts k) (Delivered m)
@@ -37,12 +39,15 @@ pub record Flows (choice : Choice) (number : GroupNo → ℕ) (group next : Grou
   pub reached : (g : GroupNo) → (group g).number ≤ (next g).number
   pub frozen : (g : GroupNo) → (next g).number ≡ (group g).number → (group g).frozen ≡ true → (next g).frozen ≡ true
   pub delivers : (k : ℕ) (m : Message) → Contains (more k) (Delivered m) → Contains (acts k) (Delivered m)
-      ⊎ (((group m.id.group).number ≡ m.id.view) × ((group m.id.group).frozen ≡ true → (m.id.view < number m.id.group) × IsTrue (is_within (choice m.id.group (m.id.view + 1)).cut (entry_of m.id))))
+      ⊎ (((group m.id.group).number ≡ m.id.view)
+      × ((group m.id.group).frozen ≡ true → (m.id.view < number m.id.group)
+      × IsTrue (is_within (choice m.id.group (m.id.view + 1)).cut (entry_of m.id))))
 
 abbrev pub FlowsTo : Choice → (GroupNo → ℕ) → State → State → Type 0
 FlowsTo choice number s t = Flows choice number s.group t.group s.acts t.acts
 
-pub told_flows : (choice : Choice) (number : GroupNo → ℕ) (s t : State) → FlowsTo choice number s t → (g : GroupNo) (view : ℕ) (counts : CountList) → Told choice number s g view counts → Told choice number t g view counts
+pub told_flows : (choice : Choice) (number : GroupNo → ℕ) (s t : State) → FlowsTo choice number s t →
+    (g : GroupNo) (view : ℕ) (counts : CountList) → Told choice number s g view counts → Told choice number t g view counts
 told_flows choice number s t f g view counts told = record {
   reached = (let up = f.reached g in let was = told.reached in omega (arith, up, was));
   frozen = λ e.
@@ -57,7 +62,8 @@ told_flows choice number s t f g view counts told = record {
         let cut = new.1 (ap (λ x. (s.group x).frozen) group ∙ told.frozen now) in
         inr (
           subst (λ x. view < number x) group (subst (λ v. v < number m.id.group) in_view cut.0),
-          subst (λ x. IsTrue (is_within (choice x (view + 1)).cut (entry_of m.id))) group (subst (λ v. IsTrue (is_within (choice m.id.group (v + 1)).cut (entry_of m.id))) in_view cut.1),
+          subst (λ x. IsTrue (is_within (choice x (view + 1)).cut (entry_of m.id)))
+              group (subst (λ v. IsTrue (is_within (choice m.id.group (v + 1)).cut (entry_of m.id))) in_view cut.1),
         )
   ];
 }
@@ -67,7 +73,9 @@ module _ (choice : Choice) (number : GroupNo → ℕ) where
   flows_same s = record { reached = λ g. omega arith; frozen = λ g e f. f; delivers = λ k m at. inl at }
 
   -- acts that are no deliveries
-  flows_acts : (s : State) (acts : ℕ → List Act) → ((k : ℕ) (m : Message) → Contains (acts k) (Delivered m) → Contains (s.acts k) (Delivered m)) → Flows choice number s.group s.group s.acts acts
+  flows_acts : (s : State) (acts : ℕ → List Act) →
+      ((k : ℕ) (m : Message) → Contains (acts k) (Delivered m) → Contains (s.acts k) (Delivered m)) →
+      Flows choice number s.group s.group s.acts acts
   flows_acts s acts old = record { reached = λ g. omega arith; frozen = λ g e f. f; delivers = λ k m at. inl (old k m at) }
 
   pub flows_part : (s : State) (k : ℕ) (g : GroupNo) → FlowsTo choice number s (outside s k g)
@@ -75,64 +83,83 @@ module _ (choice : Choice) (number : GroupNo → ℕ) where
     where
       go : (b : Bool) → Flows choice number s.group s.group s.acts (if b then (noting_act s k (Left g)).acts else s.acts)
       go true = flows_acts s (noting_act s k (Left g)).acts
-          (set_all (λ j (x : List Act). (m : Message) → Contains x (Delivered m) → Contains (s.acts j) (Delivered m)) s.acts k (s.acts k ++ Left g ∷ []) (λ j m at. at) (λ m at. before_left (s.acts k) g m at))
+          (set_all (λ j (x : List Act). (m : Message) → Contains x (Delivered m) → Contains (s.acts j) (Delivered m))
+          s.acts k (s.acts k ++ Left g ∷ []) (λ j m at. at) (λ m at. before_left (s.acts k) g m at))
       go false = flows_same s
 
   pub flows_sent : (s : State) (k : ℕ) (m : Message) → FlowsTo choice number s (receiving (noting_sent s k m) m)
-  flows_sent s k m = flows_acts s _ (set_all (λ j (x : List Act). (y : Message) → Contains x (Delivered y) → Contains (s.acts j) (Delivered y)) s.acts k (s.acts k ++ Sent m ∷ []) (λ j y at. at) (λ y at. before_sent (s.acts k) m y at))
+  flows_sent s k m =
+      flows_acts s _ (set_all (λ j (x : List Act). (y : Message) → Contains x (Delivered y) → Contains (s.acts j) (Delivered y))
+      s.acts k (s.acts k ++ Sent m ∷ []) (λ j y at. at) (λ y at. before_sent (s.acts k) m y at))
 
   pub flows_delivered : (s : State) (k : ℕ) (m : Message) → (s.group m.id.group).number ≡ m.id.view →
-      ((s.group m.id.group).frozen ≡ true → (m.id.view < number m.id.group) × IsTrue (is_within (choice m.id.group (m.id.view + 1)).cut (entry_of m.id))) → FlowsTo choice number s (with_delivery s k m)
+      ((s.group m.id.group).frozen ≡ true →
+      (m.id.view < number m.id.group) × IsTrue (is_within (choice m.id.group (m.id.view + 1)).cut (entry_of m.id))) →
+      FlowsTo choice number s (with_delivery s k m)
   flows_delivered s k m view cut = record {
     reached = λ g. omega arith;
     frozen = λ g e f. f;
     delivers = set_all (λ j (x : List Act). (y : Message) → Contains x (Delivered y) → Contains (s.acts j) (Delivered y)
-        ⊎ (((s.group y.id.group).number ≡ y.id.view) × ((s.group y.id.group).frozen ≡ true → (y.id.view < number y.id.group) × IsTrue (is_within (choice y.id.group (y.id.view + 1)).cut (entry_of y.id)))))
+        ⊎ (((s.group y.id.group).number ≡ y.id.view)
+        × ((s.group y.id.group).frozen ≡ true → (y.id.view < number y.id.group)
+        × IsTrue (is_within (choice y.id.group (y.id.view + 1)).cut (entry_of y.id)))))
         s.acts k (s.acts k ++ Delivered m ∷ []) (λ j y at. inl at)
         (λ y at. elim (before_delivered (s.acts k) m y at) [
           | inl old ↦ inl old
           | inr new ↦ inr (subst (λ (z : Message). ((s.group z.id.group).number ≡ z.id.view)
-              × ((s.group z.id.group).frozen ≡ true → (z.id.view < number z.id.group) × IsTrue (is_within (choice z.id.group (z.id.view + 1)).cut (entry_of z.id)))) new (view, cut))
+              × ((s.group z.id.group).frozen ≡ true → (z.id.view < number z.id.group)
+              × IsTrue (is_within (choice z.id.group (z.id.view + 1)).cut (entry_of z.id)))) new (view, cut))
         ]);
   }
 
-  pub flows_group : (s : State) (g : GroupNo) (v : MemberSide) → v.number ≡ (s.group g).number → ((s.group g).frozen ≡ true → v.frozen ≡ true) → FlowsTo choice number s (set_group s g v)
+  pub flows_group : (s : State) (g : GroupNo) (v : MemberSide) → v.number ≡ (s.group g).number →
+      ((s.group g).frozen ≡ true → v.frozen ≡ true) → FlowsTo choice number s (set_group s g v)
   flows_group s g v same frozen = record {
     reached = set_group_all (λ h (x : MemberSide). (s.group h).number ≤ x.number) s.group g v (λ h. omega arith) (omega (arith, same));
-    frozen = set_group_all (λ h (x : MemberSide). x.number ≡ (s.group h).number → (s.group h).frozen ≡ true → x.frozen ≡ true) s.group g v (λ h e f. f) (λ e f. frozen f);
+    frozen = set_group_all (λ h (x : MemberSide). x.number ≡ (s.group h).number → (s.group h).frozen ≡ true → x.frozen ≡ true)
+        s.group g v (λ h e f. f) (λ e f. frozen f);
     delivers = λ k m at. inl at;
   }
 
   -- a group's number goes up, or it was not frozen
-  module _ (s : State) (g : GroupNo) (v : MemberSide) (up : (s.group g).number ≤ v.number) (free : v.number ≡ (s.group g).number → (s.group g).frozen ≡ true → ⊥) where
+  module _ (s : State) (g : GroupNo) (v : MemberSide) (up : (s.group g).number ≤ v.number)
+      (free : v.number ≡ (s.group g).number → (s.group g).frozen ≡ true → ⊥) where
     ended_reached : (h : GroupNo) → (s.group h).number ≤ (set_at group_eq s.group g v h).number
     ended_reached = set_group_all (λ h (x : MemberSide). (s.group h).number ≤ x.number) s.group g v (λ h. omega arith) up
 
-    ended_frozen : (h : GroupNo) → (set_at group_eq s.group g v h).number ≡ (s.group h).number → (s.group h).frozen ≡ true → (set_at group_eq s.group g v h).frozen ≡ true
-    ended_frozen = set_group_all (λ h (x : MemberSide). x.number ≡ (s.group h).number → (s.group h).frozen ≡ true → x.frozen ≡ true) s.group g v (λ h e f. f) (λ e f. absurd (free e f))
+    ended_frozen : (h : GroupNo) → (set_at group_eq s.group g v h).number ≡ (s.group h).number → (s.group h).frozen ≡ true →
+        (set_at group_eq s.group g v h).frozen ≡ true
+    ended_frozen =
+        set_group_all (λ h (x : MemberSide). x.number ≡ (s.group h).number → (s.group h).frozen ≡ true → x.frozen ≡ true)
+        s.group g v (λ h e f. f) (λ e f. absurd (free e f))
 
   -- a site passes to a later view
-  pub flows_passing : (s : State) (g : GroupNo) (skipped : Bool) (n : ℕ) (members : Membership) (request : ℕ) (cut : CountList) → (s.group g).number < n → FlowsTo choice number s (passing s g skipped n members request cut)
+  pub flows_passing : (s : State) (g : GroupNo) (skipped : Bool) (n : ℕ) (members : Membership) (request : ℕ) (cut : CountList) →
+      (s.group g).number < n → FlowsTo choice number s (passing s g skipped n members request cut)
   flows_passing s g skipped n members request cut up = record {
     reached = ended_reached s g (with_view s.here n members (s.group g)) (omega (arith, up)) (λ e f. omega (arith, up, e));
     frozen = ended_frozen s g (with_view s.here n members (s.group g)) (omega (arith, up)) (λ e f. omega (arith, up, e));
-    delivers = λ k m at. inl (parted_old s g (is_put_out s g skipped members) k m (old k m (enters (putting_out s g skipped members) g members request k) at));
+    delivers = λ k m at. inl
+        (parted_old s g (is_put_out s g skipped members) k m (old k m (enters (putting_out s g skipped members) g members request k) at));
   }
     where
-      old : (k : ℕ) (m : Message) (b : Bool) → Contains (if b then (putting_out s g skipped members).acts k ++ Entered g n cut ∷ [] else (putting_out s g skipped members).acts k) (Delivered m) →
+      old : (k : ℕ) (m : Message) (b : Bool) → Contains (if b then (putting_out s g skipped members).acts k ++ Entered g n cut ∷ []
+          else (putting_out s g skipped members).acts k) (Delivered m) →
           Contains ((putting_out s g skipped members).acts k) (Delivered m)
       old k m true at = before_entered ((putting_out s g skipped members).acts k) g n cut m at
       old k m false at = at
 
 -- One process
 
-module _ (choice : Choice) (number : GroupNo → ℕ) (here : SiteNo) (used : ℕ) (group : GroupNo → MemberSide) (k : ℕ) (standing : GroupNo → Standing) (delivered : List Uid) (acts : List Act)
+module _ (choice : Choice) (number : GroupNo → ℕ) (here : SiteNo) (used : ℕ) (group : GroupNo → MemberSide) (k : ℕ)
+    (standing : GroupNo → Standing) (delivered : List Uid) (acts : List Act)
     (o : OneAgrees choice number here used group k standing delivered acts) where
   abbrev Next : (GroupNo → MemberSide) → (GroupNo → Standing) → List Uid → List Act → Type 0
   Next next st us more = OneAgrees choice number here used next k st us more
 
   -- standings that are as they were, or none, and groups whose members are the same
-  pub agree_less : (next : GroupNo → MemberSide) (st : GroupNo → Standing) → ((g : GroupNo) → st g ≡ Member → (standing g ≡ Member) × (members_of (next g) ≡ members_of (group g))) → Next next st delivered acts
+  pub agree_less : (next : GroupNo → MemberSide) (st : GroupNo → Standing) →
+      ((g : GroupNo) → st g ≡ Member → (standing g ≡ Member) × (members_of (next g) ≡ members_of (group g))) → Next next st delivered acts
   agree_less next st less = record {
     listed = λ g is. let was = less g is in subst (λ xs. Contains xs (record { site = here; serial = k })) (sym was.1) (o.listed g was.0);
     has = o.has;
@@ -172,17 +199,25 @@ module _ (choice : Choice) (number : GroupNo → ℕ) (here : SiteNo) (used : �
     cuts = each_more CutWell acts (Sent m) o.cuts tt;
   }
 
-  pub agree_delivered : (m : Message) → (1 ≤ k) × (k ≤ used) → IsMembers choice number m.id → Next group standing (delivered ++ m.id ∷ []) (acts ++ Delivered m ∷ [])
+  pub agree_delivered : (m : Message) → (1 ≤ k) × (k ≤ used) → IsMembers choice number m.id →
+      Next group standing (delivered ++ m.id ∷ []) (acts ++ Delivered m ∷ [])
   agree_delivered m given sender = record {
     listed = o.listed;
-    has = λ y at. elim (before_delivered acts m y at) [ inl old ↦ Contains-append_left delivered (m.id ∷ []) y.id (o.has y old) | inr new ↦ subst (λ (z : Message). Contains (delivered ++ m.id ∷ []) z.id) new (Contains-push delivered m.id) ];
+    has = λ y at. elim (before_delivered acts m y at) [
+      | inl old ↦ Contains-append_left delivered (m.id ∷ []) y.id (o.has y old)
+      | inr new ↦ subst (λ (z : Message). Contains (delivered ++ m.id ∷ []) z.id) new (Contains-push delivered m.id)
+    ];
     given = λ y at. given;
-    sender = λ y at. elim (before_delivered acts m y at) [ inl old ↦ o.sender y old | inr new ↦ subst (λ (z : Message). IsMembers choice number z.id) new sender ];
+    sender = λ y at. elim (before_delivered acts m y at) [
+      | inl old ↦ o.sender y old
+      | inr new ↦ subst (λ (z : Message). IsMembers choice number z.id) new sender
+    ];
     entered = λ h n cut at. o.entered h n cut (entry_delivered acts m h n cut at);
     cuts = each_more CutWell acts (Delivered m) o.cuts tt;
   }
 
-  pub agree_entered : (g : GroupNo) (n : ℕ) (cut : CountList) → n ≤ number g → cut ≡ (choice g n).cut → CutWell acts (Entered g n cut) → Next group standing delivered (acts ++ Entered g n cut ∷ [])
+  pub agree_entered : (g : GroupNo) (n : ℕ) (cut : CountList) → n ≤ number g → cut ≡ (choice g n).cut → CutWell acts (Entered g n cut) →
+      Next group standing delivered (acts ++ Entered g n cut ∷ [])
   agree_entered g n cut low same well = record {
     listed = o.listed;
     has = λ y at. o.has y (before_entered acts g n cut y at);
@@ -191,8 +226,10 @@ module _ (choice : Choice) (number : GroupNo → ℕ) (here : SiteNo) (used : �
     entered = λ h v other at. elim (Contains-push_cases acts (Entered g n cut) (Entered h v other) at) [
       | inl old ↦ o.entered h v other old
       | inr new ↦
-          let is = entered_same g h n v cut other new in
-          (subst (λ x. v ≤ number x) is.0 (subst (λ y. y ≤ number g) is.1 low), sym (same_cut g h n v cut other new) ∙ same ∙ ap (λ x. (choice x n).cut) is.0 ∙ ap (λ y. (choice h y).cut) is.1)
+          let is = entered_same g h n v cut other new in (
+            subst (λ x. v ≤ number x) is.0 (subst (λ y. y ≤ number g) is.1 low),
+            sym (same_cut g h n v cut other new) ∙ same ∙ ap (λ x. (choice x n).cut) is.0 ∙ ap (λ y. (choice h y).cut) is.1,
+          )
     ];
     cuts = each_more CutWell acts (Entered g n cut) o.cuts well;
   }

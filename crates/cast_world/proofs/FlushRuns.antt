@@ -2,7 +2,8 @@
 use Rattle.std.proofs.Common.{ap, arith, inl, inr, subst, sym}
 use Rattle.std.proofs.lemmas.Bool.{false≢true}
 use Rattle.std.proofs.lemmas.List.Elements.{Contains-append_cases, Contains-append_right}
-use Rattle.std.specs.Prelude.{◌+◌, ◌++◌, ◌<◌, Bool, Contains, IsTrue, List, None, Option, Some, [], false, if◌then◌else◌, is_some, map, refl, true, ℕ, ◌∷◌, ◌≡◌, ◌≤◌}
+use Rattle.std.specs.Prelude.{◌+◌, ◌++◌, ◌<◌, Bool, Contains, IsTrue, List, None, Option, Some, []}
+use Rattle.std.specs.Prelude.{false, if◌then◌else◌, is_some, map, refl, true, ℕ, ◌∷◌, ◌≡◌, ◌≤◌}
 use Rattle.cast_rules.specs.Acts.{Act}
 use Rattle.cast_rules.specs.Acts.Act.{Delivered, Entered}
 use Rattle.cast_rules.specs.Rules.Views.{no_members}
@@ -55,14 +56,18 @@ module _ (home : SiteNo) (w : Network) (h : AllHold home w) (choice : Choice) (a
       go true e = ap (λ z. ((w.at z).home g).number) (same_site a home e)
       go false e = refl
 
-  same_told : (s : SiteNo) (g : GroupNo) (view : ℕ) (counts : CountList) → Told choice (numbers w.at home) (w.at s) g view counts → Told choice (numbers at0 home) (at0 s) g view counts
+  same_told : (s : SiteNo) (g : GroupNo) (view : ℕ) (counts : CountList) → Told choice (numbers w.at home) (w.at s) g view counts →
+      Told choice (numbers at0 home) (at0 s) g view counts
   same_told s g view counts told = go (site_eq a s) refl
     where
       here : (t : State) → Told choice (numbers w.at home) t g view counts → Told choice (numbers at0 home) t g view counts
       here t was = record {
         reached = was.reached;
         frozen = was.frozen;
-        within = λ k m c group in_view. elim (was.within k m c group in_view) [ inl low ↦ inl low | inr cut ↦ inr ((let same = same_number g in let lt = cut.0 in omega (arith, same, lt)), cut.1) ];
+        within = λ k m c group in_view. elim (was.within k m c group in_view) [
+          | inl low ↦ inl low
+          | inr cut ↦ inr ((let same = same_number g in let lt = cut.0 in omega (arith, same, lt)), cut.1)
+        ];
       }
 
       go : (b : Bool) → site_eq a s ≡ b → Told choice (numbers at0 home) (if b then t0 else w.at s) g view counts
@@ -81,24 +86,34 @@ module _ (home : SiteNo) (w : Network) (h : AllHold home w) (choice : Choice) (a
       extends g = ((let same = same_number g in omega (arith, same)), λ n le. refl)
 
       here : SiteAgrees choice (numbers at0 home) at0 a t0
-      here = let y = agrees_later home choice choice w.at at0 (λ g. ((let same = same_number g in omega (arith, same)), λ n le. refl)) same_told a (w.at a) (h.sites a) (agree.sites a) in
+      here =
+          let y =
+          agrees_later home choice choice w.at at0 (λ g. ((let same = same_number g in omega (arith, same)), λ n le. refl))
+          same_told a (w.at a) (h.sites a) (agree.sites a) in
           record { groups = y.groups; ones = y.ones; homes = y.homes; received = y.received; sent = λ to f c. absurd (omega (arith, c.1)) }
 
       go : (s : SiteNo) (b : Bool) → site_eq a s ≡ b → SiteAgrees choice (numbers at0 home) at0 s (if b then t0 else w.at s)
       go s true e = subst (λ z. SiteAgrees choice (numbers at0 home) at0 z t0) (same_site a s e)
-          (let y = agrees_later home choice choice w.at at0 (λ g. ((let same = same_number g in omega (arith, same)), λ n le. refl)) same_told a (w.at a) (h.sites a) (agree.sites a) in
+          (let y =
+          agrees_later home choice choice w.at at0 (λ g. ((let same = same_number g in omega (arith, same)), λ n le. refl))
+          same_told a (w.at a) (h.sites a) (agree.sites a) in
           record { groups = y.groups; ones = y.ones; homes = y.homes; received = y.received; sent = λ to f c. absurd (omega (arith, c.1)) })
-      go s false e = agrees_later home choice choice w.at at0 (λ g. ((let same = same_number g in omega (arith, same)), λ n le. refl)) same_told s (w.at s) (h.sites s) (agree.sites s)
+      go s false e =
+          agrees_later home choice choice w.at at0 (λ g. ((let same = same_number g in omega (arith, same)), λ n le. refl))
+          same_told s (w.at s) (h.sites s) (agree.sites s)
 
-pub flush_last : (home : SiteNo) (w : Network) (a : SiteNo) (t : State) (choice : Choice) → Flushing home w a t choice → AllAgree home (move_site w a t) choice
+pub flush_last : (home : SiteNo) (w : Network) (a : SiteNo) (t : State) (choice : Choice) → Flushing home w a t choice →
+    AllAgree home (move_site w a t) choice
 flush_last home w a t choice f = record {
   sites = f.sites;
-  packets = λ p c. elim (Contains-append_cases w.sent (map (λ (x : SiteNo × SiteFrame). record { from = a; to = x.0; frame = x.1 }) t.frames) p c) [
-    | inl old ↦ f.packets p old
-    | inr new ↦
-        let from = from_mapped (λ (x : SiteNo × SiteFrame). record { from = a; to = x.0; frame = x.1 }) t.frames p new in
-        subst (λ (q : Packet). IsTrueOf choice (numbers (sites_at home w a t) home) (sites_at home w a t) q.from q.frame) from.2 ((own_agrees home w a t choice f).sent from.0.0 from.0.1 from.1)
-  ];
+  packets = λ p c.
+      elim (Contains-append_cases w.sent (map (λ (x : SiteNo × SiteFrame). record { from = a; to = x.0; frame = x.1 }) t.frames) p c) [
+        | inl old ↦ f.packets p old
+        | inr new ↦
+            let from = from_mapped (λ (x : SiteNo × SiteFrame). record { from = a; to = x.0; frame = x.1 }) t.frames p new in
+            subst (λ (q : Packet). IsTrueOf choice (numbers (sites_at home w a t) home) (sites_at home w a t) q.from q.frame)
+            from.2 ((own_agrees home w a t choice f).sent from.0.0 from.0.1 from.1)
+      ];
   covered = f.covered;
 }
 
@@ -119,9 +134,12 @@ step_kept home w v step happens (h, choice, agree) = go (event_of w step) refl h
     go : (o : Option Event) → event_of w step ≡ o → Becomes w step.site o v → AllKept home v
     go None e same = subst (AllKept home) (sym same) (h, choice, agree)
     go (Some made) e (answer, t, is, same) = subst (AllKept home) (sym same) (after t
-        (rests_keeps (FlushNow home w step.site choice low) (Arrived home w step.site) (site_eq step.site home) (kept_flush home w step.site choice low) (after_event (w.at step.site) made) t is.rests
-        (after_event_keeps (FlushNow home w step.site choice low) (Arrived home w step.site) (site_eq step.site home) (kept_flush home w step.site choice low) (w.at step.site) made
-        (first home w h step.site, choice, flush_first home w h choice agree step.site, extends_same choice low) (step_arrives home w h step made e))))
+        (rests_keeps (FlushNow home w step.site choice low) (Arrived home w step.site) (site_eq step.site home)
+        (kept_flush home w step.site choice low) (after_event (w.at step.site) made) t is.rests
+        (after_event_keeps (FlushNow home w step.site choice low) (Arrived home w step.site) (site_eq step.site home)
+        (kept_flush home w step.site choice low) (w.at step.site) made
+        (first home w h step.site, choice, flush_first home w h choice agree step.site, extends_same choice low)
+        (step_arrives home w h step made e))))
 
 leads_kept : (home : SiteNo) (steps : List Step) (w v : Network) → Leads w steps v → AllKept home w → AllKept home v
 leads_kept home [] w v same i = subst (AllKept home) (sym same) i
@@ -136,7 +154,11 @@ pub start_agrees : (sites : List SiteNo) (config : SiteNo → DomainConfig) (hom
 unfolding no_choice
 start_agrees sites config home = record {
   sites = λ s. record {
-    groups = λ g. record { view = λ m e. absurd (false≢true (ap is_some e)); pending = λ p e. absurd (false≢true (ap is_some e)); frozen = λ e. absurd (false≢true e) };
+    groups = λ g. record {
+      view = λ m e. absurd (false≢true (ap is_some e));
+      pending = λ p e. absurd (false≢true (ap is_some e));
+      frozen = λ e. absurd (false≢true e);
+    };
     ones = λ k. record {
       listed = λ g e. absurd (outside_not_member e);
       has = λ m c. absurd (nothing (Delivered m) c);
@@ -158,10 +180,12 @@ start_agrees sites config home = record {
   covered = λ g view lt. absurd (omega (arith, lt));
 }
 
-pub kept_in_every : (sites : List SiteNo) (config : SiteNo → DomainConfig) (steps : List Step) (w : Network) → Reaches sites config steps w → AllKept (config record { 0 = 0 }).home w
+pub kept_in_every : (sites : List SiteNo) (config : SiteNo → DomainConfig) (steps : List Step) (w : Network) →
+    Reaches sites config steps w → AllKept (config record { 0 = 0 }).home w
 kept_in_every sites config steps w r =
     let home : SiteNo = (config record { 0 = 0 }).home in
-    leads_kept home steps (start sites config) w r.leads (start_holds sites config home (λ s. r.home s record { 0 = 0 }), no_choice, start_agrees sites config home)
+    leads_kept home steps (start sites config)
+    w r.leads (start_holds sites config home (λ s. r.home s record { 0 = 0 }), no_choice, start_agrees sites config home)
 
 -- who passes from one view to the next has delivered exactly the cut
 pub passes_with_cut : AllPassWithCut
@@ -172,14 +196,17 @@ passes_with_cut sites config steps w r p g view before cut a b c e is stays =
     let until : List Act = a ++ Entered g view before ∷ b in (
       (λ done.
           let m : Message = done.0 in
-          let at : Contains until (Delivered m) = Contains-append_right a (Entered g view before ∷ b) (Delivered m) (Contains-append_right (Entered g view before ∷ []) b (Delivered m) done.2) in
+          let at : Contains until (Delivered m) =
+          Contains-append_right a (Entered g view before ∷ b) (Delivered m)
+          (Contains-append_right (Entered g view before ∷ []) b (Delivered m) done.2) in
           let group : m.id.group ≡ g = ap (λ (u : Uid). u.group) done.1 in
           let in_view : m.id.view ≡ view = ap (λ (u : Uid). u.view) done.1 in
           let entry : entry_of m.id ≡ e = ap entry_of done.1 in
           let low = counted w f p g view before cut a b c is stays m at in (
             (let same : m.id.count ≡ e.1 = ap (λ (u : Uid). u.count) done.1 in omega (arith, low, same)),
             subst (λ x. IsTrue (is_within cut x)) entry
-                (((all.2.sites p.site).ones p.serial).cuts until c (Entered g (view + 1) cut) is view m (still_in w f p g view before cut a b c is stays) at group in_view),
+                (((all.2.sites p.site).ones p.serial).cuts until c (Entered g (view + 1) cut)
+                is view m (still_in w f p g view before cut a b c is stays) at group in_view),
           )),
       (λ both. passes_above w f p g view before cut a b c e is stays both.0 both.1),
     )

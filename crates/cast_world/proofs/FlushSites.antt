@@ -8,7 +8,8 @@ use Rattle.std.proofs.Common.{ap, arith, inl, inr, subst, sym, ◌∙◌}
 use Rattle.std.proofs.lemmas.Bool.{and_parts, eq-eqb, eqb-true, false≢true, or_cases, true≢false}
 use Rattle.std.proofs.lemmas.List.Elements.{Contains-append_left, Contains-push_cases}
 use Rattle.std.specs.List.{flat_map, list_any}
-use Rattle.std.specs.Prelude.{◌&&◌, ◌+◌, ◌++◌, ◌<◌, ◌==◌, Bool, Contains, IsTrue, List, None, Option, Some, [], false, filter, if◌then◌else◌, is_some, map, not, refl, suc, true, ◌||◌, ℕ, ◌∷◌, ◌≡◌, ◌≤◌}
+use Rattle.std.specs.Prelude.{◌&&◌, ◌+◌, ◌++◌, ◌<◌, ◌==◌, Bool, Contains, IsTrue, List, None, Option, Some, [], false}
+use Rattle.std.specs.Prelude.{filter, if◌then◌else◌, is_some, map, not, refl, suc, true, ◌||◌, ℕ, ◌∷◌, ◌≡◌, ◌≤◌}
 use Rattle.cast_ready.specs.Ready.{Process, is_cut_by, is_member, is_open_to, is_outside}
 use Rattle.cast_rules.specs.Acts.{Act}
 use Rattle.cast_rules.specs.Acts.Act.{Entered, Left, Sent}
@@ -16,7 +17,8 @@ use Rattle.cast_rules.specs.Effects.{next_message}
 use Rattle.cast_rules.specs.Entering.{all_parted, completing, enters, in_view, put_outside}
 use Rattle.cast_rules.specs.Order.{is_of_view}
 use Rattle.cast_rules.specs.Reports.{had_here, had_in, report_in}
-use Rattle.cast_rules.specs.State.{State, emit, gate_of, local, noting_act, noting_sent, outside, receiving, serials, set_group, set_home, set_standing, with_delivery}
+use Rattle.cast_rules.specs.State.{State, emit, gate_of, local, noting_act, noting_sent, outside}
+use Rattle.cast_rules.specs.State.{receiving, serials, set_group, set_home, set_standing, with_delivery}
 use Rattle.cast_rules.specs.Step.{opening_next}
 use Rattle.cast_rules.specs.Turns.{is_ready_for}
 use Rattle.cast_message.specs.Membership.{Membership}
@@ -37,7 +39,8 @@ use Rattle.cast_view.specs.MemberSide.{MemberSide, greatest_of, has_view, is_tak
 use Rattle.cast_view.specs.Sites.{local_view}
 use Rattle.cast_view.specs.declared.member.Pending.{Pending}
 use Rattle.cast_world.proofs.Allowed.{contains_kept, contains_mapped, contains_range}
-use Rattle.cast_world.proofs.Flush.{AgreeParts, Choice, CutWell, GroupAgrees, HomeAgrees, IsChosen, IsMembers, IsTrueOf, OneAgrees, SiteAgrees, Told}
+use Rattle.cast_world.proofs.Flush.{AgreeParts, Choice, CutWell, GroupAgrees, HomeAgrees}
+use Rattle.cast_world.proofs.Flush.{IsChosen, IsMembers, IsTrueOf, OneAgrees, SiteAgrees, Told}
 use Rattle.cast_world.proofs.FlushCounts.{contains_flat, counts_cover, greatest_covers}
 use Rattle.cast_world.proofs.FlushMoves.{agree_delivered, agree_entered, agree_left, agree_less, agree_sent, agree_used}
 use Rattle.cast_world.proofs.Homes.{HomeFollows}
@@ -69,7 +72,8 @@ proc_among (q ∷ xs) p e = go (proc_eq p q) refl (proc_among xs p)
         (suc later.0, omega (arith, later.1), later.2)
 
 -- a member of a group's view is one that was chosen
-pub members_chosen : (choice : Choice) (g : GroupNo) (group : MemberSide) → GroupAgrees choice g group → (p : Proc) → Contains (members_of group) p → IsChosen choice g group.number p
+pub members_chosen : (choice : Choice) (g : GroupNo) (group : MemberSide) → GroupAgrees choice g group → (p : Proc) →
+    Contains (members_of group) p → IsChosen choice g group.number p
 members_chosen choice g group agrees p at = go group.view refl at
   where
     go : (v : Option Membership) → group.view ≡ v → Contains (members_of (record group { view = v })) p → IsChosen choice g group.number p
@@ -77,17 +81,21 @@ members_chosen choice g group agrees p at = go group.view refl at
     go (Some m) e c = subst (λ (x : Membership). Contains x.list p) (agrees.view m e) c
 
 -- and the other way round, where the group has a view
-pub chosen_members : (choice : Choice) (g : GroupNo) (group : MemberSide) → GroupAgrees choice g group → has_view group ≡ true → (p : Proc) → IsChosen choice g group.number p → Contains (members_of group) p
+pub chosen_members : (choice : Choice) (g : GroupNo) (group : MemberSide) → GroupAgrees choice g group → has_view group ≡ true →
+    (p : Proc) → IsChosen choice g group.number p → Contains (members_of group) p
 chosen_members choice g group agrees current p at = go group.view refl current
   where
-    go : (v : Option Membership) → group.view ≡ v → has_view (record group { view = v }) ≡ true → Contains (members_of (record group { view = v })) p
+    go : (v : Option Membership) → group.view ≡ v → has_view (record group { view = v }) ≡ true →
+        Contains (members_of (record group { view = v })) p
     go None e is = absurd (false≢true is)
     go (Some m) e is = subst (λ (x : Membership). Contains x.list p) (sym (agrees.view m e)) at
 
 -- one of the messages that a site has of its view
-had_one : (t : State) (g : GroupNo) (u : Uid) → Contains (had_here t) u → u.group ≡ g → u.view ≡ (t.group g).number → Contains (had_in t g) (entry_of u)
+had_one : (t : State) (g : GroupNo) (u : Uid) → Contains (had_here t) u → u.group ≡ g → u.view ≡ (t.group g).number →
+    Contains (had_in t g) (entry_of u)
 had_one t g u at group view = contains_mapped entry_of (filter (is_of_view t g) (had_here t)) u
-    (contains_kept (is_of_view t g) (had_here t) u at (λ i. eq-eqb u.group.0 g.0 (ap (λ (x : GroupNo). x.0) group) i && eq-eqb u.view (t.group g).number view i))
+    (contains_kept (is_of_view t g) (had_here t)
+    u at (λ i. eq-eqb u.group.0 g.0 (ap (λ (x : GroupNo). x.0) group) i && eq-eqb u.view (t.group g).number view i))
 
 module _ (choice : Choice) (at : Sites) (home s : SiteNo) (t : State) (x : SiteHolds at home s t) where
   abbrev number : GroupNo → ℕ
@@ -98,17 +106,22 @@ module _ (choice : Choice) (at : Sites) (home s : SiteNo) (t : State) (x : SiteH
     One group k p acts = OneAgrees choice number t.here t.used group k p.standing p.delivered acts
 
     -- what a frozen site tells of its view
-    pub told_now : (g : GroupNo) → (t.group g).frozen ≡ true → has_view (t.group g) ≡ true → Told choice number t g (t.group g).number (report_in t g).counts
+    pub told_now : (g : GroupNo) → (t.group g).frozen ≡ true → has_view (t.group g) ≡ true →
+        Told choice number t g (t.group g).number (report_in t g).counts
     told_now g frozen current = record {
       reached = omega arith;
       frozen = λ e. frozen;
       within = λ k m done group view.
           let given = (y.ones k).given m done in
           let chosen : IsChosen choice g (t.group g).number m.id.proc =
-          subst (λ v. IsChosen choice g v m.id.proc) view (subst (λ h. IsChosen choice h m.id.view m.id.proc) group ((y.ones k).sender m done).1) in
+          subst (λ v. IsChosen choice g v m.id.proc)
+          view (subst (λ h. IsChosen choice h m.id.view m.id.proc) group ((y.ones k).sender m done).1) in
           let listed = chosen_members choice g (t.group g) (y.groups g) current m.id.proc chosen in
-          let here : Contains (had_here t) m.id = Contains-append_left (flat_map (λ j. (t.process j).delivered) (serials t)) (filter (λ u. site_eq u.proc.site t.here) (map (λ (z : Message). z.id) t.got)) m.id
-          (contains_flat (λ j. (t.process j).delivered) (serials t) k m.id (contains_range 1 t.used k given.0 (let low = given.1 in omega (arith, low))) ((y.ones k).has m done)) in
+          let here : Contains (had_here t) m.id =
+          Contains-append_left (flat_map (λ j. (t.process j).delivered) (serials t))
+          (filter (λ u. site_eq u.proc.site t.here) (map (λ (z : Message). z.id) t.got)) m.id
+          (contains_flat (λ j. (t.process j).delivered) (serials t)
+          k m.id (contains_range 1 t.used k given.0 (let low = given.1 in omega (arith, low))) ((y.ones k).has m done)) in
           let one = greatest_covers (had_in t g) (entry_of m.id) (had_one t g m.id here group view) in
           let two = counts_cover (greatest_of (had_in t g)) (members_of (t.group g)) m.id.proc listed in
           inl (omega (arith, one, two));
@@ -123,11 +136,14 @@ module _ (choice : Choice) (at : Sites) (home s : SiteNo) (t : State) (x : SiteH
     says_true to (frame.Prepare g view) own says = tt
     says_true to (frame.Flushed g view counts tail kept) own (view_is, frozen, current, counts_is) =
         subst (λ (z : State). Told choice number z g view counts) (sym own)
-        (subst (λ v. Told choice number t g v counts) (sym view_is) (subst (λ c. Told choice number t g (t.group g).number c) (sym counts_is) (told_now g frozen current)))
+        (subst (λ v. Told choice number t g v counts) (sym view_is)
+        (subst (λ c. Told choice number t g (t.group g).number c) (sym counts_is) (told_now g frozen current)))
     says_true to (frame.Want u) own says = tt
     says_true to (frame.Forward m) own says = tt
-    says_true to (frame.Install g view members request cut tail) own (waiting, d, bodies, e, view_is, request_is, members_is, cut_is) =
-        (members_is ∙ (y.homes g).members ∙ ap (λ v. (choice g v).members) (sym view_is), cut_is ∙ (y.homes g).decision waiting d bodies e ∙ ap (λ v. (choice g v).cut) (sym view_is))
+    says_true to (frame.Install g view members request cut tail) own (waiting, d, bodies, e, view_is, request_is, members_is, cut_is) = (
+      members_is ∙ (y.homes g).members ∙ ap (λ v. (choice g v).members) (sym view_is),
+      cut_is ∙ (y.homes g).decision waiting d bodies e ∙ ap (λ v. (choice g v).cut) (sym view_is),
+    )
     says_true to (frame.Installed g view) own says = tt
     says_true to (frame.Out g view) own says = tt
 
@@ -146,7 +162,8 @@ module _ (choice : Choice) (at : Sites) (home s : SiteNo) (t : State) (x : SiteH
     pub opened_agrees : SiteAgrees choice number at s (opening_next t)
     opened_agrees = record {
       groups = y.groups;
-      ones = λ k. agree_used choice number t.here t.used t.group k (t.process k).standing (t.process k).delivered (t.acts k) (y.ones k) (t.used + 1) (omega arith);
+      ones = λ k. agree_used choice number t.here t.used t.group k (t.process k).standing (t.process k).delivered (t.acts k) (y.ones k)
+          (t.used + 1) (omega arith);
       homes = y.homes;
       received = y.received;
       sent = y.sent;
@@ -159,46 +176,60 @@ module _ (choice : Choice) (at : Sites) (home s : SiteNo) (t : State) (x : SiteH
     with_ones : (process : ℕ → Process) (acts : ℕ → List Act) → ((k : ℕ) → One t.group k (process k) (acts k)) → WithOnes process acts
     with_ones process acts all = record { groups = y.groups; ones = all; homes = y.homes; received = y.received; sent = y.sent }
 
-    changed : (k : ℕ) (p : Process) (acts : List Act) → One t.group k p acts → (j : ℕ) → One t.group j (set_at (λ a b. a == b) t.process k p j) (set_at (λ a b. a == b) t.acts k acts j)
+    changed : (k : ℕ) (p : Process) (acts : List Act) → One t.group k p acts → (j : ℕ) →
+        One t.group j (set_at (λ a b. a == b) t.process k p j) (set_at (λ a b. a == b) t.acts k acts j)
     changed k p acts new = set_both (One t.group) t.process t.acts k p acts y.ones new
 
     stood : (k : ℕ) (p : Process) → One t.group k p (t.acts k) → (j : ℕ) → One t.group j (set_at (λ a b. a == b) t.process k p j) (t.acts j)
     stood k p new = set_all (λ j q. One t.group j q (t.acts j)) t.process k p y.ones new
 
-    less : (k : ℕ) (next : GroupNo → MemberSide) (st : GroupNo → Standing) → ((g : GroupNo) → st g ≡ Member → ((t.process k).standing g ≡ Member) × (members_of (next g) ≡ members_of (t.group g))) →
+    less : (k : ℕ) (next : GroupNo → MemberSide) (st : GroupNo → Standing) →
+        ((g : GroupNo) → st g ≡ Member → ((t.process k).standing g ≡ Member) × (members_of (next g) ≡ members_of (t.group g))) →
         OneAgrees choice number t.here t.used next k st (t.process k).delivered (t.acts k)
-    less k next st same = agree_less choice number t.here t.used t.group k (t.process k).standing (t.process k).delivered (t.acts k) (y.ones k) next st same
+    less k next st same =
+        agree_less choice number t.here t.used t.group k (t.process k).standing (t.process k).delivered (t.acts k) (y.ones k) next st same
 
     gone : (k : ℕ) (g : GroupNo) → One t.group k (put_outside g (t.process k)) (t.acts k)
     gone k g = less k t.group (put_outside g (t.process k)).standing (λ h is. (stands ((t.process k).standing h) (group_eq g h) is, refl))
 
     gone_left : (k : ℕ) (g : GroupNo) → One t.group k (put_outside g (t.process k)) (t.acts k ++ Left g ∷ [])
-    gone_left k g = agree_left choice number t.here t.used t.group k (put_outside g (t.process k)).standing (t.process k).delivered (t.acts k) (gone k g) g
+    gone_left k g =
+        agree_left choice number t.here t.used t.group k (put_outside g (t.process k)).standing (t.process k).delivered (t.acts k)
+        (gone k g) g
 
     pub part_agrees : (k : ℕ) (g : GroupNo) → SiteAgrees choice number at s (outside t k g)
     part_agrees k g = go (is_member ((t.process k).standing g))
       where
-        go : (b : Bool) → WithOnes (set_at (λ a c. a == c) t.process k (put_outside g (t.process k))) (if b then (noting_act t k (Left g)).acts else t.acts)
+        go : (b : Bool) → WithOnes (set_at (λ a c. a == c) t.process k (put_outside g (t.process k)))
+            (if b then (noting_act t k (Left g)).acts else t.acts)
         go true = with_ones _ _ (changed k (put_outside g (t.process k)) (t.acts k ++ Left g ∷ []) (gone_left k g))
         go false = with_ones _ _ (stood k (put_outside g (t.process k)) (gone k g))
 
     pub all_part_agrees : (g : GroupNo) (goes : ℕ → Bool) → SiteAgrees choice number at s (all_parted t g goes)
     all_part_agrees g goes = with_ones _ _ (λ k. go k (goes k))
       where
-        go : (k : ℕ) (b : Bool) → One t.group k (if b then put_outside g (t.process k) else t.process k) (if b then t.acts k ++ Left g ∷ [] else t.acts k)
+        go : (k : ℕ) (b : Bool) →
+            One t.group k (if b then put_outside g (t.process k) else t.process k) (if b then t.acts k ++ Left g ∷ [] else t.acts k)
         go k true = gone_left k g
         go k false = y.ones k
 
     pub join_agrees : (k : ℕ) (g : GroupNo) (request heard : ℕ) → SiteAgrees choice number at s (set_standing t k g (Joining request heard))
-    join_agrees k g request heard = with_ones _ _ (stood k (record (t.process k) { standing = set_at group_eq (t.process k).standing g (Joining request heard) })
-        (less k t.group (set_at group_eq (t.process k).standing g (Joining request heard)) (λ h is. (asks ((t.process k).standing h) (group_eq g h) request heard is, refl))))
+    join_agrees k g request heard =
+        with_ones _ _ (stood k (record (t.process k) { standing = set_at group_eq (t.process k).standing g (Joining request heard) })
+        (less k t.group (set_at group_eq (t.process k).standing g (Joining request heard))
+        (λ h is. (asks ((t.process k).standing h) (group_eq g h) request heard is, refl))))
 
     -- a group changes, but for number and view
-    pub group_agrees : (g : GroupNo) (v : MemberSide) → v.view ≡ (t.group g).view → GroupAgrees choice g v → SiteAgrees choice number at s (set_group t g v)
+    pub group_agrees : (g : GroupNo) (v : MemberSide) → v.view ≡ (t.group g).view → GroupAgrees choice g v →
+        SiteAgrees choice number at s (set_group t g v)
     group_agrees g v view agrees = record {
       groups = set_group_all (GroupAgrees choice) t.group g v y.groups agrees;
       ones = λ k. less k (set_at group_eq t.group g v) (t.process k).standing
-          (λ h is. (is, set_group_all (λ j (z : MemberSide). members_of z ≡ members_of (t.group j)) t.group g v (λ j. refl) (λ i. members_of (record v { view = view i })) h));
+          (λ h is. (
+            is,
+            set_group_all (λ j (z : MemberSide). members_of z ≡ members_of (t.group j)) t.group g v (λ j. refl)
+                (λ i. members_of (record v { view = view i })) h,
+          ));
       homes = y.homes;
       received = y.received;
       sent = y.sent;
@@ -210,34 +241,50 @@ module _ (choice : Choice) (at : Sites) (home s : SiteNo) (t : State) (x : SiteH
       groups = y.groups;
       ones = y.ones;
       homes = y.homes;
-      received = λ z c. elim (Contains-push_cases t.got m z c) [ inl old ↦ y.received z old | inr new ↦ subst (λ (w : Message). IsMembers choice number w.id) new is_one ];
+      received = λ z c. elim (Contains-push_cases t.got m z c) [
+        | inl old ↦ y.received z old
+        | inr new ↦ subst (λ (w : Message). IsMembers choice number w.id) new is_one
+      ];
       sent = y.sent;
     }
 
-    pub received_agrees : (m : Message) → m.id.view ≡ (t.group m.id.group).number → is_among proc_eq m.id.proc (members_of (t.group m.id.group)) ≡ true → SiteAgrees choice number at s (receiving t m)
+    pub received_agrees : (m : Message) → m.id.view ≡ (t.group m.id.group).number →
+        is_among proc_eq m.id.proc (members_of (t.group m.id.group)) ≡ true → SiteAgrees choice number at s (receiving t m)
     received_agrees m view member = received_one m (
       (let low : (t.group m.id.group).number ≤ number m.id.group = (x.groups m.id.group).number in omega (arith, view, low)),
       subst (λ v. IsChosen choice m.id.group v m.id.proc) (sym view)
-          (members_chosen choice m.id.group (t.group m.id.group) (y.groups m.id.group) m.id.proc (proc_among (members_of (t.group m.id.group)) m.id.proc member)),
+          (members_chosen choice m.id.group (t.group m.id.group) (y.groups m.id.group)
+          m.id.proc (proc_among (members_of (t.group m.id.group)) m.id.proc member)),
     )
 
-    pub noted_agrees : (g : GroupNo) (k : ℕ) (content : Body) → WithOnes (noting_sent t k (next_message t g k content)).process (noting_sent t k (next_message t g k content)).acts
-    noted_agrees g k content = with_ones _ _ (changed k (record (t.process k) { time = (next_message t g k content).times }) (t.acts k ++ Sent (next_message t g k content) ∷ [])
-        (agree_sent choice number t.here t.used t.group k (t.process k).standing (t.process k).delivered (t.acts k) (y.ones k) (next_message t g k content)))
+    pub noted_agrees : (g : GroupNo) (k : ℕ) (content : Body) →
+        WithOnes (noting_sent t k (next_message t g k content)).process (noting_sent t k (next_message t g k content)).acts
+    noted_agrees g k content =
+        with_ones _ _ (changed k (record (t.process k) { time = (next_message t g k content).times })
+        (t.acts k ++ Sent (next_message t g k content) ∷ [])
+        (agree_sent choice number t.here t.used t.group k (t.process k).standing (t.process k).delivered (t.acts k) (y.ones k)
+        (next_message t g k content)))
 
-    pub own_member : (g : GroupNo) (k : ℕ) (content : Body) → is_member ((t.process k).standing g) ≡ true → IsMembers choice number (next_message t g k content).id
-    own_member g k content member = ((x.groups g).number, members_chosen choice g (t.group g) (y.groups g) (local t k) ((y.ones k).listed g (member_is _ member)))
+    pub own_member : (g : GroupNo) (k : ℕ) (content : Body) → is_member ((t.process k).standing g) ≡ true →
+        IsMembers choice number (next_message t g k content).id
+    own_member g k content member = (
+      (x.groups g).number,
+      members_chosen choice g (t.group g) (y.groups g) (local t k) ((y.ones k).listed g (member_is _ member)),
+    )
 
-    pub delivered_agrees : (k : ℕ) (m : Message) → Contains t.got m → is_ready_for t k m ≡ true → SiteAgrees choice number at s (with_delivery t k m)
+    pub delivered_agrees : (k : ℕ) (m : Message) → Contains t.got m → is_ready_for t k m ≡ true →
+        SiteAgrees choice number at s (with_delivery t k m)
     delivered_agrees k m c ready =
         let ready_parts = and_parts _ _ ready in
         let member = (and_parts (is_member ((t.process k).standing m.id.group)) _ ready_parts.0).0 in
         let given = (x.ones k).given m.id.group (ap is_outside (member_is _ member)) in
-        with_ones _ _ (changed k _ _ (agree_delivered choice number t.here t.used t.group k (t.process k).standing (t.process k).delivered (t.acts k) (y.ones k) m (given.0, given.1) (y.received m c)))
+        with_ones _ _ (changed k _ _ (agree_delivered choice number t.here t.used t.group k (t.process k).standing (t.process k).delivered
+        (t.acts k) (y.ones k) m (given.0, given.1) (y.received m c)))
 
     -- a message that is ready while its group is frozen is within the cut
     pub ready_within : (k : ℕ) (m : Message) → is_ready_for t k m ≡ true → ((t.group m.id.group).number ≡ m.id.view)
-        × ((t.group m.id.group).frozen ≡ true → (m.id.view < number m.id.group) × IsTrue (is_within (choice m.id.group (m.id.view + 1)).cut (entry_of m.id)))
+        × ((t.group m.id.group).frozen ≡ true → (m.id.view < number m.id.group)
+        × IsTrue (is_within (choice m.id.group (m.id.view + 1)).cut (entry_of m.id)))
     ready_within k m ready =
         let a = and_parts _ _ ready in
         let b = and_parts (is_member ((t.process k).standing m.id.group)) _ a.0 in
@@ -251,7 +298,8 @@ module _ (choice : Choice) (at : Sites) (home s : SiteNo) (t : State) (x : SiteH
           ],
         )
       where
-        go : m.id.view ≡ (t.group m.id.group).number → (o : Option Pending) → (t.group m.id.group).pending ≡ o → is_cut_by (elim o [ Some p ↦ Some p.cut | None ↦ None ]) (entry_of m.id) ≡ true →
+        go : m.id.view ≡ (t.group m.id.group).number → (o : Option Pending) → (t.group m.id.group).pending ≡ o →
+            is_cut_by (elim o [ Some p ↦ Some p.cut | None ↦ None ]) (entry_of m.id) ≡ true →
             (m.id.view < number m.id.group) × IsTrue (is_within (choice m.id.group (m.id.view + 1)).cut (entry_of m.id))
         go view None e cut = absurd (false≢true cut)
         go view (Some p) e cut =
@@ -262,14 +310,28 @@ module _ (choice : Choice) (at : Sites) (home s : SiteNo) (t : State) (x : SiteH
             )
 
     pub home_agrees : (g : GroupNo) (h : Home) → HomeAgrees choice number at g h → SiteAgrees choice number at s (set_home t g h)
-    home_agrees g h agrees = record { groups = y.groups; ones = y.ones; homes = set_group_all (HomeAgrees choice number at) t.home g h y.homes agrees; received = y.received; sent = y.sent }
+    home_agrees g h agrees = record {
+      groups = y.groups;
+      ones = y.ones;
+      homes = set_group_all (HomeAgrees choice number at) t.home g h y.homes agrees;
+      received = y.received;
+      sent = y.sent;
+    }
 
-    pub follow_agrees : (Came : SiteNo → SiteFrame → Type 0) → ((from : SiteNo) (f : SiteFrame) → Came from f → IsTrueOf choice number at from f) → (g : GroupNo) (h : Home) → HomeFollows Came g (t.home g) h → SiteAgrees choice number at s (set_home t g h)
+    pub follow_agrees : (Came : SiteNo → SiteFrame → Type 0) →
+        ((from : SiteNo) (f : SiteFrame) → Came from f → IsTrueOf choice number at from f) → (g : GroupNo) (h : Home) →
+        HomeFollows Came g (t.home g) h → SiteAgrees choice number at s (set_home t g h)
     follow_agrees Came sound g h f = home_agrees g h record {
       members = f.members ∙ (y.homes g).members ∙ ap (λ n. (choice g n).members) (sym f.number);
-      decision = λ waiting d bodies e. let was = f.installs waiting d bodies e in (y.homes g).decision was.0 d was.1 was.2 ∙ ap (λ n. (choice g n).cut) (sym f.number);
+      decision = λ waiting d bodies e.
+          let was = f.installs waiting d bodies e in
+          (y.homes g).decision was.0 d was.1 was.2 ∙ ap (λ n. (choice g n).cut) (sym f.number);
       awaits = f.awaits (y.homes g).awaits;
-      reports = λ q r c. subst (λ n. Told choice number (at q) g n r.counts) (sym f.number) (elim (f.reports q r c) [ inl old ↦ (y.homes g).reports q r old | inr came ↦ sound q (frame.Flushed g (t.home g).number r.counts r.tail r.kept) came ]);
+      reports = λ q r c. subst (λ n. Told choice number (at q) g n r.counts) (sym f.number) (elim (f.reports q r c) [
+        | inl old ↦
+            (y.homes g).reports q r old
+        | inr came ↦ sound q (frame.Flushed g (t.home g).number r.counts r.tail r.kept) came
+      ]);
     }
 
     -- A view ends, and another one comes, which takes in all members that are left
@@ -286,34 +348,43 @@ module _ (choice : Choice) (at : Sites) (home s : SiteNo) (t : State) (x : SiteH
       other : (h : GroupNo) → (g ≡ h → ⊥) → members_of (next h) ≡ members_of (t.group h)
       other h apart = ap members_of (set_other t.group g side h apart)
 
-      enter : (k : ℕ) → enters t g members request k ≡ true → OneAgrees choice number t.here t.used next k (in_view g n (t.process k)).standing (t.process k).delivered (t.acts k ++ Entered g n cut ∷ [])
-      enter k e = agree_entered choice number t.here t.used next k (in_view g n (t.process k)).standing (t.process k).delivered (t.acts k) record {
-        listed = λ h is. elim (cases_group g h) [
-          | inl here ↦ subst (λ (z : MemberSide). Contains (members_of z) (local t k)) (sym (set_here t.group g side h here)) listed_now
-          | inr apart ↦ subst (λ xs. Contains xs (local t k)) (sym (other h apart)) ((y.ones k).listed h (sym (set_other (t.process k).standing g Member h apart) ∙ is))
-        ];
-        has = (y.ones k).has;
-        given = (y.ones k).given;
-        sender = (y.ones k).sender;
-        entered = (y.ones k).entered;
-        cuts = (y.ones k).cuts;
-      } g n cut decided (well k e).0 (well k e).1
+      enter : (k : ℕ) → enters t g members request k ≡ true → OneAgrees choice number t.here t.used next k
+          (in_view g n (t.process k)).standing (t.process k).delivered (t.acts k ++ Entered g n cut ∷ [])
+      enter k e =
+          agree_entered choice number t.here t.used next k (in_view g n (t.process k)).standing (t.process k).delivered (t.acts k) record {
+            listed = λ h is. elim (cases_group g h) [
+              | inl here ↦ subst (λ (z : MemberSide). Contains (members_of z) (local t k)) (sym (set_here t.group g side h here)) listed_now
+              | inr apart ↦
+                  subst (λ xs. Contains xs (local t k)) (sym (other h apart))
+                  ((y.ones k).listed h (sym (set_other (t.process k).standing g Member h apart) ∙ is))
+            ];
+            has = (y.ones k).has;
+            given = (y.ones k).given;
+            sender = (y.ones k).sender;
+            entered = (y.ones k).entered;
+            cuts = (y.ones k).cuts;
+          } g n cut decided (well k e).0 (well k e).1
         where
           listed_now : Contains (members_of side) (local t k)
-          listed_now = subst (λ b. Contains (members_of (with_end (t.group g) n (if b then Some members else None))) (local t k)) (sym (at_site t.here k members.list (and_parts _ (is_among proc_eq (local t k) members.list) e).1))
+          listed_now =
+              subst (λ b. Contains (members_of (with_end (t.group g) n (if b then Some members else None))) (local t k))
+              (sym (at_site t.here k members.list (and_parts _ (is_among proc_eq (local t k) members.list) e).1))
               (proc_among members.list (local t k) (and_parts _ (is_among proc_eq (local t k) members.list) e).1)
 
       go_in : (k : ℕ) (b : Bool) → enters t g members request k ≡ b →
           One next k (if b then in_view g n (t.process k) else t.process k) (if b then t.acts k ++ Entered g n cut ∷ [] else t.acts k)
       go_in k true e = enter k e
       go_in k false e = less k next (t.process k).standing (λ h is. elim (cases_group g h) [
-        | inl here ↦ absurd (let member = ap (t.process k).standing here ∙ is in true≢false (sym (λ i. is_taken_in request (member i) && named_all k member i) ∙ e))
+        | inl here ↦
+            absurd (let member = ap (t.process k).standing here ∙ is in
+            true≢false (sym (λ i. is_taken_in request (member i) && named_all k member i) ∙ e))
         | inr apart ↦ (is, other h apart)
       ])
 
       pub view_agrees : SiteAgrees choice number at s (completing t g n members request cut)
       view_agrees = record {
-        groups = set_group_all (GroupAgrees choice) t.group g side y.groups record { view = chosen; pending = λ p e. absurd (false≢true (ap is_some e)); frozen = λ e. absurd (false≢true e) };
+        groups = set_group_all (GroupAgrees choice) t.group g side y.groups
+            record { view = chosen; pending = λ p e. absurd (false≢true (ap is_some e)); frozen = λ e. absurd (false≢true e) };
         ones = λ k. go_in k (enters t g members request k) refl;
         homes = y.homes;
         received = y.received;
@@ -321,8 +392,10 @@ module _ (choice : Choice) (at : Sites) (home s : SiteNo) (t : State) (x : SiteH
       }
 
 -- a message is sent
-pub sent_agrees : (choice : Choice) (at : Sites) (home s : SiteNo) (t : State) (x : SiteHolds at home s t) → SiteAgrees choice (λ g. ((at home).home g).number) at s t → (g : GroupNo) (k : ℕ) (content : Body) →
-    is_member ((t.process k).standing g) ≡ true → SiteAgrees choice (λ g. ((at home).home g).number) at s (receiving (noting_sent t k (next_message t g k content)) (next_message t g k content))
+pub sent_agrees : (choice : Choice) (at : Sites) (home s : SiteNo) (t : State) (x : SiteHolds at home s t) →
+    SiteAgrees choice (λ g. ((at home).home g).number) at s t → (g : GroupNo) (k : ℕ) (content : Body) →
+    is_member ((t.process k).standing g) ≡ true → SiteAgrees choice (λ g. ((at home).home g).number)
+    at s (receiving (noting_sent t k (next_message t g k content)) (next_message t g k content))
 sent_agrees choice at home s t x y g k content member =
     let noted = noted_agrees choice at home s t x y g k content in
     record {
@@ -331,7 +404,9 @@ sent_agrees choice at home s t x y g k content member =
       homes = noted.homes;
       received = λ z c. elim (Contains-push_cases t.got (next_message t g k content) z c) [
         | inl old ↦ y.received z old
-        | inr new ↦ subst (λ (w : Message). IsMembers choice (λ h. ((at home).home h).number) w.id) new (own_member choice at home s t x y g k content member)
+        | inr new ↦
+            subst (λ (w : Message). IsMembers choice (λ h. ((at home).home h).number) w.id)
+            new (own_member choice at home s t x y g k content member)
       ];
       sent = noted.sent;
     }

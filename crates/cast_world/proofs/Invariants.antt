@@ -35,7 +35,8 @@ pub record TakesIn (process : ℕ → Process) (group : GroupNo → MemberSide) 
   pub above : (k number heard : ℕ) → (process k).standing g ≡ Joining number heard → number ≤ request → heard < view
 
 -- what others rest on of a site: what its processes did, the home's numbers, its requests. It never goes back
-pub record Grows (process new_process : ℕ → Process) (acts new_acts : ℕ → List Act) (group new_group : GroupNo → MemberSide) (home new_home : GroupNo → Home) : Type 0 where
+pub record Grows (process new_process : ℕ → Process) (acts new_acts : ℕ → List Act) (group new_group : GroupNo → MemberSide)
+    (home new_home : GroupNo → Home) : Type 0 where
   pub did : (k : ℕ) (x : Act) → Contains (acts k) x → Contains (new_acts k) x
   pub decided : (g : GroupNo) → (home g).number ≤ (new_home g).number
   pub asked : (g : GroupNo) → (group g).asked ≤ (new_group g).asked
@@ -93,7 +94,8 @@ OneHolds at home here used groups group k p acts = OneParts at home here used gr
 -- a group at a site: its number was decided; a pending Install is the next view's
 pub record GroupHolds (at : Sites) (home s : SiteNo) (g : GroupNo) (group : MemberSide) : Type 0 where
   pub number : IsDecided at home g group.number
-  pub pending : (p : Pending) → group.pending ≡ Some p → IsDecided at home g (group.number + 1) × TakesIn (at s).process (at s).group g p.request (group.number + 1)
+  pub pending : (p : Pending) → group.pending ≡ Some p →
+      IsDecided at home g (group.number + 1) × TakesIn (at s).process (at s).group g p.request (group.number + 1)
   pub requests : (a : PendingRequest) → Contains group.requests a → a.number ≤ ((at s).group g).asked
 
 -- a group at the home: requests that were applied were made; Installs may be sent; bodies are messages that were sent
@@ -104,10 +106,12 @@ pub record HomeHolds (at : Sites) (home : SiteNo) (g : GroupNo) (h : Home) : Typ
       TakesIn (at to).process (at to).group g (answer_in d.answers to).number h.number
   pub bodies : (m : Message) → Contains (bodies_of h.phase) m → Known at home m
 
--- the parts of a site: its number and its home's, its sessions, its processes, its groups, what it keeps as a home, the messages that it received
--- and keeps, and the frames that it sends
-pub record SiteParts (at : Sites) (home s : SiteNo) (here : SiteNo) (config : DomainConfig) (used : ℕ) (session : ℕ → Session) (process : ℕ → Process)
-    (acts : ℕ → List Act) (group : GroupNo → MemberSide) (home_of : GroupNo → Home) (got kept : List Message) (frames : List (SiteNo × SiteFrame)) : Type 0 where
+-- the parts of a site: its number and its home's, its sessions, its processes, its groups, what it keeps as a home, the messages that it
+-- received and keeps, and the frames that it sends
+pub record SiteParts (at : Sites) (home s : SiteNo) (here : SiteNo) (config : DomainConfig) (used : ℕ) (session : ℕ → Session)
+    (process : ℕ → Process)
+    (acts : ℕ → List Act) (group : GroupNo → MemberSide) (home_of : GroupNo → Home) (got kept : List Message)
+    (frames : List (SiteNo × SiteFrame)) : Type 0 where
   pub here_is : here ≡ s
   pub home_is : config.home ≡ home
   pub opened : (k : ℕ) → is_open (session k) ≡ true → (1 ≤ k) × (k ≤ used)

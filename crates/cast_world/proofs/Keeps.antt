@@ -3,7 +3,8 @@ use Rattle.std.proofs.Common.{ap, arith, subst, sym, ◌∙◌}
 use Rattle.std.proofs.lemmas.Bool.{false≢true}
 use Rattle.std.specs.List.{find, fold}
 use Rattle.std.specs.Option.{option_map_or}
-use Rattle.std.specs.Prelude.{Bool, Contains, List, None, Option, Some, [], cond, false, if◌then◌else◌, is_some, refl, suc, true, unwrap_or, zero, ℕ, ◌∷◌, ◌≡◌}
+use Rattle.std.specs.Prelude.{Bool, Contains, List, None, Option, Some, [], cond, false}
+use Rattle.std.specs.Prelude.{if◌then◌else◌, is_some, refl, suc, true, unwrap_or, zero, ℕ, ◌∷◌, ◌≡◌}
 use Rattle.cast_rules.specs.State.{State}
 use Rattle.cast_types.specs.Repeat.{iterate}
 
@@ -24,7 +25,8 @@ module _ (I : State → Type 0) where
   keeps_if true s t one other = one refl
   keeps_if false s t one other = other refl
 
-  pub keeps_fold : {X : Type 0} (f : State → X → State) → ((s : State) (x : X) → I s → I (f s x)) → (xs : List X) (s : State) → I s → I (fold f s xs)
+  pub keeps_fold : {X : Type 0} (f : State → X → State) → ((s : State) (x : X) → I s → I (f s x)) → (xs : List X) (s : State) → I s →
+      I (fold f s xs)
   keeps_fold f each [] s i = i
   keeps_fold f each (x ∷ xs) s i = keeps_fold f each xs (f s x) (each s x i)
 
@@ -32,6 +34,7 @@ module _ (I : State → Type 0) where
   keeps_iterate f each zero s i = i
   keeps_iterate f each (suc n) s i = keeps_iterate f each n (f s) (each s i)
 
-  pub keeps_option : {X : Type 0} (f : X → State) (o : Option X) (s : State) → ((x : X) → o ≡ Some x → I (f x)) → I s → I (option_map_or f o s)
+  pub keeps_option : {X : Type 0} (f : X → State) (o : Option X) (s : State) → ((x : X) → o ≡ Some x → I (f x)) → I s →
+      I (option_map_or f o s)
   keeps_option f (Some x) s one none = one x refl
   keeps_option f None s one none = none

@@ -19,7 +19,8 @@ use Rattle.cast_rules.specs.Rules.Keys.{id_in, message_key}
 use Rattle.cast_rules.specs.Rules.Room.{may_take}
 use Rattle.cast_rules.specs.Rules.Views.{no_members}
 use Rattle.cast_rules.specs.Rules.Commands.{body_handing}
-use Rattle.cast_rules.specs.State.{State, emit, is_ended, is_group, is_received, noting_ack, noting_sent, noting_stable, outside, receiving, releasing, releasing_ended, set_group, set_home, set_session, set_standing, with_delivery}
+use Rattle.cast_rules.specs.State.{State, emit, is_ended, is_group, is_received, noting_ack, noting_sent, noting_stable, outside}
+use Rattle.cast_rules.specs.State.{receiving, releasing, releasing_ended, set_group, set_home, set_session, set_standing, with_delivery}
 use Rattle.cast_rules.specs.Step.{opening_next}
 use Rattle.cast_rules.specs.Turns.{is_ready_for}
 use Rattle.cast_message.specs.Bodies.{kind_of}
@@ -79,7 +80,8 @@ Says s to (frame.Install g view members request cut tail) =
 Says s to (frame.Installed g view) = Unit {0}
 Says s to (frame.Out g view) = view ≡ (s.group g).number
 
--- what a home does without frames it may do at all times; what else it does follows from a frame that came, or is a decision that it may take
+-- what a home does without frames it may do at all times; what else it does follows from a frame that came, or is a decision that it may
+-- take
 abbrev pub MayMove : (SiteNo → SiteFrame → Type 0) → State → GroupNo → HomeMove → Type 0
 MayMove Came s g (Asked from number what p) = Came from (frame.Ask g number what p)
 MayMove Came s g (Suspected site) = Unit {0}
@@ -89,19 +91,23 @@ MayMove Came s g (Brought m) = (from : SiteNo) × Came from (frame.Forward m)
 MayMove Came s g Decided = (is_home history s ≡ true) × (may_decide g (s.home g) ≡ true)
 MayMove Came s g (Installed from view) = Unit {0}
 
--- what a member may send: a cast at all times; a set-order message only where it holds the token of the view and no flush has frozen the group.
--- It sets the places after the order known here, or hands the token over, from the place after all that it ordered
+-- what a member may send: a cast at all times; a set-order message only where it holds the token of the view and no flush has frozen the
+-- group. It sets the places after the order known here, or hands the token over, from the place after all that it ordered
 pub data MaySend (s : State) (g : GroupNo) (k : ℕ) (content : Body) : Type 0 where
   casts : is_order (kind_of content) ≡ false → MaySend s g k content
   lists : holds s g k ≡ true → (s.group g).frozen ≡ false → content ≡ body.Order (places_of s g k) → MaySend s g k content
-  hands : (place : ℕ) (to : Proc) → holds s g k ≡ true → (s.group g).frozen ≡ false → place_to_pass s g k ≡ Some place → content ≡ body_handing place to → MaySend s g k content
+  hands : (place : ℕ) (to : Proc) → holds s g k ≡ true → (s.group g).frozen ≡ false → place_to_pass s g k ≡ Some place →
+      content ≡ body_handing place to → MaySend s g k content
 
 -- how a site comes to pass to a view: the Install that waited is completed; one comes where the site has no view, or skips a view; or it is
 -- told of a view without members here
-pub data Comes (Came : SiteNo → SiteFrame → Type 0) (s : State) (g : GroupNo) (skipped : Bool) (n : ℕ) (members : Membership) (request : ℕ) (cut : CountList) : Type 0 where
-  completes : (p : Pending) → (s.group g).pending ≡ Some p → has_delivered_cut s g p.cut ≡ true → skipped ≡ false → n ≡ (s.group g).number + 1 →
+pub data Comes (Came : SiteNo → SiteFrame → Type 0) (s : State) (g : GroupNo) (skipped : Bool) (n : ℕ) (members : Membership) (request : ℕ)
+    (cut : CountList) : Type 0 where
+  completes : (p : Pending) → (s.group g).pending ≡ Some p → has_delivered_cut s g p.cut ≡ true → skipped ≡ false →
+      n ≡ (s.group g).number + 1 →
       members ≡ p.members → request ≡ p.request → cut ≡ p.cut → Comes Came s g skipped n members request cut
-  installs : (from : SiteNo) (tail : Tail) → Came from (frame.Install g n members request cut tail) → has_view (s.group g) ≡ false → skipped ≡ false →
+  installs : (from : SiteNo) (tail : Tail) → Came from (frame.Install g n members request cut tail) → has_view (s.group g) ≡ false →
+      skipped ≡ false →
       (s.group g).number < n → Comes Came s g skipped n members request cut
   skips : (from : SiteNo) (tail : Tail) → Came from (frame.Install g n members request cut tail) → skipped ≡ true → (s.group g).number < n →
       Comes Came s g skipped n members request cut
@@ -111,7 +117,8 @@ pub data Comes (Came : SiteNo → SiteFrame → Type 0) (s : State) (g : GroupNo
 -- what telling programs is made of: bookkeeping, and the requests that follow where a session is closed
 pub record KeptByTelling (I : State → Type 0) : Type 0 where
   pub emits : (s : State) (to : SiteNo) (f : SiteFrame) → I s → Says s to f → I (emit s to f)
-  pub books : (s : State) (quotas : Quotas) (moment : ℕ) (acks : List Acked) (told : List Uid) (owed : List Owed) (casts : ℕ) (pushes : List (ℕ × Push)) → I s →
+  pub books : (s : State) (quotas : Quotas) (moment : ℕ) (acks : List Acked) (told : List Uid) (owed : List Owed) (casts : ℕ)
+      (pushes : List (ℕ × Push)) → I s →
       I (record s { quotas = quotas; moment = moment; acks = acks; told = told; owed = owed; casts = casts; pushes = pushes })
   pub releases : (s : State) (passes : Uid → Bool) → I s → I (releasing s passes)
   pub sets_session : (s : State) (k : ℕ) (v : Session) → I s → (is_open v ≡ true → is_open (s.session k) ≡ true) → I (set_session s k v)
@@ -124,22 +131,25 @@ pub record Kept (I : State → Type 0) (Came : SiteNo → SiteFrame → Type 0) 
   pub fixed : (s : State) → I s → is_home history s ≡ home_here
   pub opens : (s : State) → I s → I (opening_next s)
   pub answers : (s : State) (g : GroupNo) → I s → I (set_group s g (with_answer (s.group g)))
-  pub joins : (s : State) (k : ℕ) (g : GroupNo) → I s → is_open (s.session k) ≡ true → is_group s g ≡ true → is_outside ((s.process k).standing g) ≡ true →
+  pub joins : (s : State) (k : ℕ) (g : GroupNo) → I s → is_open (s.session k) ≡ true → is_group s g ≡ true →
+      is_outside ((s.process k).standing g) ≡ true →
       I (set_standing s k g (Joining ((s.group g).asked + 1) (view_of (s.process k).time g)))
-  pub sends : (s : State) (g : GroupNo) (k : ℕ) (content : Body) → I s → is_member ((s.process k).standing g) ≡ true → MaySend s g k content →
+  pub sends : (s : State) (g : GroupNo) (k : ℕ) (content : Body) → I s → is_member ((s.process k).standing g) ≡ true →
+      MaySend s g k content →
       I (receiving (noting_sent s k (next_message s g k content)) (next_message s g k content))
   pub receives : (s : State) (from : SiteNo) (m : Message) → I s → Came from (frame.Data m) ⊎ Came from (frame.Forward m) →
       m.id.view ≡ (s.group m.id.group).number → is_among proc_eq m.id.proc (members_of (s.group m.id.group)) ≡ true → I (receiving s m)
   pub delivers : (s : State) (k : ℕ) (m : Message) → I s → Contains s.got m → is_ready_for s k m ≡ true → I (with_delivery s k m)
   pub freezes : (s : State) (g : GroupNo) → I s → has_view (s.group g) ≡ true → I (freezing s g)
   pub pends : (s : State) (from : SiteNo) (g : GroupNo) (p : Pending) (tail : Tail) → I s →
-      Came from (frame.Install g ((s.group g).number + 1) p.members p.request p.cut tail) → has_view (s.group g) ≡ true → I (pending_install s g p tail)
+      Came from (frame.Install g ((s.group g).number + 1) p.members p.request p.cut tail) → has_view (s.group g) ≡ true →
+      I (pending_install s g p tail)
   pub passes : (s : State) (g : GroupNo) (skipped : Bool) (n : ℕ) (members : Membership) (request : ℕ) (cut : CountList) → I s →
       Comes Came s g skipped n members request cut → I (passing s g skipped n members request cut)
   pub homes : (s : State) (g : GroupNo) (what : HomeMove) → I s → MayMove Came s g what → I (set_home s g (apply_move what (s.home g)))
 
--- The same moves with all that is known of them: of what is owed, of acknowledgements, of what a report and an Install say, and of what programs
--- are told
+-- The same moves with all that is known of them: of what is owed, of acknowledgements, of what a report and an Install say, and of what
+-- programs are told
 
 -- an Ack that is owed is of a message that was received
 abbrev pub OwesOf : State → OwedKey → OwedKind → Type 0
@@ -210,7 +220,8 @@ Adds s (frame.Stable u) = Unit {0}
 Adds s (frame.Ask g number what p) = Unit {0}
 Adds s (frame.Asked g number full) = Unit {0}
 Adds s (frame.Prepare g view) = Unit {0}
-Adds s (frame.Flushed g view counts tail kept) = (is_pending (s.group g) ≡ false) × (tail ≡ (report_in s g).tail) × (kept ≡ (report_in s g).kept)
+Adds s (frame.Flushed g view counts tail kept) =
+    (is_pending (s.group g) ≡ false) × (tail ≡ (report_in s g).tail) × (kept ≡ (report_in s g).kept)
 Adds s (frame.Want u) = Unit {0}
 Adds s (frame.Forward m) = Unit {0}
 Adds s (frame.Install g view members request cut tail) =
@@ -222,7 +233,8 @@ pub record FullyKeptByTelling (I : State → Type 0) : Type 0 where
   pub emits : (s : State) (to : SiteNo) (f : SiteFrame) → I s → Says s to f → Adds s f → I (emit s to f)
   pub books : (s : State) (moment casts : ℕ) → I s → I (record s { moment = moment; casts = casts })
   pub pushes : (s : State) (k : ℕ) (p : Push) → I s → AgreesWith (s.acts k) p → I (record s { pushes = s.pushes ++ (k, p) ∷ [] })
-  pub owes : (s : State) (key : OwedKey) (due : ℕ) → I s → Owes s key → Wants s key → Lacks s key → I (record s { owed = with_owed s.owed key due })
+  pub owes : (s : State) (key : OwedKey) (due : ℕ) → I s → Owes s key → Wants s key → Lacks s key →
+      I (record s { owed = with_owed s.owed key due })
   pub renews : (s : State) (key : OwedKey) (due : ℕ) → I s → Owes s key → IsOwed s key → I (record s { owed = renew s.owed key due })
   pub pays : (s : State) (test : OwedKey → Bool) → I s → I (record s { owed = paid test s.owed })
   pub releases : (s : State) (passes : Uid → Bool) → I s → I (releasing s passes)
@@ -236,9 +248,10 @@ AcksFreely I =
     ((s : State) (to : SiteNo) (u : Uid) → I s → I (emit s to (frame.Ack u)))
     × ((s : State) (key : OwedKey) (due : ℕ) → I s → IsOwed s key → I (record s { owed = renew s.owed key due }))
 
--- where a site passes to a view, Between holds of the group until nothing is owed for the view before it; where it receives a message, During
--- holds of its id until it is wanted no more
-pub record FullyKept (I : State → Type 0) (Between : GroupNo → State → Type 0) (During : Uid → State → Type 0) (Came : SiteNo → SiteFrame → Type 0) (home_here : Bool) : Type 0 where
+-- where a site passes to a view, Between holds of the group until nothing is owed for the view before it; where it receives a message,
+-- During holds of its id until it is wanted no more
+pub record FullyKept (I : State → Type 0) (Between : GroupNo → State → Type 0) (During : Uid → State → Type 0)
+    (Came : SiteNo → SiteFrame → Type 0) (home_here : Bool) : Type 0 where
   pub telling : FullyKeptByTelling I
   pub between : (g : GroupNo) → FullyKeptByTelling (Between g)
   pub during : (u : Uid) → FullyKeptByTelling (During u)
@@ -246,19 +259,23 @@ pub record FullyKept (I : State → Type 0) (Between : GroupNo → State → Typ
   pub fixed : (s : State) → I s → is_home history s ≡ home_here
   pub opens : (s : State) → I s → I (opening_next s)
   pub answers : (s : State) (g : GroupNo) → I s → I (set_group s g (with_answer (s.group g)))
-  pub joins : (s : State) (k : ℕ) (g : GroupNo) → I s → is_open (s.session k) ≡ true → is_group s g ≡ true → is_outside ((s.process k).standing g) ≡ true →
+  pub joins : (s : State) (k : ℕ) (g : GroupNo) → I s → is_open (s.session k) ≡ true → is_group s g ≡ true →
+      is_outside ((s.process k).standing g) ≡ true →
       I (set_standing s k g (Joining ((s.group g).asked + 1) (view_of (s.process k).time g)))
-  pub sends : (s : State) (g : GroupNo) (k : ℕ) (content : Body) → I s → is_member ((s.process k).standing g) ≡ true → MaySend s g k content → may_take history s content ≡ true →
+  pub sends : (s : State) (g : GroupNo) (k : ℕ) (content : Body) → I s → is_member ((s.process k).standing g) ≡ true →
+      MaySend s g k content → may_take history s content ≡ true →
       (s.group g).frozen ≡ false → I (receiving (noting_sent s k (next_message s g k content)) (next_message s g k content))
   pub receives : (s : State) (from : SiteNo) (m : Message) → I s → Came from (frame.Data m) ⊎ Came from (frame.Forward m) →
-      m.id.view ≡ (s.group m.id.group).number → is_among proc_eq m.id.proc (members_of (s.group m.id.group)) ≡ true → MayReceive s m → IsNew s m → During m.id (receiving s m)
+      m.id.view ≡ (s.group m.id.group).number → is_among proc_eq m.id.proc (members_of (s.group m.id.group)) ≡ true → MayReceive s m →
+      IsNew s m → During m.id (receiving s m)
   pub received : (s : State) (u : Uid) → During u s → I (paying s (message_key kinds.Want u s.config.home))
   pub acknowledged : (s : State) (from : SiteNo) (u : Uid) → I s → Came from (frame.Ack u) → I (noting_ack s from u)
   pub learns : (s : State) (from : SiteNo) (u : Uid) → I s → Came from (frame.Stable u) → I (noting_stable s u)
   pub delivers : (s : State) (k : ℕ) (m : Message) → I s → Contains s.got m → is_ready_for s k m ≡ true → I (with_delivery s k m)
   pub freezes : (s : State) (g : GroupNo) → I s → has_view (s.group g) ≡ true → I (freezing s g)
   pub pends : (s : State) (from : SiteNo) (g : GroupNo) (p : Pending) (tail : Tail) → I s →
-      Came from (frame.Install g ((s.group g).number + 1) p.members p.request p.cut tail) → has_view (s.group g) ≡ true → is_pending (s.group g) ≡ false →
+      Came from (frame.Install g ((s.group g).number + 1) p.members p.request p.cut tail) → has_view (s.group g) ≡ true →
+      is_pending (s.group g) ≡ false →
       is_group s g ≡ true → I (pending_install s g p tail)
   pub passes : (s : State) (g : GroupNo) (skipped : Bool) (n : ℕ) (members : Membership) (request : ℕ) (cut : CountList) → I s →
       Comes Came s g skipped n members request cut → Between g (passing s g skipped n members request cut)
@@ -286,7 +303,10 @@ module _ (I : State → Type 0) (Came : SiteNo → SiteFrame → Type 0) (home_h
     telling = full_telling;
     between = λ g. full_telling;
     during = λ u. full_telling;
-    truly = inr ((λ s to u i. k.telling.emits s to (frame.Ack u) i tt), λ s key due i owed. k.telling.books s s.quotas s.moment s.acks s.told (renew s.owed key due) s.casts s.pushes i);
+    truly = inr (
+      (λ s to u i. k.telling.emits s to (frame.Ack u) i tt),
+      λ s key due i owed. k.telling.books s s.quotas s.moment s.acks s.told (renew s.owed key due) s.casts s.pushes i,
+    );
     fixed = k.fixed;
     opens = k.opens;
     answers = k.answers;
@@ -302,6 +322,7 @@ module _ (I : State → Type 0) (Came : SiteNo → SiteFrame → Type 0) (home_h
     passes = k.passes;
     ends = λ s g i.
         let less : State = releasing_ended s g in
-        k.telling.books less less.quotas less.moment less.acks less.told (paid (is_of_view g) less.owed) less.casts less.pushes (k.telling.releases s (is_ended s g) i);
+        k.telling.books less less.quotas less.moment less.acks less.told (paid (is_of_view g) less.owed)
+        less.casts less.pushes (k.telling.releases s (is_ended s g) i);
     homes = k.homes;
   }

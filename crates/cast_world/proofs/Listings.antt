@@ -41,13 +41,16 @@ done_named g v us e at =
 pub done_has : (g : GroupNo) (v : ℕ) (us : List Uid) (u : Uid) → Contains us u → is_in g v u ≡ true → Contains (done_in g v us) (entry_of u)
 done_has g v us u at e = contains_mapped entry_of (filter (is_in g v) us) u (contains_kept (is_in g v) us u at e)
 
-pub done_here : (g : GroupNo) (v : ℕ) (us : List Uid) (u : Uid) → is_in g v u ≡ true → done_in g v (us ++ u ∷ []) ≡ done_in g v us ++ entry_of u ∷ []
+pub done_here : (g : GroupNo) (v : ℕ) (us : List Uid) (u : Uid) → is_in g v u ≡ true →
+    done_in g v (us ++ u ∷ []) ≡ done_in g v us ++ entry_of u ∷ []
 done_here g v us u e =
-    ap (map entry_of) (filter-append (is_in g v) us (u ∷ []) ∙ ap (λ b. filter (is_in g v) us ++ cond b (u ∷ []) []) e) ∙ map-append entry_of (filter (is_in g v) us) (u ∷ [])
+    ap (map entry_of) (filter-append (is_in g v) us (u ∷ []) ∙ ap (λ b. filter (is_in g v) us ++ cond b (u ∷ []) []) e)
+    ∙ map-append entry_of (filter (is_in g v) us) (u ∷ [])
 
 pub done_apart : (g : GroupNo) (v : ℕ) (us : List Uid) (u : Uid) → is_in g v u ≡ false → done_in g v (us ++ u ∷ []) ≡ done_in g v us
 done_apart g v us u e =
-    ap (map entry_of) (filter-append (is_in g v) us (u ∷ []) ∙ ap (λ b. filter (is_in g v) us ++ cond b (u ∷ []) []) e ∙ append-nil (filter (is_in g v) us))
+    ap (map entry_of)
+    (filter-append (is_in g v) us (u ∷ []) ∙ ap (λ b. filter (is_in g v) us ++ cond b (u ∷ []) []) e ∙ append-nil (filter (is_in g v) us))
 
 pub done_none : (g : GroupNo) (v : ℕ) (us : List Uid) → ((u : Uid) → Contains us u → is_in g v u ≡ true → ⊥) → done_in g v us ≡ []
 done_none g v [] none = refl
@@ -61,7 +64,8 @@ pub apart_done : (g : GroupNo) (v : ℕ) (us : List Uid) → Apart us → Apart 
 apart_done g v [] a = tt
 apart_done g v (u ∷ us) a = go (is_in g v u) refl (apart_done g v us a.1)
   where
-    go : (b : Bool) → is_in g v u ≡ b → Apart (done_in g v us) → Apart (map entry_of (cond b (u ∷ filter (is_in g v) us) (filter (is_in g v) us)))
+    go : (b : Bool) → is_in g v u ≡ b → Apart (done_in g v us) →
+        Apart (map entry_of (cond b (u ∷ filter (is_in g v) us) (filter (is_in g v) us)))
     go true e more = ((λ at. a.0 (subst (Contains us) (name_is g v u e) (done_named g v us (entry_of u) at))), more)
     go false e more = more
 
@@ -71,7 +75,8 @@ names_of g v [] = refl
 names_of g v (u ∷ us) = go (is_in g v u) refl (names_of g v us)
   where
     go : (b : Bool) → is_in g v u ≡ b → filter (is_in g v) us ≡ map (uid_in g v) (done_in g v us) →
-        cond b (u ∷ filter (is_in g v) us) (filter (is_in g v) us) ≡ map (uid_in g v) (map entry_of (cond b (u ∷ filter (is_in g v) us) (filter (is_in g v) us)))
+        cond b (u ∷ filter (is_in g v) us) (filter (is_in g v) us)
+        ≡ map (uid_in g v) (map entry_of (cond b (u ∷ filter (is_in g v) us) (filter (is_in g v) us)))
     go true e more = λ i. sym (name_is g v u e) i ∷ more i
     go false e more = more
 
@@ -90,7 +95,8 @@ pub among_entry : (xs : List Entry) (e : Entry) → is_among entry_eq e xs ≡ t
 among_entry [] e is = absurd (false≢true is)
 among_entry (x ∷ xs) e is = go (entry_eq e x) refl is (among_entry xs e)
   where
-    go : (b : Bool) → entry_eq e x ≡ b → (b || is_among entry_eq e xs) ≡ true → (is_among entry_eq e xs ≡ true → Contains xs e) → Contains (x ∷ xs) e
+    go : (b : Bool) → entry_eq e x ≡ b → (b || is_among entry_eq e xs) ≡ true → (is_among entry_eq e xs ≡ true → Contains xs e) →
+        Contains (x ∷ xs) e
     go true same all more = (0, omega arith, sym (same_entry e x same))
     go false other all more = contains_more x xs e (more all)
 
@@ -105,12 +111,15 @@ uid_among (x ∷ us) u (suc n, lt, is) = go (uid_eq u x) (uid_among us u (n, ome
 
 keeps_none : {X : Type 0} (test : X → Bool) (xs : List X) → ((x : X) → Contains xs x → test x ≡ false) → filter test xs ≡ []
 keeps_none test [] none = refl
-keeps_none test (x ∷ xs) none = ap (λ b. cond b (x ∷ filter test xs) (filter test xs)) (none x (0, omega arith, refl)) ∙ keeps_none test xs (λ y at. none y (contains_more x xs y at))
+keeps_none test (x ∷ xs) none =
+    ap (λ b. cond b (x ∷ filter test xs) (filter test xs)) (none x (0, omega arith, refl))
+    ∙ keeps_none test xs (λ y at. none y (contains_more x xs y at))
 
 pub keeps_every : {X : Type 0} (test : X → Bool) (xs : List X) → ((x : X) → Contains xs x → test x ≡ true) → filter test xs ≡ xs
 keeps_every test [] all = refl
 keeps_every test (x ∷ xs) all =
-    ap (λ b. cond b (x ∷ filter test xs) (filter test xs)) (all x (0, omega arith, refl)) ∙ ap (λ l. x ∷ l) (keeps_every test xs (λ y at. all y (contains_more x xs y at)))
+    ap (λ b. cond b (x ∷ filter test xs) (filter test xs)) (all x (0, omega arith, refl))
+    ∙ ap (λ l. x ∷ l) (keeps_every test xs (λ y at. all y (contains_more x xs y at)))
 
 -- what follows an order is all that is not in it
 pub still_is : (order rest : List Entry) → Apart (order ++ rest) → still_to_list (order ++ rest) order ≡ rest
@@ -126,7 +135,8 @@ pub abcasts_append : (xs ys : List Act) → abcasts_by (xs ++ ys) ≡ abcasts_by
 abcasts_append [] ys = refl
 abcasts_append (Sent m ∷ xs) ys = abcasts_append xs ys
 abcasts_append (Delivered m ∷ xs) ys =
-    elim (is_atomic (kind_of m.body)) as (λ b. cond b (m.id ∷ abcasts_by (xs ++ ys)) (abcasts_by (xs ++ ys)) ≡ cond b (m.id ∷ abcasts_by xs) (abcasts_by xs) ++ abcasts_by ys) [
+    elim (is_atomic (kind_of m.body)) as (λ b.
+    cond b (m.id ∷ abcasts_by (xs ++ ys)) (abcasts_by (xs ++ ys)) ≡ cond b (m.id ∷ abcasts_by xs) (abcasts_by xs) ++ abcasts_by ys) [
       | true ↦ ap (λ us. m.id ∷ us) (abcasts_append xs ys)
       | false ↦ abcasts_append xs ys
     ]
@@ -138,7 +148,8 @@ pub no_abcast : (xs : List Act) (a : Act) → abcasts_by (a ∷ []) ≡ [] → a
 no_abcast xs a none = sym (append-nil (abcasts_by xs)) ∙ ap (λ us. abcasts_by xs ++ us) (sym none) ∙ sym (abcasts_append xs (a ∷ []))
 
 -- an ABCAST that was delivered, and its message
-pub abcast_of : (acts : List Act) (u : Uid) → Contains (abcasts_by acts) u → (m : Message) × Contains acts (Delivered m) × (m.id ≡ u) × (is_atomic (kind_of m.body) ≡ true)
+pub abcast_of : (acts : List Act) (u : Uid) → Contains (abcasts_by acts) u →
+    (m : Message) × Contains acts (Delivered m) × (m.id ≡ u) × (is_atomic (kind_of m.body) ≡ true)
 abcast_of [] u at = absurd (omega (arith, at.1))
 abcast_of (Sent m ∷ acts) u at = let r = abcast_of acts u at in (r.0, contains_more (Sent m) acts (Delivered r.0) r.1, r.2, r.3)
 abcast_of (Delivered m ∷ acts) u at = go (is_atomic (kind_of m.body)) refl at (abcast_of acts u)
@@ -147,14 +158,19 @@ abcast_of (Delivered m ∷ acts) u at = go (is_atomic (kind_of m.body)) refl at 
         (Contains (abcasts_by acts) u → (x : Message) × Contains acts (Delivered x) × (x.id ≡ u) × (is_atomic (kind_of x.body) ≡ true)) →
         (x : Message) × Contains (Delivered m ∷ acts) (Delivered x) × (x.id ≡ u) × (is_atomic (kind_of x.body) ≡ true)
     go true e (zero, lt, is) more = (m, (0, omega arith, refl), is, e)
-    go true e (suc n, lt, is) more = let r = more (n, omega (arith, lt), is) in (r.0, contains_more (Delivered m) acts (Delivered r.0) r.1, r.2, r.3)
+    go true e (suc n, lt, is) more =
+        let r = more (n, omega (arith, lt), is) in (r.0, contains_more (Delivered m) acts (Delivered r.0) r.1, r.2, r.3)
     go false e there more = let r = more there in (r.0, contains_more (Delivered m) acts (Delivered r.0) r.1, r.2, r.3)
-abcast_of (Entered g view cut ∷ acts) u at = let r = abcast_of acts u at in (r.0, contains_more (Entered g view cut) acts (Delivered r.0) r.1, r.2, r.3)
+abcast_of (Entered g view cut ∷ acts) u at =
+    let r = abcast_of acts u at in (r.0, contains_more (Entered g view cut) acts (Delivered r.0) r.1, r.2, r.3)
 abcast_of (Left g ∷ acts) u at = let r = abcast_of acts u at in (r.0, contains_more (Left g) acts (Delivered r.0) r.1, r.2, r.3)
 
 -- and an ABCAST's message that was delivered
-pub abcast_among : (acts : List Act) (m : Message) → Contains acts (Delivered m) → is_atomic (kind_of m.body) ≡ true → Contains (abcasts_by acts) m.id
+pub abcast_among : (acts : List Act) (m : Message) → Contains acts (Delivered m) → is_atomic (kind_of m.body) ≡ true →
+    Contains (abcasts_by acts) m.id
 abcast_among acts m at atomic =
     let s = contains_split acts (Delivered m) at in
-    subst (λ l. Contains l m.id) (sym (ap abcasts_by s.2 ∙ abcasts_append s.0 (Delivered m ∷ s.1) ∙ ap (λ b. abcasts_by s.0 ++ cond b (m.id ∷ abcasts_by s.1) (abcasts_by s.1)) atomic))
+    subst (λ l. Contains l m.id) (sym (ap abcasts_by s.2
+    ∙ abcasts_append s.0 (Delivered m ∷ s.1)
+    ∙ ap (λ b. abcasts_by s.0 ++ cond b (m.id ∷ abcasts_by s.1) (abcasts_by s.1)) atomic))
     (contains_here (abcasts_by s.0) (abcasts_by s.1) m.id)

@@ -94,38 +94,47 @@ IsMessage y = ((m : Message) × (y ≡ Sent m)) ⊎ ((m : Message) × (y ≡ Del
 
 pub done_delivered : (acts : List Act) (m y : Message) → HasDone (acts ++ Delivered m ∷ []) y → HasDone acts y ⊎ (m ≡ y)
 unfolding delivered_or sort_of
-done_delivered acts m y (inl at) = elim (Contains-push_cases acts (Delivered m) (Sent y) at) [ inl old ↦ inl (inl old) | inr new ↦ absurd (differ (ap sort_of new)) ]
+done_delivered acts m y (inl at) =
+    elim (Contains-push_cases acts (Delivered m) (Sent y) at) [ inl old ↦ inl (inl old) | inr new ↦ absurd (differ (ap sort_of new)) ]
   where
     differ : ◌≡◌ {A = ℕ} 1 0 → ⊥
     differ e = omega arith
-done_delivered acts m y (inr at) = elim (Contains-push_cases acts (Delivered m) (Delivered y) at) [ inl old ↦ inl (inr old) | inr new ↦ inr (ap (delivered_or m) new) ]
+done_delivered acts m y (inr at) =
+    elim (Contains-push_cases acts (Delivered m) (Delivered y) at) [ inl old ↦ inl (inr old) | inr new ↦ inr (ap (delivered_or m) new) ]
 
 pub done_sent : (acts : List Act) (m y : Message) → HasDone (acts ++ Sent m ∷ []) y → HasDone acts y ⊎ (m ≡ y)
 unfolding sent_or sort_of
-done_sent acts m y (inl at) = elim (Contains-push_cases acts (Sent m) (Sent y) at) [ inl old ↦ inl (inl old) | inr new ↦ inr (ap (sent_or m) new) ]
-done_sent acts m y (inr at) = elim (Contains-push_cases acts (Sent m) (Delivered y) at) [ inl old ↦ inl (inr old) | inr new ↦ absurd (differ (ap sort_of new)) ]
+done_sent acts m y (inl at) =
+    elim (Contains-push_cases acts (Sent m) (Sent y) at) [ inl old ↦ inl (inl old) | inr new ↦ inr (ap (sent_or m) new) ]
+done_sent acts m y (inr at) =
+    elim (Contains-push_cases acts (Sent m) (Delivered y) at) [ inl old ↦ inl (inr old) | inr new ↦ absurd (differ (ap sort_of new)) ]
   where
     differ : ◌≡◌ {A = ℕ} 0 1 → ⊥
     differ e = omega arith
 
-pub done_entered : (acts : List Act) (g : GroupNo) (n : ℕ) (cut : CountList) (y : Message) → HasDone (acts ++ Entered g n cut ∷ []) y → HasDone acts y
+pub done_entered : (acts : List Act) (g : GroupNo) (n : ℕ) (cut : CountList) (y : Message) → HasDone (acts ++ Entered g n cut ∷ []) y →
+    HasDone acts y
 unfolding sort_of
-done_entered acts g n cut y (inl at) = elim (Contains-push_cases acts (Entered g n cut) (Sent y) at) [ inl old ↦ inl old | inr new ↦ absurd (differ (ap sort_of new)) ]
+done_entered acts g n cut y (inl at) =
+    elim (Contains-push_cases acts (Entered g n cut) (Sent y) at) [ inl old ↦ inl old | inr new ↦ absurd (differ (ap sort_of new)) ]
   where
     differ : ◌≡◌ {A = ℕ} 2 0 → ⊥
     differ e = omega arith
-done_entered acts g n cut y (inr at) = elim (Contains-push_cases acts (Entered g n cut) (Delivered y) at) [ inl old ↦ inr old | inr new ↦ absurd (differ (ap sort_of new)) ]
+done_entered acts g n cut y (inr at) =
+    elim (Contains-push_cases acts (Entered g n cut) (Delivered y) at) [ inl old ↦ inr old | inr new ↦ absurd (differ (ap sort_of new)) ]
   where
     differ : ◌≡◌ {A = ℕ} 2 1 → ⊥
     differ e = omega arith
 
 pub done_left : (acts : List Act) (g : GroupNo) (y : Message) → HasDone (acts ++ Left g ∷ []) y → HasDone acts y
 unfolding sort_of
-done_left acts g y (inl at) = elim (Contains-push_cases acts (Left g) (Sent y) at) [ inl old ↦ inl old | inr new ↦ absurd (differ (ap sort_of new)) ]
+done_left acts g y (inl at) =
+    elim (Contains-push_cases acts (Left g) (Sent y) at) [ inl old ↦ inl old | inr new ↦ absurd (differ (ap sort_of new)) ]
   where
     differ : ◌≡◌ {A = ℕ} 3 0 → ⊥
     differ e = omega arith
-done_left acts g y (inr at) = elim (Contains-push_cases acts (Left g) (Delivered y) at) [ inl old ↦ inr old | inr new ↦ absurd (differ (ap sort_of new)) ]
+done_left acts g y (inr at) =
+    elim (Contains-push_cases acts (Left g) (Delivered y) at) [ inl old ↦ inr old | inr new ↦ absurd (differ (ap sort_of new)) ]
   where
     differ : ◌≡◌ {A = ℕ} 3 1 → ⊥
     differ e = omega arith
@@ -152,7 +161,8 @@ is_in_less acts y g v (a, b, cut, is, stays, last_one) = elim (place acts a b y 
       (λ n c at. last_one n c (subst (λ z. Contains z (Entered g n c)) (sym end) (Contains-append_left d (y ∷ []) _ at))),
     ),
     (λ e. stays (subst (λ z. Contains z (Left g)) (sym end) (subst (λ x. Contains (d ++ y ∷ []) x) e (Contains-push d y)))),
-    (λ n c e. last_one n c (subst (λ z. Contains z (Entered g n c)) (sym end) (subst (λ x. Contains (d ++ y ∷ []) x) e (Contains-push d y)))),
+    (λ n c e.
+        last_one n c (subst (λ z. Contains z (Entered g n c)) (sym end) (subst (λ x. Contains (d ++ y ∷ []) x) e (Contains-push d y)))),
   )
 ]
 
@@ -168,7 +178,8 @@ is_in_message acts y g v message at = elim (is_in_less acts y g v at) [
 ]
 
 -- an entry is of this group and view, or of another group
-pub entered_same : (g h : GroupNo) (n v : ℕ) (cut other : CountList) → ◌≡◌ {A = Act} (Entered g n cut) (Entered h v other) → (g ≡ h) × (n ≡ v)
+pub entered_same : (g h : GroupNo) (n v : ℕ) (cut other : CountList) → ◌≡◌ {A = Act} (Entered g n cut) (Entered h v other) →
+    (g ≡ h) × (n ≡ v)
 unfolding group_or view_or
 entered_same g h n v cut other e = (ap (group_or g) e, ap view_or e)
 
@@ -183,15 +194,18 @@ is_delivery (Entered g n cut) = false
 is_delivery (Left g) = false
 
 -- a delivery before an act that is none
-delivered_before : (acts : List Act) (y : Act) (m : Message) → is_delivery y ≡ false → Contains (acts ++ y ∷ []) (Delivered m) → Contains acts (Delivered m)
+delivered_before : (acts : List Act) (y : Act) (m : Message) → is_delivery y ≡ false → Contains (acts ++ y ∷ []) (Delivered m) →
+    Contains acts (Delivered m)
 unfolding is_delivery
-delivered_before acts y m other at = elim (Contains-push_cases acts y (Delivered m) at) [ inl old ↦ old | inr new ↦ absurd (true≢false (sym (ap is_delivery new) ∙ other)) ]
+delivered_before acts y m other at =
+    elim (Contains-push_cases acts y (Delivered m) at) [ inl old ↦ old | inr new ↦ absurd (true≢false (sym (ap is_delivery new) ∙ other)) ]
 
 pub before_sent : (acts : List Act) (x m : Message) → Contains (acts ++ Sent x ∷ []) (Delivered m) → Contains acts (Delivered m)
 unfolding is_delivery
 before_sent acts x m at = delivered_before acts (Sent x) m refl at
 
-pub before_entered : (acts : List Act) (g : GroupNo) (n : ℕ) (cut : CountList) (m : Message) → Contains (acts ++ Entered g n cut ∷ []) (Delivered m) → Contains acts (Delivered m)
+pub before_entered : (acts : List Act) (g : GroupNo) (n : ℕ) (cut : CountList) (m : Message) →
+    Contains (acts ++ Entered g n cut ∷ []) (Delivered m) → Contains acts (Delivered m)
 unfolding is_delivery
 before_entered acts g n cut m at = delivered_before acts (Entered g n cut) m refl at
 
@@ -199,9 +213,11 @@ pub before_left : (acts : List Act) (g : GroupNo) (m : Message) → Contains (ac
 unfolding is_delivery
 before_left acts g m at = delivered_before acts (Left g) m refl at
 
-pub before_delivered : (acts : List Act) (x m : Message) → Contains (acts ++ Delivered x ∷ []) (Delivered m) → Contains acts (Delivered m) ⊎ (x ≡ m)
+pub before_delivered : (acts : List Act) (x m : Message) → Contains (acts ++ Delivered x ∷ []) (Delivered m) →
+    Contains acts (Delivered m) ⊎ (x ≡ m)
 unfolding delivered_or
-before_delivered acts x m at = elim (Contains-push_cases acts (Delivered x) (Delivered m) at) [ inl old ↦ inl old | inr new ↦ inr (ap (delivered_or m) new) ]
+before_delivered acts x m at =
+    elim (Contains-push_cases acts (Delivered x) (Delivered m) at) [ inl old ↦ inl old | inr new ↦ inr (ap (delivered_or m) new) ]
 
 -- an entry before an act that is none
 is_entry : Act → Bool
@@ -210,19 +226,24 @@ is_entry (Delivered m) = false
 is_entry (Entered g n cut) = true
 is_entry (Left g) = false
 
-entry_before : (acts : List Act) (y : Act) (g : GroupNo) (n : ℕ) (cut : CountList) → is_entry y ≡ false → Contains (acts ++ y ∷ []) (Entered g n cut) → Contains acts (Entered g n cut)
+entry_before : (acts : List Act) (y : Act) (g : GroupNo) (n : ℕ) (cut : CountList) → is_entry y ≡ false →
+    Contains (acts ++ y ∷ []) (Entered g n cut) → Contains acts (Entered g n cut)
 unfolding is_entry
-entry_before acts y g n cut other at = elim (Contains-push_cases acts y (Entered g n cut) at) [ inl old ↦ old | inr new ↦ absurd (true≢false (sym (ap is_entry new) ∙ other)) ]
+entry_before acts y g n cut other at =
+    elim (Contains-push_cases acts y (Entered g n cut) at) [ inl old ↦ old | inr new ↦ absurd (true≢false (sym (ap is_entry new) ∙ other)) ]
 
-pub entry_sent : (acts : List Act) (m : Message) (g : GroupNo) (n : ℕ) (cut : CountList) → Contains (acts ++ Sent m ∷ []) (Entered g n cut) → Contains acts (Entered g n cut)
+pub entry_sent : (acts : List Act) (m : Message) (g : GroupNo) (n : ℕ) (cut : CountList) →
+    Contains (acts ++ Sent m ∷ []) (Entered g n cut) → Contains acts (Entered g n cut)
 unfolding is_entry
 entry_sent acts m g n cut at = entry_before acts (Sent m) g n cut refl at
 
-pub entry_delivered : (acts : List Act) (m : Message) (g : GroupNo) (n : ℕ) (cut : CountList) → Contains (acts ++ Delivered m ∷ []) (Entered g n cut) → Contains acts (Entered g n cut)
+pub entry_delivered : (acts : List Act) (m : Message) (g : GroupNo) (n : ℕ) (cut : CountList) →
+    Contains (acts ++ Delivered m ∷ []) (Entered g n cut) → Contains acts (Entered g n cut)
 unfolding is_entry
 entry_delivered acts m g n cut at = entry_before acts (Delivered m) g n cut refl at
 
-pub entry_left : (acts : List Act) (h g : GroupNo) (n : ℕ) (cut : CountList) → Contains (acts ++ Left h ∷ []) (Entered g n cut) → Contains acts (Entered g n cut)
+pub entry_left : (acts : List Act) (h g : GroupNo) (n : ℕ) (cut : CountList) → Contains (acts ++ Left h ∷ []) (Entered g n cut) →
+    Contains acts (Entered g n cut)
 unfolding is_entry
 entry_left acts h g n cut at = entry_before acts (Left h) g n cut refl at
 

@@ -2,7 +2,8 @@
 use Rattle.std.proofs.Common.{ap, arith, inl, inr, subst, sym, ◌∙◌}
 use Rattle.std.proofs.lemmas.Bool.{cases_Bool, eq-eqb, eqb-true, false_from_ne_true, false≢true, true≢false}
 use Rattle.std.proofs.lemmas.List.Elements.{Contains-push, Contains-push_cases}
-use Rattle.std.specs.Prelude.{◌+◌, ◌++◌, ◌<◌, Bool, Contains, IsTrue, List, [], false, if◌then◌else◌, refl, true, ℕ, ◌∷◌, ◌≡◌, ◌≤◌, ◌⊎◌, ◌≡◌}
+use Rattle.std.specs.Prelude.{◌+◌, ◌++◌, ◌<◌, Bool, Contains, IsTrue, List, [], false}
+use Rattle.std.specs.Prelude.{if◌then◌else◌, refl, true, ℕ, ◌∷◌, ◌≡◌, ◌≤◌, ◌⊎◌, ◌≡◌}
 use Rattle.cast_clock.specs.Times.{with_bump, count_in, entering, join, view_of}
 use Rattle.cast_ready.specs.Ready.{Process, is_outside}
 use Rattle.cast_rules.specs.Acts.{Act}
@@ -16,8 +17,10 @@ use Rattle.cast_types.specs.declared.names.Proc.{Proc}
 use Rattle.cast_types.specs.declared.names.Standing.{Standing}
 use Rattle.cast_types.specs.declared.names.Standing.TheVariants.{Joining, Member, Outside}
 use Rattle.cast_world.proofs.Facts.{ActWell, DeliveredWell, Fits, IsAllowed, IsIn, IsSorted}
-use Rattle.cast_world.proofs.Lists.{done_delivered, done_entered, done_left, done_sent, each_more, entered_same, has_more, is_in_less, is_in_message, left_not_entered}
-use Rattle.cast_world.proofs.Times.{Once, below_bumped, below_entering, below_join, below_view, bumped_covers, bumped_view, entered_view, join_covers, other_view, view_join}
+use Rattle.cast_world.proofs.Lists.{done_delivered, done_entered, done_left, done_sent, each_more}
+use Rattle.cast_world.proofs.Lists.{entered_same, has_more, is_in_less, is_in_message, left_not_entered}
+use Rattle.cast_world.proofs.Times.{Once, below_bumped, below_entering, below_join, below_view, bumped_covers}
+use Rattle.cast_world.proofs.Times.{bumped_view, entered_view, join_covers, other_view, view_join}
 use Rattle.cast_world.specs.Laws.{Below, Covers}
 
 is_outside_of : Standing → Bool
@@ -84,7 +87,8 @@ module _ (me : Proc) (p : Process) (acts : List Act) (fits : Fits me p acts) whe
 
   -- sending
   module _ (g : GroupNo) (m : Message) (member : p.standing g ≡ Member) (own : m.id.proc ≡ me) (group : m.id.group ≡ g)
-      (times : m.times ≡ with_bump p.time g me) (view : m.id.view ≡ view_of p.time g) (count : m.id.count ≡ count_in p.time g me + 1) (ordered : IsSorted m.times) where
+      (times : m.times ≡ with_bump p.time g me) (view : m.id.view ≡ view_of p.time g) (count : m.id.count ≡ count_in p.time g me + 1)
+      (ordered : IsSorted m.times) where
     below : Below p.time m.times
     below = subst (λ t. Below p.time t) (sym times) (below_bumped p.time g me)
 
@@ -104,10 +108,16 @@ module _ (me : Proc) (p : Process) (acts : List Act) (fits : Fits me p acts) whe
         rises = λ y did u tells c. below u (fits.covered y did u c);
         strictly = λ y did c. not_yet (fits.covered y did m.id c);
       };
-      covered = λ y did. elim (done_sent acts m y did) [ inl old ↦ (λ u c. below u (fits.covered y old u c)) | inr new ↦ subst (λ (z : Message). Below z.times m.times) new (λ u c. c) ];
+      covered = λ y did. elim (done_sent acts m y did) [
+        | inl old ↦ (λ u c. below u (fits.covered y old u c))
+        | inr new ↦ subst (λ (z : Message). Below z.times m.times) new (λ u c. c)
+      ];
       listed = λ u at. has_more acts (Sent m) u (fits.listed u at);
-      member = λ h v at. let old = fits.member h v (is_in_message acts (Sent m) h v (inl (m, refl)) at) in (old.0, ap (λ t. view_of t h) times ∙ bumped_view p.time g me h ∙ old.1);
-      heard = λ h request heard is. subst (λ n. n ≡ heard) (sym (ap (λ t. view_of t h) times ∙ bumped_view p.time g me h)) (fits.heard h request heard is);
+      member = λ h v at.
+          let old = fits.member h v (is_in_message acts (Sent m) h v (inl (m, refl)) at) in
+          (old.0, ap (λ t. view_of t h) times ∙ bumped_view p.time g me h ∙ old.1);
+      heard = λ h request heard is.
+          subst (λ n. n ≡ heard) (sym (ap (λ t. view_of t h) times ∙ bumped_view p.time g me h)) (fits.heard h request heard is);
     }
 
   -- entering
@@ -117,9 +127,12 @@ module _ (me : Proc) (p : Process) (acts : List Act) (fits : Fits me p acts) whe
     standing_here h e = ap (λ b. if b then Member else p.standing h) (eq-eqb g.0 h.0 (ap (λ (k : GroupNo). k.0) e))
 
     standing_other : (h : GroupNo) → (g ≡ h → ⊥) → set_at group_eq p.standing g Member h ≡ p.standing h
-    standing_other h apart = ap (λ b. if b then Member else p.standing h) (false_from_ne_true (group_eq g h) (λ same. apart (ap (λ k. record { 0 = k }) (eqb-true g.0 h.0 same))))
+    standing_other h apart =
+        ap (λ b. if b then Member else p.standing h)
+        (false_from_ne_true (group_eq g h) (λ same. apart (ap (λ k. record { 0 = k }) (eqb-true g.0 h.0 same))))
 
-    pub entering_fits : Fits me (record p { time = entering p.time g n; standing = set_at group_eq p.standing g Member }) (acts ++ Entered g n cut ∷ [])
+    pub entering_fits : Fits me (record p { time = entering p.time g n; standing = set_at group_eq p.standing g Member })
+        (acts ++ Entered g n cut ∷ [])
     entering_fits = record {
       each = each_more (ActWell me) acts (Entered g n cut) fits.each record {
         above = λ m did. let up = below_view m.times p.time (fits.covered m did) g in omega (arith, up, above);
@@ -139,7 +152,8 @@ module _ (me : Proc) (p : Process) (acts : List Act) (fits : Fits me p acts) whe
       ];
       heard = λ h request heard is. elim (cases_group g h) [
         | inl same ↦ absurd (not_joining request heard (sym (standing_here h same) ∙ is))
-        | inr apart ↦ subst (λ k. k ≡ heard) (sym (other_view p.time g n h apart)) (fits.heard h request heard (sym (standing_other h apart) ∙ is))
+        | inr apart ↦
+            subst (λ k. k ≡ heard) (sym (other_view p.time g n h apart)) (fits.heard h request heard (sym (standing_other h apart) ∙ is))
       ];
     }
 
@@ -149,12 +163,15 @@ module _ (me : Proc) (p : Process) (acts : List Act) (fits : Fits me p acts) whe
     Leaving = record p { standing = set_at group_eq p.standing g Outside }
 
     outside_other : (h : GroupNo) → (g ≡ h → ⊥) → set_at group_eq p.standing g Outside h ≡ p.standing h
-    outside_other h apart = ap (λ b. if b then Outside else p.standing h) (false_from_ne_true (group_eq g h) (λ same. apart (ap (λ k. record { 0 = k }) (eqb-true g.0 h.0 same))))
+    outside_other h apart =
+        ap (λ b. if b then Outside else p.standing h)
+        (false_from_ne_true (group_eq g h) (λ same. apart (ap (λ k. record { 0 = k }) (eqb-true g.0 h.0 same))))
 
     outside_here : (h : GroupNo) → g ≡ h → set_at group_eq p.standing g Outside h ≡ Outside
     outside_here h e = ap (λ b. if b then Outside else p.standing h) (eq-eqb g.0 h.0 (ap (λ (k : GroupNo). k.0) e))
 
-    still_heard : (h : GroupNo) (request heard : ℕ) → set_at group_eq p.standing g Outside h ≡ Joining request heard → view_of p.time h ≡ heard
+    still_heard : (h : GroupNo) (request heard : ℕ) → set_at group_eq p.standing g Outside h ≡ Joining request heard →
+        view_of p.time h ≡ heard
     still_heard h request heard is = elim (cases_group g h) [
       | inl same ↦ absurd (outside_not_joining request heard (sym (outside_here h same) ∙ is))
       | inr apart ↦ fits.heard h request heard (sym (outside_other h apart) ∙ is)
@@ -187,8 +204,10 @@ module _ (me : Proc) (p : Process) (acts : List Act) (fits : Fits me p acts) whe
 
   -- asking to join
   module _ (g : GroupNo) (request : ℕ) (out : is_outside (p.standing g) ≡ true) where
-    still_member : (h : GroupNo) (b : Bool) → group_eq g h ≡ b → p.standing h ≡ Member → (if b then Joining request (view_of p.time g) else p.standing h) ≡ Member
-    still_member h true e is = absurd (false≢true (sym (ap is_outside (ap p.standing (ap (λ n. record { 0 = n }) (eqb-true g.0 h.0 e)) ∙ is)) ∙ out))
+    still_member : (h : GroupNo) (b : Bool) → group_eq g h ≡ b → p.standing h ≡ Member →
+        (if b then Joining request (view_of p.time g) else p.standing h) ≡ Member
+    still_member h true e is =
+        absurd (false≢true (sym (ap is_outside (ap p.standing (ap (λ n. record { 0 = n }) (eqb-true g.0 h.0 e)) ∙ is)) ∙ out))
     still_member h false e is = is
 
     heard_of : Standing → ℕ
@@ -196,7 +215,8 @@ module _ (me : Proc) (p : Process) (acts : List Act) (fits : Fits me p acts) whe
     heard_of (Joining number heard) = heard
     heard_of Member = 0
 
-    heard_here : (h : GroupNo) (b : Bool) → group_eq g h ≡ b → (number heard : ℕ) → (if b then Joining request (view_of p.time g) else p.standing h) ≡ Joining number heard → view_of p.time h ≡ heard
+    heard_here : (h : GroupNo) (b : Bool) → group_eq g h ≡ b → (number heard : ℕ) →
+        (if b then Joining request (view_of p.time g) else p.standing h) ≡ Joining number heard → view_of p.time h ≡ heard
     unfolding heard_of
     heard_here h true e number heard is =
         sym (ap (view_of p.time) (ap (λ n. record { 0 = n }) (eqb-true g.0 h.0 e))) ∙ ap heard_of is

@@ -20,25 +20,30 @@ use Rattle.cast_view.specs.MemberSide.{MemberSide, has_view}
 use Rattle.cast_world.proofs.Facts.{IsAllowed, IsIn, IsSorted}
 use Rattle.cast_world.proofs.Invariants.{Ahead, IsDecided, Known, OneHolds, Sites, WasSent}
 use Rattle.cast_world.proofs.Lists.{before_delivered, before_entered, before_left, before_sent}
-use Rattle.cast_world.proofs.Local.{cases_group, delivering_fits, entering_fits, joining_fits, leaving_fits, not_joining, not_member_fits, outside_not_joining, sending_fits, view_kept}
-use Rattle.cast_world.proofs.Times.{bumped_sorted, bumped_view, entered_sorted, entered_view, joined_sorted, other_view, sorted_once, view_join}
+use Rattle.cast_world.proofs.Local.{cases_group, delivering_fits, entering_fits, joining_fits, leaving_fits}
+use Rattle.cast_world.proofs.Local.{not_joining, not_member_fits, outside_not_joining, sending_fits, view_kept}
+use Rattle.cast_world.proofs.Times.{bumped_sorted, bumped_view, entered_sorted, entered_view}
+use Rattle.cast_world.proofs.Times.{joined_sorted, other_view, sorted_once, view_join}
 
 pub set_here : {V : Type 0} (f : GroupNo → V) (g : GroupNo) (v : V) (h : GroupNo) → g ≡ h → set_at group_eq f g v h ≡ v
 set_here f g v h e = ap (λ b. if b then v else f h) (eq-eqb g.0 h.0 (ap (λ (k : GroupNo). k.0) e))
 
 pub set_other : {V : Type 0} (f : GroupNo → V) (g : GroupNo) (v : V) (h : GroupNo) → (g ≡ h → ⊥) → set_at group_eq f g v h ≡ f h
-set_other f g v h apart = ap (λ b. if b then v else f h) (false_from_ne_true (group_eq g h) (λ same. apart (ap (λ k. record { 0 = k }) (eqb-true g.0 h.0 same))))
+set_other f g v h apart =
+    ap (λ b. if b then v else f h) (false_from_ne_true (group_eq g h) (λ same. apart (ap (λ k. record { 0 = k }) (eqb-true g.0 h.0 same))))
 
 pub outside_not_member : ◌≡◌ {A = Standing} Outside Member → ⊥
 outside_not_member e = true≢false (ap is_outside e)
 
-pub further : (at next : Sites) (home : SiteNo) (g : GroupNo) (view : ℕ) → Ahead at next → IsDecided at home g view → IsDecided next home g view
+pub further : (at next : Sites) (home : SiteNo) (g : GroupNo) (view : ℕ) → Ahead at next → IsDecided at home g view →
+    IsDecided next home g view
 further at next home g view ahead was =
     let up : ((at home).home g).number ≤ ((next home).home g).number = (ahead home).decided g in
     let low : view ≤ ((at home).home g).number = was in
     omega (arith, up, low)
 
-module _ (at : Sites) (home here : SiteNo) (used : ℕ) (groups : List GroupNo) (group : GroupNo → MemberSide) (k : ℕ) (p : Process) (acts : List Act)
+module _ (at : Sites) (home here : SiteNo) (used : ℕ) (groups : List GroupNo) (group : GroupNo → MemberSide) (k : ℕ) (p : Process)
+    (acts : List Act)
     (o : OneHolds at home here used groups group k p acts) where
   abbrev me : Proc
   me = record { site = here; serial = k }
@@ -68,7 +73,8 @@ module _ (at : Sites) (home here : SiteNo) (used : ℕ) (groups : List GroupNo) 
   }
 
   -- when groups change, but for number and view
-  pub group_one : (next : GroupNo → MemberSide) → ((g : GroupNo) → ((next g).number ≡ (group g).number) × (has_view (next g) ≡ has_view (group g))) →
+  pub group_one : (next : GroupNo → MemberSide) →
+      ((g : GroupNo) → ((next g).number ≡ (group g).number) × (has_view (next g) ≡ has_view (group g))) →
       OneHolds at home here used groups next k p acts
   group_one next same = record {
     fits = o.fits;
@@ -81,7 +87,8 @@ module _ (at : Sites) (home here : SiteNo) (used : ℕ) (groups : List GroupNo) 
   }
 
   -- when a group of which it is no member has another view
-  pub stays_one : (g : GroupNo) (next : GroupNo → MemberSide) → (p.standing g ≡ Member → ⊥) → ((h : GroupNo) → (g ≡ h → ⊥) → next h ≡ group h) → OneHolds at home here used groups next k p acts
+  pub stays_one : (g : GroupNo) (next : GroupNo → MemberSide) → (p.standing g ≡ Member → ⊥) →
+      ((h : GroupNo) → (g ≡ h → ⊥) → next h ≡ group h) → OneHolds at home here used groups next k p acts
   stays_one g next never same = record {
     fits = o.fits;
     given = o.given;
@@ -105,7 +112,8 @@ module _ (at : Sites) (home here : SiteNo) (used : ℕ) (groups : List GroupNo) 
     out_member h true e = absurd (outside_not_member e)
     out_member h false e = e
 
-    out_joining : (h : GroupNo) (b : Bool) (number heard : ℕ) → (if b then Outside else p.standing h) ≡ Joining number heard → p.standing h ≡ Joining number heard
+    out_joining : (h : GroupNo) (b : Bool) (number heard : ℕ) → (if b then Outside else p.standing h) ≡ Joining number heard →
+        p.standing h ≡ Joining number heard
     out_joining h true number heard e = absurd (outside_not_joining number heard e)
     out_joining h false number heard e = e
 
@@ -132,12 +140,15 @@ module _ (at : Sites) (home here : SiteNo) (used : ℕ) (groups : List GroupNo) 
     }
 
   -- asking to join
-  module _ (g : GroupNo) (request : ℕ) (out : is_outside (p.standing g) ≡ true) (one : 1 ≤ k) (in_use : k ≤ used) (known : Contains groups g) where
-    join_given : (h : GroupNo) (b : Bool) → group_eq g h ≡ b → is_outside (if b then Joining request (view_of p.time g) else p.standing h) ≡ false → (1 ≤ k) × (k ≤ used) × Contains groups h
+  module _ (g : GroupNo) (request : ℕ) (out : is_outside (p.standing g) ≡ true) (one : 1 ≤ k) (in_use : k ≤ used)
+      (known : Contains groups g) where
+    join_given : (h : GroupNo) (b : Bool) → group_eq g h ≡ b →
+        is_outside (if b then Joining request (view_of p.time g) else p.standing h) ≡ false → (1 ≤ k) × (k ≤ used) × Contains groups h
     join_given h true e is = (one, in_use, subst (Contains groups) (ap (λ n. record { 0 = n }) (eqb-true g.0 h.0 e)) known)
     join_given h false e is = o.given h is
 
-    join_member : (h : GroupNo) (b : Bool) → (if b then Joining request (view_of p.time g) else p.standing h) ≡ Member → p.standing h ≡ Member
+    join_member : (h : GroupNo) (b : Bool) → (if b then Joining request (view_of p.time g) else p.standing h) ≡ Member →
+        p.standing h ≡ Member
     join_member h true is = absurd (not_joining request (view_of p.time g) (sym is))
     join_member h false is = is
 
@@ -146,12 +157,16 @@ module _ (at : Sites) (home here : SiteNo) (used : ℕ) (groups : List GroupNo) 
     heard_or (Joining number heard) = heard
     heard_or Member = 0
 
-    join_heard : (h : GroupNo) (b : Bool) → group_eq g h ≡ b → (number heard : ℕ) → (if b then Joining request (view_of p.time g) else p.standing h) ≡ Joining number heard → IsDecided at home h heard
+    join_heard : (h : GroupNo) (b : Bool) → group_eq g h ≡ b → (number heard : ℕ) →
+        (if b then Joining request (view_of p.time g) else p.standing h) ≡ Joining number heard → IsDecided at home h heard
     unfolding heard_or
-    join_heard h true e number heard is = subst (λ n. IsDecided at home h n) (ap (view_of p.time) (sym (ap (λ n. record { 0 = n }) (eqb-true g.0 h.0 e))) ∙ ap heard_or is) (o.views h)
+    join_heard h true e number heard is =
+        subst (λ n. IsDecided at home h n)
+        (ap (view_of p.time) (sym (ap (λ n. record { 0 = n }) (eqb-true g.0 h.0 e))) ∙ ap heard_or is) (o.views h)
     join_heard h false e number heard is = o.heard h number heard is
 
-    pub joins_one : OneHolds at home here used groups group k (record p { standing = set_at group_eq p.standing g (Joining request (view_of p.time g)) }) acts
+    pub joins_one : OneHolds at home here used groups group k
+        (record p { standing = set_at group_eq p.standing g (Joining request (view_of p.time g)) }) acts
     joins_one = record {
       fits = joining_fits me p acts o.fits g request out;
       given = λ h e. join_given h (group_eq g h) refl e;
@@ -188,14 +203,19 @@ module _ (at : Sites) (home here : SiteNo) (used : ℕ) (groups : List GroupNo) 
   -- delivering
   module _ (m : Message) (known : Known at home m) (allowed : IsAllowed p m) where
     pub joined_view : (h : GroupNo) → p.standing h ≡ Member → view_of (join p.time m.times) h ≡ view_of p.time h
-    joined_view h is = view_kept me p acts o.fits m (sorted_once m.times known.sorted.0) allowed h (view_of p.time h) refl (allowed.view h is)
+    joined_view h is =
+        view_kept me p acts o.fits m (sorted_once m.times known.sorted.0) allowed h (view_of p.time h) refl (allowed.view h is)
 
-    pub delivers_one : OneHolds at home here used groups group k (record p { time = join p.time m.times; delivered = p.delivered ++ m.id ∷ [] }) (acts ++ Delivered m ∷ [])
+    pub delivers_one : OneHolds at home here used groups group k
+        (record p { time = join p.time m.times; delivered = p.delivered ++ m.id ∷ [] }) (acts ++ Delivered m ∷ [])
     delivers_one = record {
       fits = delivering_fits me p acts o.fits m (sorted_once m.times known.sorted.0) allowed;
       given = o.given;
-      member = λ h is. let was = o.member h is in
-          (was.0 ∙ sym (view_kept me p acts o.fits m (sorted_once m.times known.sorted.0) allowed h (view_of p.time h) refl (allowed.view h is)), was.1);
+      member = λ h is. let was = o.member h is in (
+        was.0
+            ∙ sym (view_kept me p acts o.fits m (sorted_once m.times known.sorted.0) allowed h (view_of p.time h) refl (allowed.view h is)),
+        was.1,
+      );
       sorted = joined_sorted p.time m.times o.sorted known.sorted;
       views = λ h. view_join p.time m.times (sorted_once m.times known.sorted.0) h ((at home).home h).number (o.views h) (known.views h);
       heard = o.heard;
@@ -215,14 +235,19 @@ module _ (at : Sites) (home here : SiteNo) (used : ℕ) (groups : List GroupNo) 
         | inr apart ↦ o.given h (sym (ap is_outside (set_other p.standing g Member h apart)) ∙ e)
       ];
       member = λ h is. elim (cases_group g h) [
-        | inl here_it ↦ subst (λ x. ((next x).number ≡ view_of (entering p.time g n) x) × (has_view (next x) ≡ true)) here_it (number ∙ sym (entered_view p.time g n), current)
+        | inl here_it ↦
+            subst (λ x. ((next x).number ≡ view_of (entering p.time g n) x) × (has_view (next x) ≡ true))
+            here_it (number ∙ sym (entered_view p.time g n), current)
         | inr apart ↦
             let was = o.member h (sym (set_other p.standing g Member h apart) ∙ is) in
-            subst (λ (x : MemberSide). (x.number ≡ view_of (entering p.time g n) h) × (has_view x ≡ true)) (sym (same h apart)) (was.0 ∙ sym (other_view p.time g n h apart), was.1)
+            subst (λ (x : MemberSide). (x.number ≡ view_of (entering p.time g n) h) × (has_view x ≡ true)) (sym (same h apart))
+            (was.0 ∙ sym (other_view p.time g n h apart), was.1)
       ];
       sorted = entered_sorted p.time g n o.sorted;
       views = λ h. elim (cases_group g h) [
-        | inl here_it ↦ subst (λ x. IsDecided at home x (view_of (entering p.time g n) x)) here_it (subst (λ v. IsDecided at home g v) (sym (entered_view p.time g n)) decided)
+        | inl here_it ↦
+            subst (λ x. IsDecided at home x (view_of (entering p.time g n) x))
+            here_it (subst (λ v. IsDecided at home g v) (sym (entered_view p.time g n)) decided)
         | inr apart ↦ subst (λ v. IsDecided at home h v) (sym (other_view p.time g n h apart)) (o.views h)
       ];
       heard = λ h number heard is. elim (cases_group g h) [

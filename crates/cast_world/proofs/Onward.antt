@@ -21,7 +21,9 @@ use Rattle.cast_world.proofs.Times.{below_join, below_view, entered_view, other_
 
 -- the views of its time do not fall, and where it is a member it was one, or has a later view
 abbrev pub Onward : Process → Process → Type 0
-Onward p q = (g : GroupNo) → (view_of p.time g ≤ view_of q.time g) × (q.standing g ≡ Member → (p.standing g ≡ Member) ⊎ (view_of p.time g < view_of q.time g))
+Onward p q =
+    (g : GroupNo) →
+    (view_of p.time g ≤ view_of q.time g) × (q.standing g ≡ Member → (p.standing g ≡ Member) ⊎ (view_of p.time g < view_of q.time g))
 
 pub onward_same : (p : Process) → Onward p p
 onward_same p g = (omega arith, λ e. inl e)
@@ -49,10 +51,12 @@ pub asks : (s : Standing) (b : Bool) (number heard : ℕ) → (if b then Joining
 asks s true number heard e = absurd (not_joining number heard (sym e))
 asks s false number heard e = e
 
-pub onward_joins : (p : Process) (g : GroupNo) (number heard : ℕ) → Onward p (record p { standing = set_at group_eq p.standing g (Joining number heard) })
+pub onward_joins : (p : Process) (g : GroupNo) (number heard : ℕ) →
+    Onward p (record p { standing = set_at group_eq p.standing g (Joining number heard) })
 onward_joins p g number heard h = (omega arith, λ e. inl (asks (p.standing h) (group_eq g h) number heard e))
 
-pub onward_time : (p : Process) (m : Message) → ((g : GroupNo) → view_of p.time g ≤ view_of m.times g) → Onward p (record p { time = m.times })
+pub onward_time : (p : Process) (m : Message) → ((g : GroupNo) → view_of p.time g ≤ view_of m.times g) →
+    Onward p (record p { time = m.times })
 onward_time p m up g = (up g, λ e. inl e)
 
 pub onward_delivers : (p : Process) (m : Message) (us : List Uid) → Onward p (record p { time = join p.time m.times; delivered = us })
@@ -61,7 +65,9 @@ onward_delivers p m us g = (below_view p.time (join p.time m.times) (below_join 
 pub onward_enters : (p : Process) (g : GroupNo) (n : ℕ) → view_of p.time g < n → Onward p (in_view g n p)
 onward_enters p g n above h = elim (cases_group g h) [
   | inl same ↦
-      let up : view_of p.time h < view_of (entering p.time g n) h = subst (λ x. view_of p.time x < view_of (entering p.time g n) x) same (subst (λ v. view_of p.time g < v) (sym (entered_view p.time g n)) above) in
+      let up : view_of p.time h < view_of (entering p.time g n) h =
+      subst (λ x. view_of p.time x < view_of (entering p.time g n) x)
+      same (subst (λ v. view_of p.time g < v) (sym (entered_view p.time g n)) above) in
       (omega (arith, up), λ e. inr up)
   | inr apart ↦
       let as_was = other_view p.time g n h apart in

@@ -10,7 +10,8 @@ use Rattle.std.proofs.lemmas.List.Elements.{Contains-append_cases, Contains-appe
 use Rattle.std.proofs.lemmas.List.{append-nil, length-append, length_push}
 use Rattle.std.specs.List.{enumerate_from, find, flat_map}
 use Rattle.std.specs.Option.{option_map}
-use Rattle.std.specs.Prelude.{◌+◌, ◌++◌, ◌<◌, ◌==◌, Bool, Contains, List, None, Option, Some, [], cond, false, if◌then◌else◌, is_some, length, not, refl, suc, true, zero, ℕ, ◌∷◌, ◌≡◌, ◌≤◌, ◌⊎◌}
+use Rattle.std.specs.Prelude.{◌+◌, ◌++◌, ◌<◌, ◌==◌, Bool, Contains, List, None, Option, Some, [], cond, false}
+use Rattle.std.specs.Prelude.{if◌then◌else◌, is_some, length, not, refl, suc, true, zero, ℕ, ◌∷◌, ◌≡◌, ◌≤◌, ◌⊎◌}
 use Rattle.cast_order.specs.Order.{Facts, known_order, next_of, order_from}
 use Rattle.cast_types.specs.Names.{Entry}
 use Rattle.cast_types.specs.declared.limits.TheConstants.{MAX_POSITION}
@@ -63,7 +64,8 @@ pub finds : (place : ℕ) (e : Entry) (xs : Facts) → Contains xs (place, e) �
 finds place e [] at none = absurd (omega (arith, at.1))
 finds place e (f ∷ xs) at none = go (f.0 == place) refl none at (finds place e xs)
   where
-    go : (b : Bool) → (f.0 == place) ≡ b → cond b (Some f) (find (λ (x : ℕ × Entry). x.0 == place) xs) ≡ None → Contains (f ∷ xs) (place, e) →
+    go : (b : Bool) → (f.0 == place) ≡ b → cond b (Some f) (find (λ (x : ℕ × Entry). x.0 == place) xs) ≡ None →
+        Contains (f ∷ xs) (place, e) →
         (Contains xs (place, e) → find (λ (x : ℕ × Entry). x.0 == place) xs ≡ None → ⊥) → ⊥
     go true same is there more = true≢false (ap is_some is)
     go false other is (zero, lt, here) more = true≢false (sym (eq-eqb f.0 place (ap (λ (x : ℕ × Entry). x.0) here)) ∙ other)
@@ -72,7 +74,8 @@ finds place e (f ∷ xs) at none = go (f.0 == place) refl none at (finds place e
 -- facts that stand in an order tell a prefix of it
 module _ (order : List Entry) (facts : Facts) (stand : (f : ℕ × Entry) → Contains facts f → Stands order f) where
   -- a fact that is found for a place has the id that stands there
-  pub found_rest : (a b : List Entry) (place : ℕ) → place ≡ length a + 1 → order ≡ a ++ b → (f : ℕ × Entry) → find (λ (x : ℕ × Entry). x.0 == place) facts ≡ Some f → (c : List Entry) × (b ≡ f.1 ∷ c)
+  pub found_rest : (a b : List Entry) (place : ℕ) → place ≡ length a + 1 → order ≡ a ++ b → (f : ℕ × Entry) →
+      find (λ (x : ℕ × Entry). x.0 == place) facts ≡ Some f → (c : List Entry) × (b ≡ f.1 ∷ c)
   found_rest a b place at e f some =
       let found = found_is (λ (x : ℕ × Entry). x.0 == place) facts f some in
       let s = stand f found.1 in
@@ -84,13 +87,17 @@ module _ (order : List Entry) (facts : Facts) (stand : (f : ℕ × Entry) → Co
   from_place zero a b place at e = (b, refl)
   from_place (suc n) a b place at e = go (from_place n) (find (λ f. f.0 == place) facts) refl
     where
-      go : ((x y : List Entry) (later : ℕ) → later ≡ length x + 1 → order ≡ x ++ y → IsPrefix (order_from n later facts) y) → (o : Option (ℕ × Entry)) → find (λ f. f.0 == place) facts ≡ o →
-          IsPrefix (elim (option_map (λ (f : ℕ × Entry). f.1) o) as (λ x. List Entry) [ Some i ↦ i ∷ order_from n (place + 1) facts | None ↦ [] ]) b
+      go : ((x y : List Entry) (later : ℕ) → later ≡ length x + 1 → order ≡ x ++ y → IsPrefix (order_from n later facts) y) →
+          (o : Option (ℕ × Entry)) → find (λ f. f.0 == place) facts ≡ o →
+          IsPrefix (elim (option_map (λ (f : ℕ × Entry). f.1) o)
+          as (λ x. List Entry) [ Some i ↦ i ∷ order_from n (place + 1) facts | None ↦ [] ]) b
       go next None none = (b, refl)
       go next (Some f) some =
           let rest = found_rest a b place at e f some in
           let long = length_push a f.1 in
-          let more = next (a ++ f.1 ∷ []) rest.0 (place + 1) (omega (arith, long, at)) (e ∙ ap (λ l. a ++ l) rest.1 ∙ sym (append_assoc a (f.1 ∷ []) rest.0)) in
+          let more =
+          next (a ++ f.1 ∷ []) rest.0 (place + 1) (omega (arith, long, at))
+          (e ∙ ap (λ l. a ++ l) rest.1 ∙ sym (append_assoc a (f.1 ∷ []) rest.0)) in
           (more.0, ap (λ l. f.1 ∷ l) more.1 ∙ sym rest.1)
 
   pub known_begins : IsPrefix (known_order facts) order
@@ -99,22 +106,26 @@ module _ (order : List Entry) (facts : Facts) (stand : (f : ℕ × Entry) → Co
 
   -- and all of it, where they tell each place
   module _ (all : (a c : List Entry) (e : Entry) → order ≡ a ++ e ∷ c → Contains facts (length a + 1, e)) where
-    pub whole_from : (n : ℕ) (a b : List Entry) (place : ℕ) → place ≡ length a + 1 → order ≡ a ++ b → length b ≤ n → order_from n place facts ≡ b
+    pub whole_from : (n : ℕ) (a b : List Entry) (place : ℕ) → place ≡ length a + 1 → order ≡ a ++ b → length b ≤ n →
+        order_from n place facts ≡ b
     unfolding head_or
     whole_from zero a [] place at e few = refl
     whole_from zero a (x ∷ b) place at e few = absurd (omega (arith, few))
     whole_from (suc n) a [] place at e few = go (find (λ f. f.0 == place) facts) refl
       where
         go : (o : Option (ℕ × Entry)) → find (λ f. f.0 == place) facts ≡ o →
-            elim (option_map (λ (f : ℕ × Entry). f.1) o) as (λ x. List Entry) [ Some i ↦ i ∷ order_from n (place + 1) facts | None ↦ [] ] ≡ []
+            elim (option_map (λ (f : ℕ × Entry). f.1) o) as (λ x. List Entry) [ Some i ↦ i ∷ order_from n (place + 1) facts | None ↦ [] ]
+            ≡ []
         go None none = refl
         go (Some f) some = let rest = found_rest a [] place at e f some in absurd (no_nil f.1 rest.0 (sym rest.1))
     whole_from (suc n) a (x ∷ b) place at e few =
         let long = length_push a x in
-        go (find (λ f. f.0 == place) facts) refl (whole_from n (a ++ x ∷ []) b (place + 1) (omega (arith, long, at)) (e ∙ sym (append_assoc a (x ∷ []) b)) (omega (arith, few)))
+        go (find (λ f. f.0 == place) facts) refl
+        (whole_from n (a ++ x ∷ []) b (place + 1) (omega (arith, long, at)) (e ∙ sym (append_assoc a (x ∷ []) b)) (omega (arith, few)))
       where
         go : (o : Option (ℕ × Entry)) → find (λ f. f.0 == place) facts ≡ o → order_from n (place + 1) facts ≡ b →
-            elim (option_map (λ (f : ℕ × Entry). f.1) o) as (λ x. List Entry) [ Some i ↦ i ∷ order_from n (place + 1) facts | None ↦ [] ] ≡ x ∷ b
+            elim (option_map (λ (f : ℕ × Entry). f.1) o) as (λ x. List Entry) [ Some i ↦ i ∷ order_from n (place + 1) facts | None ↦ [] ]
+            ≡ x ∷ b
         go None none more = absurd (finds place x facts (subst (λ p. Contains facts (p, x)) (sym at) (all a b x e)) none)
         go (Some f) some more =
             let rest = found_rest a (x ∷ b) place at e f some in
@@ -126,15 +137,18 @@ module _ (order : List Entry) (facts : Facts) (stand : (f : ℕ × Entry) → Co
     known_whole few = whole_from MAX_POSITION [] order 1 refl refl few
 
 -- where facts tell the first places of an order, what they tell reaches as far
-module _ (order : List Entry) (facts : Facts) (stand : (f : ℕ × Entry) → Contains facts f → Stands order f) (done : List Entry) (begins : IsPrefix done order)
+module _ (order : List Entry) (facts : Facts) (stand : (f : ℕ × Entry) → Contains facts f → Stands order f) (done : List Entry)
+    (begins : IsPrefix done order)
     (all : (a c : List Entry) (e : Entry) → order ≡ a ++ e ∷ c → length a < length done → Contains facts (length a + 1, e)) where
-  reaches_from : (n : ℕ) (a b : List Entry) (place : ℕ) → place ≡ length a + 1 → done ≡ a ++ b → length b ≤ n → IsPrefix b (order_from n place facts)
+  reaches_from : (n : ℕ) (a b : List Entry) (place : ℕ) → place ≡ length a + 1 → done ≡ a ++ b → length b ≤ n →
+      IsPrefix b (order_from n place facts)
   unfolding head_or
   reaches_from n a [] place at e few = (order_from n place facts, refl)
   reaches_from zero a (x ∷ b) place at e few = absurd (omega (arith, few))
   reaches_from (suc n) a (x ∷ b) place at e few =
       let long = length_push a x in
-      go (find (λ f. f.0 == place) facts) refl (reaches_from n (a ++ x ∷ []) b (place + 1) (omega (arith, long, at)) (e ∙ sym (append_assoc a (x ∷ []) b)) (omega (arith, few)))
+      go (find (λ f. f.0 == place) facts) refl
+      (reaches_from n (a ++ x ∷ []) b (place + 1) (omega (arith, long, at)) (e ∙ sym (append_assoc a (x ∷ []) b)) (omega (arith, few)))
     where
       whole : order ≡ a ++ x ∷ (b ++ begins.0)
       whole = sym begins.1 ∙ ap (λ l. l ++ begins.0) e ∙ append_assoc a (x ∷ b) begins.0
@@ -143,8 +157,10 @@ module _ (order : List Entry) (facts : Facts) (stand : (f : ℕ × Entry) → Co
       inside = let n_is = ap length e in let parts = length-append a (x ∷ b) in omega (arith, n_is, parts)
 
       go : (o : Option (ℕ × Entry)) → find (λ f. f.0 == place) facts ≡ o → IsPrefix b (order_from n (place + 1) facts) →
-          IsPrefix (x ∷ b) (elim (option_map (λ (f : ℕ × Entry). f.1) o) as (λ z. List Entry) [ Some i ↦ i ∷ order_from n (place + 1) facts | None ↦ [] ])
-      go None none more = absurd (finds place x facts (subst (λ p. Contains facts (p, x)) (sym at) (all a (b ++ begins.0) x whole inside)) none)
+          IsPrefix (x ∷ b) (elim (option_map (λ (f : ℕ × Entry). f.1) o)
+          as (λ z. List Entry) [ Some i ↦ i ∷ order_from n (place + 1) facts | None ↦ [] ])
+      go None none more =
+          absurd (finds place x facts (subst (λ p. Contains facts (p, x)) (sym at) (all a (b ++ begins.0) x whole inside)) none)
       go (Some f) some more =
           let rest = found_rest order facts stand a (x ∷ (b ++ begins.0)) place at whole f some in
           let first : x ≡ f.1 = ap (head_or x) rest.1 in
@@ -155,7 +171,8 @@ module _ (order : List Entry) (facts : Facts) (stand : (f : ℕ × Entry) → Co
   known_reaches few = reaches_from MAX_POSITION [] done 1 refl refl few
 
 -- each place of what is known was told
-places_from : (facts : Facts) (n place : ℕ) (a c : List Entry) (e : Entry) → order_from n place facts ≡ a ++ e ∷ c → Contains facts (place + length a, e)
+places_from : (facts : Facts) (n place : ℕ) (a c : List Entry) (e : Entry) → order_from n place facts ≡ a ++ e ∷ c →
+    Contains facts (place + length a, e)
 unfolding head_or tail_of
 places_from facts zero place a c e is = absurd (nothing_before a c e is)
   where
@@ -164,7 +181,8 @@ places_from facts zero place a c e is = absurd (nothing_before a c e is)
     nothing_before (z ∷ a) c e is = no_nil z (a ++ e ∷ c) (sym is)
 places_from facts (suc n) place a c e is = go (find (λ f. f.0 == place) facts) refl is (places_from facts n (place + 1))
   where
-    at_place : (f : ℕ × Entry) → find (λ (x : ℕ × Entry). x.0 == place) facts ≡ Some f → (rest b d : List Entry) (x : Entry) → f.1 ∷ rest ≡ b ++ x ∷ d → ((b d : List Entry) (x : Entry) → rest ≡ b ++ x ∷ d → Contains facts (place + 1 + length b, x)) →
+    at_place : (f : ℕ × Entry) → find (λ (x : ℕ × Entry). x.0 == place) facts ≡ Some f → (rest b d : List Entry) (x : Entry) →
+        f.1 ∷ rest ≡ b ++ x ∷ d → ((b d : List Entry) (x : Entry) → rest ≡ b ++ x ∷ d → Contains facts (place + 1 + length b, x)) →
         Contains facts (place + length b, x)
     at_place f some rest [] d x is more =
         let found = found_is (λ (y : ℕ × Entry). y.0 == place) facts f some in
@@ -176,8 +194,10 @@ places_from facts (suc n) place a c e is = go (find (λ f. f.0 == place) facts) 
         let shift : place + 1 + length b ≡ place + length (z ∷ b) = omega arith in
         subst (λ p. Contains facts (p, x)) shift (more b d x (ap tail_of is))
 
-    go : (o : Option (ℕ × Entry)) → find (λ f. f.0 == place) facts ≡ o → elim (option_map (λ (f : ℕ × Entry). f.1) o) as (λ z. List Entry) [ Some i ↦ i ∷ order_from n (place + 1) facts | None ↦ [] ] ≡ a ++ e ∷ c →
-        ((b d : List Entry) (x : Entry) → order_from n (place + 1) facts ≡ b ++ x ∷ d → Contains facts (place + 1 + length b, x)) → Contains facts (place + length a, e)
+    go : (o : Option (ℕ × Entry)) → find (λ f. f.0 == place) facts ≡ o → elim (option_map (λ (f : ℕ × Entry). f.1) o)
+        as (λ z. List Entry) [ Some i ↦ i ∷ order_from n (place + 1) facts | None ↦ [] ] ≡ a ++ e ∷ c →
+        ((b d : List Entry) (x : Entry) → order_from n (place + 1) facts ≡ b ++ x ∷ d → Contains facts (place + 1 + length b, x)) →
+        Contains facts (place + length a, e)
     go None none nil_is more = absurd (empty_not a c e nil_is)
       where
         empty_not : (a c : List Entry) (e : Entry) → [] ≡ a ++ e ∷ c → ⊥
@@ -187,27 +207,38 @@ places_from facts (suc n) place a c e is = go (find (λ f. f.0 == place) facts) 
 
 pub known_places : (facts : Facts) (a c : List Entry) (e : Entry) → known_order facts ≡ a ++ e ∷ c → Contains facts (length a + 1, e)
 unfolding known_order
-known_places facts a c e is = subst (λ p. Contains facts (p, e)) (let same : 1 + length a ≡ length a + 1 = omega arith in same) (places_from facts MAX_POSITION 1 a c e is)
+known_places facts a c e is =
+    subst (λ p. Contains facts (p, e)) (let same : 1 + length a ≡ length a + 1 = omega arith in same)
+    (places_from facts MAX_POSITION 1 a c e is)
 
 -- who has delivered a prefix, and has not delivered something that is known, knows more than it delivered
-pub knows_beyond : (has : Entry → Bool) (done known order : List Entry) (e : Entry) → IsPrefix done order → IsPrefix known order → ((x : Entry) → Contains done x → has x ≡ true) → next_of has known ≡ Some e → length done < length known
+pub knows_beyond : (has : Entry → Bool) (done known order : List Entry) (e : Entry) → IsPrefix done order → IsPrefix known order →
+    ((x : Entry) → Contains done x → has x ≡ true) → next_of has known ≡ Some e → length done < length known
 unfolding some_or
 knows_beyond has done known order e d k listed next = elim (comparable done known order d k) [
   | inl p ↦ beyond p.0 p.1
-  | inr p ↦ absurd (none_some e (sym (none_left known (λ x at. listed x (subst (λ l. Contains l x) p.1 (Contains-append_left known p.0 x at)))) ∙ next))
+  | inr p ↦
+      absurd
+      (none_some e (sym (none_left known (λ x at. listed x (subst (λ l. Contains l x) p.1 (Contains-append_left known p.0 x at)))) ∙ next))
 ]
   where
     none_left : (xs : List Entry) → ((x : Entry) → Contains xs x → has x ≡ true) → next_of has xs ≡ None
     none_left [] all = refl
-    none_left (x ∷ xs) all = ap (λ b. if not b then Some x else next_of has xs) (all x (0, omega arith, refl)) ∙ none_left xs (λ y at. all y (contains_more x xs y at))
+    none_left (x ∷ xs) all =
+        ap (λ b. if not b then Some x else next_of has xs) (all x (0, omega arith, refl))
+        ∙ none_left xs (λ y at. all y (contains_more x xs y at))
 
     beyond : (rest : List Entry) → done ++ rest ≡ known → length done < length known
-    beyond [] is = absurd (none_some e (sym (none_left known (λ x at. listed x (subst (λ l. Contains l x) (sym (sym (append-nil done) ∙ is)) at))) ∙ next))
+    beyond [] is =
+        absurd
+        (none_some e (sym (none_left known (λ x at. listed x (subst (λ l. Contains l x) (sym (sym (append-nil done) ∙ is)) at))) ∙ next))
     beyond (x ∷ rest) is = let whole = ap length is in let parts = length-append done (x ∷ rest) in omega (arith, whole, parts)
 
 -- who delivered a prefix of an order, and delivers what stands next in the part that it knows, delivered one more of it
-pub next_begins : (has : Entry → Bool) (done known order : List Entry) (e : Entry) → Apart order → IsPrefix done order → IsPrefix known order →
-    ((x : Entry) → Contains done x → has x ≡ true) → ((x : Entry) → Contains order x → has x ≡ true → Contains done x) → next_of has known ≡ Some e → IsPrefix (done ++ e ∷ []) order
+pub next_begins : (has : Entry → Bool) (done known order : List Entry) (e : Entry) → Apart order → IsPrefix done order →
+    IsPrefix known order →
+    ((x : Entry) → Contains done x → has x ≡ true) → ((x : Entry) → Contains order x → has x ≡ true → Contains done x) →
+    next_of has known ≡ Some e → IsPrefix (done ++ e ∷ []) order
 unfolding head_or tail_of some_or
 next_begins has done [] order e apart d k listed only next = absurd (none_some e next)
 next_begins has done (x ∷ known) [] e apart d k listed only next = absurd (no_nil x (known ++ k.0) k.1)
@@ -226,7 +257,9 @@ next_begins has (z ∷ done) (x ∷ known) (y ∷ order) e apart d k listed only
     let first : z ≡ y = ap (head_or z) d.1 in
     let same : x ≡ y = ap (head_or x) k.1 in
     let had : has x ≡ true = listed x (0, omega arith, first ∙ sym same) in
-    let more = next_begins has done known order e apart.1 (d.0, ap tail_of d.1) (k.0, ap tail_of k.1) (λ u at. listed u (suc at.0, omega (arith, at.1), at.2))
+    let more =
+    next_begins has done known order e apart.1 (d.0, ap tail_of d.1) (k.0, ap tail_of k.1)
+    (λ u at. listed u (suc at.0, omega (arith, at.1), at.2))
     (λ u at is. older u first at (only u (suc at.0, omega (arith, at.1), at.2) is))
     (sym (ap (λ b. if not b then Some x else next_of has known) had) ∙ next) in
     (more.0, λ i. first i ∷ more.1 i)
@@ -236,7 +269,8 @@ next_begins has (z ∷ done) (x ∷ known) (y ∷ order) e apart d k listed only
     older u first at (suc n, lt, is) = (n, omega (arith, lt), is)
 
 -- a place in a list that is followed by another: in the first, or in the second
-pub place_in : {X : Type 0} (xs ys a c : List X) (e : X) → xs ++ ys ≡ a ++ e ∷ c → ((d : List X) × (xs ≡ a ++ e ∷ d)) ⊎ ((b : List X) × (a ≡ xs ++ b) × (ys ≡ b ++ e ∷ c))
+pub place_in : {X : Type 0} (xs ys a c : List X) (e : X) → xs ++ ys ≡ a ++ e ∷ c →
+    ((d : List X) × (xs ≡ a ++ e ∷ d)) ⊎ ((b : List X) × (a ≡ xs ++ b) × (ys ≡ b ++ e ∷ c))
 unfolding head_or tail_of
 place_in [] ys a c e is = inr (a, refl, is)
 place_in (x ∷ xs) ys [] c e is = let first : x ≡ e = ap (head_or x) is in inl (xs, λ i. first i ∷ xs)
@@ -252,13 +286,15 @@ stands_grown order next f p (a, c, e, at) = (a, c ++ p.0, sym p.1 ∙ ap (λ l. 
 
 -- Facts that a message tells
 
-told_from : (a ids c : List Entry) (place : ℕ) → place ≡ length a + 1 → (f : ℕ × Entry) → Contains (enumerate_from place ids) f → Stands (a ++ (ids ++ c)) f
+told_from : (a ids c : List Entry) (place : ℕ) → place ≡ length a + 1 → (f : ℕ × Entry) → Contains (enumerate_from place ids) f →
+    Stands (a ++ (ids ++ c)) f
 told_from a [] c place at f (n, lt, is) = absurd (omega (arith, lt))
 told_from a (e ∷ ids) c place at f (zero, lt, is) =
     (a, ids ++ c, ap (λ (x : ℕ × Entry). a ++ x.1 ∷ (ids ++ c)) is, ap (λ (x : ℕ × Entry). x.0) (sym is) ∙ at)
 told_from a (e ∷ ids) c place at f (suc n, lt, is) =
     let long = length_push a e in
-    subst (λ l. Stands l f) (append_assoc a (e ∷ []) (ids ++ c)) (told_from (a ++ e ∷ []) ids c (place + 1) (omega (arith, long, at)) f (n, omega (arith, lt), is))
+    subst (λ l. Stands l f) (append_assoc a (e ∷ []) (ids ++ c))
+    (told_from (a ++ e ∷ []) ids c (place + 1) (omega (arith, long, at)) f (n, omega (arith, lt), is))
 
 -- what is told one past an order stands in the order with it
 pub told_stand : (order ids : List Entry) (f : ℕ × Entry) → Contains (enumerate_from (length order + 1) ids) f → Stands (order ++ ids) f
@@ -276,7 +312,8 @@ told_at (x ∷ a) c e place = contains_more (place, x) (enumerate_from (place + 
     same : place + 1 + length a ≡ place + length (x ∷ a)
     same = omega arith
 
-pub in_flat : {X Y : Type 0} (g : X → List Y) (xs : List X) (y : Y) → Contains (flat_map g xs) y → (x : X) × Contains xs x × Contains (g x) y
+pub in_flat : {X Y : Type 0} (g : X → List Y) (xs : List X) (y : Y) → Contains (flat_map g xs) y →
+    (x : X) × Contains xs x × Contains (g x) y
 in_flat g [] y at = absurd (omega (arith, at.1))
 in_flat g (x ∷ xs) y at = elim (Contains-append_cases (g x) (flat_map g xs) y at) [
   | inl here ↦ (x, (0, omega arith, refl), here)
@@ -286,7 +323,8 @@ in_flat g (x ∷ xs) y at = elim (Contains-append_cases (g x) (flat_map g xs) y 
 pub flat_has : {X Y : Type 0} (g : X → List Y) (xs : List X) (x : X) (y : Y) → Contains xs x → Contains (g x) y → Contains (flat_map g xs) y
 flat_has g [] x y at there = absurd (omega (arith, at.1))
 flat_has g (z ∷ xs) x y (zero, lt, is) there = Contains-append_left (g z) (flat_map g xs) y (subst (λ w. Contains (g w) y) (sym is) there)
-flat_has g (z ∷ xs) x y (suc n, lt, is) there = Contains-append_right (g z) (flat_map g xs) y (flat_has g xs x y (n, omega (arith, lt), is) there)
+flat_has g (z ∷ xs) x y (suc n, lt, is) there =
+    Contains-append_right (g z) (flat_map g xs) y (flat_has g xs x y (n, omega (arith, lt), is) there)
 
 -- Lists in which nothing stands twice
 

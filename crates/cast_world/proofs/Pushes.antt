@@ -19,7 +19,8 @@ use Rattle.cast_events.specs.declared.event.Taken.{Taken}
 use Rattle.cast_types.specs.Names.{site_eq}
 use Rattle.cast_types.specs.declared.names.SiteNo.{SiteNo}
 use Rattle.cast_world.proofs.Acts.{contains_here}
-use Rattle.cast_world.proofs.Entries.{GoesOn, agrees_later, delivery_sends_none, delivery_goes_on, part_goes_on, part_sends_none, passing_goes_on, passing_sends_none, sending_goes_on}
+use Rattle.cast_world.proofs.Entries.{GoesOn, agrees_later, delivery_sends_none, delivery_goes_on, part_goes_on}
+use Rattle.cast_world.proofs.Entries.{part_sends_none, passing_goes_on, passing_sends_none, sending_goes_on}
 use Rattle.cast_world.proofs.Events.{Any, any_came, event_keeps_fully, rests_keeps_fully, sets_any}
 use Rattle.cast_world.proofs.Kept.{FullyKept, FullyKeptByTelling}
 use Rattle.cast_world.proofs.Laters.{set_all}
@@ -38,7 +39,8 @@ abbrev pub Told : State → Type 0
 Told s = ToldParts s.acts s.pushes s.got
 
 -- processes did more, and sent nothing
-goes_on_told : (t u : State) → Told t → GoesOn t u → ((k : ℕ) (m : Message) → Contains (u.acts k) (Sent m) → Contains (t.acts k) (Sent m)) → ToldParts u.acts t.pushes t.got
+goes_on_told : (t u : State) → Told t → GoesOn t u → ((k : ℕ) (m : Message) → Contains (u.acts k) (Sent m) → Contains (t.acts k) (Sent m)) →
+    ToldParts u.acts t.pushes t.got
 goes_on_told t u x goes none = record {
   agree = λ k p at. agrees_later (t.acts k) (u.acts k) (goes k) p (x.agree k p at);
   received = λ k m at. x.received k m (none k m at);
@@ -81,7 +83,11 @@ module _ (s : State) where
     pays = λ t test x. x;
     releases = λ t lets x. x;
     sets_session = λ t k v x same. x;
-    parts = λ t k g x. (x.0, x.1, goes_on_told t (outside t k g) x.2 (part_goes_on t t k g (λ j. ([], append-nil (t.acts j)))) (part_sends_none t k g));
+    parts = λ t k g x. (
+      x.0,
+      x.1,
+      goes_on_told t (outside t k g) x.2 (part_goes_on t t k g (λ j. ([], append-nil (t.acts j)))) (part_sends_none t k g),
+    );
     requests = λ t g what p x. x;
   }
 
@@ -96,23 +102,34 @@ module _ (s : State) where
     answers = λ t g x. x;
     joins = λ t k g x open_it known out. x;
     sends = λ t g k content x member may room open_it. (x.0, x.1, sent_told t k (next_message t g k content) x.2);
-    receives = λ t from m x came view member may new. (x.0, x.1, record { agree = x.2.agree; received = λ k y at. Contains-append_left t.got (m ∷ []) y (x.2.received k y at) });
+    receives = λ t from m x came view member may new. (
+      x.0,
+      x.1,
+      record { agree = x.2.agree; received = λ k y at. Contains-append_left t.got (m ∷ []) y (x.2.received k y at) },
+    );
     received = λ t u x. x;
     acknowledged = λ t from u x came. x;
     learns = λ t from u x came. x;
     delivers = λ t k m x c ready. (x.0, x.1, goes_on_told t (with_delivery t k m) x.2 (delivery_goes_on t k m) (delivery_sends_none t k m));
     freezes = λ t g x current. x;
     pends = λ t from g p tail x came current waits known. x;
-    passes = λ t g skipped n members request cut x comes.
-        (x.0, x.1, goes_on_told t (passing t g skipped n members request cut) x.2 (passing_goes_on t g skipped n members request cut) (passing_sends_none t g skipped n members request cut));
+    passes = λ t g skipped n members request cut x comes. (
+      x.0,
+      x.1,
+      goes_on_told t (passing t g skipped n members request cut) x.2 (passing_goes_on t g skipped n members request cut)
+          (passing_sends_none t g skipped n members request cut),
+    );
     ends = λ t g x. x;
     homes = λ t g what x may. x;
   }
 
   step_told : (e : Event) (answer : Taken) (t : State) → IsStep s e answer t → Told s → Told t
-  step_told e answer t is x = (rests_keeps_fully ToldFrom (λ g. ToldFrom) (λ u. ToldFrom) Any (is_home history s) kept_told (after_event s e) t is.rests
-      (event_keeps_fully ToldFrom (λ g. ToldFrom) (λ u. ToldFrom) Any (is_home history s) kept_told s e (refl, refl, record { agree = λ k p at. absurd (omega (arith, at.1)); received = x.received }) (any_came e)
-      (sets_any ToldFrom (λ u quotas y. y) (before_event s) e (refl, refl, record { agree = λ k p at. absurd (omega (arith, at.1)); received = x.received })))).2
+  step_told e answer t is x =
+      (rests_keeps_fully ToldFrom (λ g. ToldFrom) (λ u. ToldFrom) Any (is_home history s) kept_told (after_event s e) t is.rests
+      (event_keeps_fully ToldFrom (λ g. ToldFrom) (λ u. ToldFrom) Any (is_home history s)
+      kept_told s e (refl, refl, record { agree = λ k p at. absurd (omega (arith, at.1)); received = x.received }) (any_came e)
+      (sets_any ToldFrom (λ u quotas y. y) (before_event s)
+      e (refl, refl, record { agree = λ k p at. absurd (omega (arith, at.1)); received = x.received })))).2
 
 -- Every run
 
@@ -128,14 +145,18 @@ moves_told w v step happens all = go (event_of w step) happens
 
     go : (o : Option Event) → Becomes w step.site o v → EachTold v
     go None same = subst EachTold (sym same) all
-    go (Some made) (answer, t, is, same) = subst EachTold (sym same) (λ s. after_it t (step_told (w.at step.site) made answer t is (all step.site)) s (site_eq step.site s))
+    go (Some made) (answer, t, is, same) =
+        subst EachTold (sym same) (λ s. after_it t (step_told (w.at step.site) made answer t is (all step.site)) s (site_eq step.site s))
 
 leads_told : (steps : List Step) (w v : Network) → Leads w steps v → EachTold w → EachTold v
 leads_told [] w v same all = subst EachTold (sym same) all
 leads_told (step ∷ steps) w v (u, one, more) all = leads_told steps u v more (moves_told w u step one all)
 
-pub told_in_every : (sites : List SiteNo) (config : SiteNo → DomainConfig) (steps : List Step) (w : Network) → Leads (start sites config) steps w → EachTold w
-told_in_every sites config steps w leads = leads_told steps (start sites config) w leads (λ s. record { agree = λ k p at. absurd (omega (arith, at.1)); received = λ k m at. absurd (omega (arith, at.1)) })
+pub told_in_every : (sites : List SiteNo) (config : SiteNo → DomainConfig) (steps : List Step) (w : Network) →
+    Leads (start sites config) steps w → EachTold w
+told_in_every sites config steps w leads =
+    leads_told steps (start sites config)
+    w leads (λ s. record { agree = λ k p at. absurd (omega (arith, at.1)); received = λ k m at. absurd (omega (arith, at.1)) })
 
 pub pushes_are_acts : AllPushesAreActs
 pushes_are_acts sites config steps w r s = (told_in_every sites config steps w r.leads s).agree

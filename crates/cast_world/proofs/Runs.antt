@@ -2,7 +2,8 @@
 use Rattle.std.proofs.Common.{ap, arith, inl, inr, subst, sym}
 use Rattle.std.proofs.lemmas.Bool.{and_parts, false≢true, true≢false}
 use Rattle.std.proofs.lemmas.List.Elements.{Contains-append_cases}
-use Rattle.std.specs.Prelude.{◌&&◌, Bool, Contains, List, None, Option, Some, [], false, if◌then◌else◌, is_some, map, refl, slice_get, suc, true, unwrap_or, zero, ℕ, ◌∷◌, ◌≡◌}
+use Rattle.std.specs.Prelude.{◌&&◌, Bool, Contains, List, None, Option, Some, [], false, if◌then◌else◌}
+use Rattle.std.specs.Prelude.{is_some, map, refl, slice_get, suc, true, unwrap_or, zero, ℕ, ◌∷◌, ◌≡◌}
 use Rattle.cast_rules.specs.Run.{IsStep, after_event, before_event}
 use Rattle.cast_rules.specs.State.{State, no_process}
 use Rattle.cast_message.specs.declared.site.SiteFrame.{SiteFrame}
@@ -26,7 +27,8 @@ use Rattle.cast_world.proofs.Ones.{outside_not_member}
 use Rattle.cast_world.proofs.Steps.{AllHold, Arrived, Now, kept_now, own_holds, same_site, sites_at}
 use Rattle.cast_world.specs.HappenedBefore.{acts_of}
 use Rattle.cast_world.specs.Laws.{CausalDelivery}
-use Rattle.cast_world.specs.Network.{Becomes, Happens, Leads, Network, Reaches, event_at, event_of, hand_frame, is_local, move_site, names, start}
+use Rattle.cast_world.specs.Network.{Becomes, Happens, Leads, Network, Reaches, event_at}
+use Rattle.cast_world.specs.Network.{event_of, hand_frame, is_local, move_site, names, start}
 use Rattle.cast_world.specs.declared.step.Happening.{Happening}
 use Rattle.cast_world.specs.declared.step.Packet.{Packet}
 use Rattle.cast_world.specs.declared.step.Step.{Step}
@@ -62,7 +64,10 @@ module _ (home : SiteNo) (w : Network) (h : AllHold home w) (a : SiteNo) where
       go false e = later_same (w.at s)
 
   pub first : Now home w a t0
-  first = ((λ s. go s (site_eq a s) refl), λ p c. sound_later w.at (sites_at home w a t0) home ahead_first p.from p.to p.frame (h.packets p c))
+  first = (
+    (λ s. go s (site_eq a s) refl),
+    λ p c. sound_later w.at (sites_at home w a t0) home ahead_first p.from p.to p.frame (h.packets p c),
+  )
     where
       here : SiteHolds (sites_at home w a t0) home a t0
       here =
@@ -86,12 +91,14 @@ module _ (home : SiteNo) (w : Network) (h : AllHold home w) (a : SiteNo) where
   pub last : (t : State) → Now home w a t → AllHold home (move_site w a t)
   last t now = record {
     sites = now.0;
-    packets = λ p c. elim (Contains-append_cases w.sent (map (λ (f : SiteNo × SiteFrame). record { from = a; to = f.0; frame = f.1 }) t.frames) p c) [
-      | inl old ↦ now.1 p old
-      | inr new ↦
-          let from = from_mapped (λ (f : SiteNo × SiteFrame). record { from = a; to = f.0; frame = f.1 }) t.frames p new in
-          subst (λ (q : Packet). IsSound (sites_at home w a t) home q.from q.to q.frame) from.2 ((own_holds home w a t now).sent from.0.0 from.0.1 from.1)
-    ];
+    packets = λ p c.
+        elim (Contains-append_cases w.sent (map (λ (f : SiteNo × SiteFrame). record { from = a; to = f.0; frame = f.1 }) t.frames) p c) [
+          | inl old ↦ now.1 p old
+          | inr new ↦
+              let from = from_mapped (λ (f : SiteNo × SiteFrame). record { from = a; to = f.0; frame = f.1 }) t.frames p new in
+              subst (λ (q : Packet). IsSound (sites_at home w a t) home q.from q.to q.frame)
+              from.2 ((own_holds home w a t now).sent from.0.0 from.0.1 from.1)
+        ];
   }
 
   abbrev Arrives : Event → Type 0
@@ -107,7 +114,8 @@ module _ (home : SiteNo) (w : Network) (h : AllHold home w) (a : SiteNo) where
   local_arrives (event.Take d n most) is = tt
   local_arrives (event.Tick t) is = tt
 
-  handed_arrives : (d : DomainNo) (o : Option Packet) → ((p : Packet) → o ≡ Some p → Contains w.sent p) → (made : Event) → hand_frame d a o ≡ Some made → Arrives made
+  handed_arrives : (d : DomainNo) (o : Option Packet) → ((p : Packet) → o ≡ Some p → Contains w.sent p) → (made : Event) →
+      hand_frame d a o ≡ Some made → Arrives made
   handed_arrives d None has made is = absurd (false≢true (ap is_some is))
   handed_arrives d (Some p) has made is = go (site_eq p.to a) refl is
     where
@@ -125,10 +133,12 @@ module _ (home : SiteNo) (w : Network) (h : AllHold home w) (a : SiteNo) where
   event_arrives (happen.Sent k) made is = handed_arrives (w.at a).config.domain (slice_get w.sent k) (λ p e. got_there w.sent k p e) made is
 
   after_step : (e : Event) (t : State) (answer : Taken) → Arrives e → IsStep (w.at a) e answer t → AllHold home (move_site w a t)
-  after_step e t answer comes is = last t (rests_keeps (Now home w a) (Arrived home w a) (site_eq a home) (kept_now home w a) (after_event (w.at a) e) t is.rests
+  after_step e t answer comes is =
+      last t (rests_keeps (Now home w a) (Arrived home w a) (site_eq a home) (kept_now home w a) (after_event (w.at a) e) t is.rests
       (after_event_keeps (Now home w a) (Arrived home w a) (site_eq a home) (kept_now home w a) (w.at a) e first comes))
 
-pub step_arrives : (home : SiteNo) (w : Network) (h : AllHold home w) (step : Step) (made : Event) → event_of w step ≡ Some made → HasCome (Arrived home w step.site) made
+pub step_arrives : (home : SiteNo) (w : Network) (h : AllHold home w) (step : Step) (made : Event) → event_of w step ≡ Some made →
+    HasCome (Arrived home w step.site) made
 step_arrives home w h step made is = go (is_among site_eq step.site w.sites) is
   where
     go : (b : Bool) → (if b then event_at w step.site step.what else None) ≡ Some made → HasCome (Arrived home w step.site) made
@@ -140,7 +150,8 @@ step_holds home w v step happens h = go (event_of w step) refl happens
   where
     go : (o : Option Event) → event_of w step ≡ o → Becomes w step.site o v → AllHold home v
     go None e same = subst (AllHold home) (sym same) h
-    go (Some made) e (answer, t, is, same) = subst (AllHold home) (sym same) (after_step home w h step.site made t answer (step_arrives home w h step made e) is)
+    go (Some made) e (answer, t, is, same) =
+        subst (AllHold home) (sym same) (after_step home w h step.site made t answer (step_arrives home w h step made e) is)
 
 pub leads_holds : (home : SiteNo) (steps : List Step) (w v : Network) → Leads w steps v → AllHold home w → AllHold home v
 leads_holds home [] w v same h = subst (AllHold home) (sym same) h
@@ -179,8 +190,17 @@ module _ (sites : List SiteNo) (config : SiteNo → DomainConfig) (home : SiteNo
       home_is = same s;
       opened = λ k e. absurd (false≢true e);
       ones = nobody s;
-      groups = λ g. record { number = omega arith; pending = λ p e. absurd (false≢true (ap is_some e)); requests = λ a c. absurd (nothing a c) };
-      homes = λ g. record { number = omega arith; applied = λ to. omega arith; installs = λ w d b e. absurd (idle_not w d b e); bodies = λ m c. absurd (nothing m c) };
+      groups = λ g. record {
+        number = omega arith;
+        pending = λ p e. absurd (false≢true (ap is_some e));
+        requests = λ a c. absurd (nothing a c);
+      };
+      homes = λ g. record {
+        number = omega arith;
+        applied = λ to. omega arith;
+        installs = λ w d b e. absurd (idle_not w d b e);
+        bodies = λ m c. absurd (nothing m c);
+      };
       received = λ m c. absurd (nothing m c);
       stored = λ m c. absurd (nothing m c);
       sent = λ to f c. absurd (nothing (to, f) c);
@@ -192,11 +212,14 @@ module _ (sites : List SiteNo) (config : SiteNo → DomainConfig) (home : SiteNo
 
 pub facts : (home : SiteNo) (w : Network) → AllHold home w → Facts w
 facts home w h = record {
-  each = λ p. let x = h.sites p.site in subst (λ z. Each (ActWell record { site = z; serial = p.serial }) (acts_of w p)) x.here_is (x.ones p.serial).fits.each;
+  each = λ p.
+      let x = h.sites p.site in
+      subst (λ z. Each (ActWell record { site = z; serial = p.serial }) (acts_of w p)) x.here_is (x.ones p.serial).fits.each;
   was_sent = λ p m c. let x = h.sites p.site in (x.ones p.serial).done m c;
 }
 
-pub holds_in_every : (sites : List SiteNo) (config : SiteNo → DomainConfig) (steps : List Step) (w : Network) → Reaches sites config steps w → AllHold (config record { 0 = 0 }).home w
+pub holds_in_every : (sites : List SiteNo) (config : SiteNo → DomainConfig) (steps : List Step) (w : Network) →
+    Reaches sites config steps w → AllHold (config record { 0 = 0 }).home w
 holds_in_every sites config steps w r =
     let home : SiteNo = (config record { 0 = 0 }).home in
     leads_holds home steps (start sites config) w r.leads (start_holds sites config home (λ s. r.home s record { 0 = 0 }))

@@ -46,7 +46,8 @@ pub record OneSeen (time : ClockList) (standing : GroupNo → Standing) (acts : 
   pub reached : (g : GroupNo) (v : ℕ) (cut : CountList) → Contains acts (Entered g v cut) → v ≤ view_of time g
   pub seen : Each SeenWell acts
 
-is_in_more : (acts : List Act) (y : Act) (g : GroupNo) (v : ℕ) → (y ≡ Left g → ⊥) → ((n : ℕ) (cut : CountList) → y ≡ Entered g n cut → ⊥) → IsIn acts g v → IsIn (acts ++ y ∷ []) g v
+is_in_more : (acts : List Act) (y : Act) (g : GroupNo) (v : ℕ) → (y ≡ Left g → ⊥) → ((n : ℕ) (cut : CountList) → y ≡ Entered g n cut → ⊥) →
+    IsIn acts g v → IsIn (acts ++ y ∷ []) g v
 is_in_more acts y g v stays never i = (
   i.0,
   i.1 ++ y ∷ [],
@@ -70,14 +71,16 @@ group_or d (Left g) = g
 
 in_sent : (acts : List Act) (m : Message) (g : GroupNo) (v : ℕ) → IsIn acts g v → IsIn (acts ++ Sent m ∷ []) g v
 unfolding sort_of
-in_sent acts m g v i = is_in_more acts (Sent m) g v (λ e. differ 3 (omega arith) (ap sort_of e)) (λ n cut e. differ 2 (omega arith) (ap sort_of e)) i
+in_sent acts m g v i =
+    is_in_more acts (Sent m) g v (λ e. differ 3 (omega arith) (ap sort_of e)) (λ n cut e. differ 2 (omega arith) (ap sort_of e)) i
   where
     differ : (n : ℕ) → 0 < n → ◌≡◌ {A = ℕ} 0 n → ⊥
     differ n lt e = omega (arith, lt, e)
 
 in_delivered : (acts : List Act) (m : Message) (g : GroupNo) (v : ℕ) → IsIn acts g v → IsIn (acts ++ Delivered m ∷ []) g v
 unfolding sort_of
-in_delivered acts m g v i = is_in_more acts (Delivered m) g v (λ e. differ 3 (omega arith) (ap sort_of e)) (λ n cut e. differ 2 (omega arith) (ap sort_of e)) i
+in_delivered acts m g v i =
+    is_in_more acts (Delivered m) g v (λ e. differ 3 (omega arith) (ap sort_of e)) (λ n cut e. differ 2 (omega arith) (ap sort_of e)) i
   where
     differ : (n : ℕ) → 1 < n → ◌≡◌ {A = ℕ} 1 n → ⊥
     differ n lt e = omega (arith, lt, e)
@@ -89,9 +92,11 @@ in_left acts h g v apart i = is_in_more acts (Left h) g v (λ e. apart (ap (grou
     differ : ◌≡◌ {A = ℕ} 3 2 → ⊥
     differ e = omega (arith, e)
 
-in_entered : (acts : List Act) (h : GroupNo) (n : ℕ) (c : CountList) (g : GroupNo) (v : ℕ) → (h ≡ g → ⊥) → IsIn acts g v → IsIn (acts ++ Entered h n c ∷ []) g v
+in_entered : (acts : List Act) (h : GroupNo) (n : ℕ) (c : CountList) (g : GroupNo) (v : ℕ) → (h ≡ g → ⊥) → IsIn acts g v →
+    IsIn (acts ++ Entered h n c ∷ []) g v
 unfolding sort_of
-in_entered acts h n c g v apart i = is_in_more acts (Entered h n c) g v (λ e. differ (ap sort_of e)) (λ k cut e. apart (entered_same h g n k c cut e).0) i
+in_entered acts h n c g v apart i =
+    is_in_more acts (Entered h n c) g v (λ e. differ (ap sort_of e)) (λ k cut e. apart (entered_same h g n k c cut e).0) i
   where
     differ : ◌≡◌ {A = ℕ} 2 3 → ⊥
     differ e = omega (arith, e)
@@ -111,7 +116,11 @@ module _ (p : Process) (acts : List Act) (o : OneSeen p.time p.standing acts) wh
   seen_apart g = record { inside = λ h is. o.inside h (stands (p.standing h) (group_eq g h) is); reached = o.reached; seen = o.seen }
 
   seen_asks : (g : GroupNo) (number heard : ℕ) → OneSeen p.time (set_at group_eq p.standing g (Joining number heard)) acts
-  seen_asks g number heard = record { inside = λ h is. o.inside h (asks (p.standing h) (group_eq g h) number heard is); reached = o.reached; seen = o.seen }
+  seen_asks g number heard = record {
+    inside = λ h is. o.inside h (asks (p.standing h) (group_eq g h) number heard is);
+    reached = o.reached;
+    seen = o.seen;
+  }
 
   seen_sent : (m : Message) → ((h : GroupNo) → view_of m.times h ≡ view_of p.time h) → OneSeen m.times p.standing (acts ++ Sent m ∷ [])
   seen_sent m same = record {
@@ -120,10 +129,12 @@ module _ (p : Process) (acts : List Act) (o : OneSeen p.time p.standing acts) wh
     seen = each_more SeenWell acts (Sent m) o.seen tt;
   }
 
-  seen_delivers : (m : Message) → ((h : GroupNo) → p.standing h ≡ Member → view_of (join p.time m.times) h ≡ view_of p.time h) → p.standing m.id.group ≡ Member → view_of p.time m.id.group ≡ m.id.view →
+  seen_delivers : (m : Message) → ((h : GroupNo) → p.standing h ≡ Member → view_of (join p.time m.times) h ≡ view_of p.time h) →
+      p.standing m.id.group ≡ Member → view_of p.time m.id.group ≡ m.id.view →
       OneSeen (join p.time m.times) p.standing (acts ++ Delivered m ∷ [])
   seen_delivers m same member view = record {
-    inside = λ h is. subst (λ v. IsIn (acts ++ Delivered m ∷ []) h v) (sym (same h is)) (in_delivered acts m h (view_of p.time h) (o.inside h is));
+    inside = λ h is.
+        subst (λ v. IsIn (acts ++ Delivered m ∷ []) h v) (sym (same h is)) (in_delivered acts m h (view_of p.time h) (o.inside h is));
     reached = λ h v cut at.
         let was = o.reached h v cut (entry_delivered acts m h v cut at) in
         let up = below_view p.time (join p.time m.times) (below_join p.time m.times) h in
@@ -131,19 +142,25 @@ module _ (p : Process) (acts : List Act) (o : OneSeen p.time p.standing acts) wh
     seen = each_more SeenWell acts (Delivered m) o.seen (subst (λ v. IsIn acts m.id.group v) view (o.inside m.id.group member));
   }
 
-  seen_enters : (g : GroupNo) (n : ℕ) (cut : CountList) → view_of p.time g < n → OneSeen (entering p.time g n) (in_view g n p).standing (acts ++ Entered g n cut ∷ [])
+  seen_enters : (g : GroupNo) (n : ℕ) (cut : CountList) → view_of p.time g < n →
+      OneSeen (entering p.time g n) (in_view g n p).standing (acts ++ Entered g n cut ∷ [])
   seen_enters g n cut above = record {
     inside = λ h is. elim (cases_group g h) [
       | inl here ↦ subst (λ x. IsIn (acts ++ Entered g n cut ∷ []) x (view_of (entering p.time g n) x)) here
-          (subst (λ v. IsIn (acts ++ Entered g n cut ∷ []) g v) (sym (entered_view p.time g n)) (acts, [], cut, refl, (λ at. omega (arith, at.1)), (λ k c at. omega (arith, at.1))))
+          (subst (λ v. IsIn (acts ++ Entered g n cut ∷ []) g v) (sym (entered_view p.time g n))
+          (acts, [], cut, refl, (λ at. omega (arith, at.1)), (λ k c at. omega (arith, at.1))))
       | inr apart ↦ subst (λ v. IsIn (acts ++ Entered g n cut ∷ []) h v) (sym (other_view p.time g n h apart))
           (in_entered acts g n cut h (view_of p.time h) apart (o.inside h (sym (set_other p.standing g Member h apart) ∙ is)))
     ];
     reached = λ h v c at. elim (cases_group g h) [
-      | inl here ↦ subst (λ x. v ≤ view_of (entering p.time g n) x) here (let top = entered_view p.time g n in elim (Contains-push_cases acts (Entered g n cut) (Entered h v c) at) [
-        | inl old ↦ (let was : v ≤ view_of p.time g = subst (λ x. v ≤ view_of p.time x) (sym here) (o.reached h v c old) in omega (arith, was, top, above))
-        | inr new ↦ (let same = (entered_same g h n v cut c new).1 in omega (arith, same, top))
-      ])
+      | inl here ↦
+          subst (λ x. v ≤ view_of (entering p.time g n) x)
+          here (let top = entered_view p.time g n in elim (Contains-push_cases acts (Entered g n cut) (Entered h v c) at) [
+            | inl old ↦
+                (let was : v ≤ view_of p.time g = subst (λ x. v ≤ view_of p.time x) (sym here) (o.reached h v c old) in
+                omega (arith, was, top, above))
+            | inr new ↦ (let same = (entered_same g h n v cut c new).1 in omega (arith, same, top))
+          ])
       | inr apart ↦ (let same = other_view p.time g n h apart in elim (Contains-push_cases acts (Entered g n cut) (Entered h v c) at) [
         | inl old ↦ (let was = o.reached h v c old in omega (arith, was, same))
         | inr new ↦ absurd (apart (entered_same g h n v cut c new).0)
@@ -159,16 +176,19 @@ OneSees p acts = OneSeen p.time p.standing acts
 abbrev pub AllSeen : State → Type 0
 AllSeen t = (k : ℕ) → OneSees (t.process k) (t.acts k)
 
-changed : (t : State) → AllSeen t → (k : ℕ) (p : Process) (acts : List Act) → OneSees p acts → (j : ℕ) → OneSees (set_at (λ a b. a == b) t.process k p j) (set_at (λ a b. a == b) t.acts k acts j)
+changed : (t : State) → AllSeen t → (k : ℕ) (p : Process) (acts : List Act) → OneSees p acts → (j : ℕ) →
+    OneSees (set_at (λ a b. a == b) t.process k p j) (set_at (λ a b. a == b) t.acts k acts j)
 changed t all k p acts new = set_both (λ j q x. OneSees q x) t.process t.acts k p acts all new
 
-stood : (t : State) → AllSeen t → (k : ℕ) (p : Process) → OneSees p (t.acts k) → (j : ℕ) → OneSees (set_at (λ a b. a == b) t.process k p j) (t.acts j)
+stood : (t : State) → AllSeen t → (k : ℕ) (p : Process) → OneSees p (t.acts k) → (j : ℕ) →
+    OneSees (set_at (λ a b. a == b) t.process k p j) (t.acts j)
 stood t all k p new = set_all (λ j q. OneSees q (t.acts j)) t.process k p all new
 
 part_seen : (t : State) (k : ℕ) (g : GroupNo) → AllSeen t → AllSeen (outside t k g)
 part_seen t k g all = go (is_member ((t.process k).standing g))
   where
-    go : (b : Bool) (j : ℕ) → OneSees (set_at (λ a c. a == c) t.process k (put_outside g (t.process k)) j) ((if b then (noting_act t k (Left g)).acts else t.acts) j)
+    go : (b : Bool) (j : ℕ) → OneSees (set_at (λ a c. a == c) t.process k (put_outside g (t.process k)) j)
+        ((if b then (noting_act t k (Left g)).acts else t.acts) j)
     go true = changed t all k (put_outside g (t.process k)) (t.acts k ++ Left g ∷ []) (seen_left (t.process k) (t.acts k) (all k) g)
     go false = stood t all k (put_outside g (t.process k)) (seen_apart (t.process k) (t.acts k) (all k) g)
 
@@ -183,7 +203,8 @@ completing_seen : (t : State) → AllSeen t → (g : GroupNo) (n : ℕ) (members
     ((k : ℕ) → enters t g members request k ≡ true → view_of (t.process k).time g < n) → AllSeen (completing t g n members request cut)
 completing_seen t all g n members request cut above k = go (enters t g members request k) refl
   where
-    go : (b : Bool) → enters t g members request k ≡ b → OneSees (if b then in_view g n (t.process k) else t.process k) (if b then t.acts k ++ Entered g n cut ∷ [] else t.acts k)
+    go : (b : Bool) → enters t g members request k ≡ b →
+        OneSees (if b then in_view g n (t.process k) else t.process k) (if b then t.acts k ++ Entered g n cut ∷ [] else t.acts k)
     go true e = seen_enters (t.process k) (t.acts k) (all k) g n cut (above k e)
     go false e = all k
 
@@ -195,16 +216,21 @@ module _ (home : SiteNo) (w : Network) (a : SiteNo) where
   k = kept_now home w a
 
   delivers_seen : (t : State) (n : ℕ) (m : Message) → SeenNow t → is_ready_for t n m ≡ true → Contains t.got m →
-      OneSees (record (t.process n) { time = join (t.process n).time m.times; delivered = (t.process n).delivered ++ m.id ∷ [] }) (t.acts n ++ Delivered m ∷ [])
+      OneSees (record (t.process n) { time = join (t.process n).time m.times; delivered = (t.process n).delivered ++ m.id ∷ [] })
+      (t.acts n ++ Delivered m ∷ [])
   delivers_seen t n m i ready c =
       let x = own_holds home w a t i.0 in
       let one = x.ones n in
-      let allowed = ready_allowed t.config.groups (gate_of t) (turn_of t n) (t.process n) m (λ g is. (one.given g is).2) (λ g is. (one.member g is).0) ready in
+      let allowed =
+      ready_allowed t.config.groups (gate_of t) (turn_of t n) (t.process n) m (λ g is. (one.given g is).2)
+      (λ g is. (one.member g is).0) ready in
       let parts = and_parts (is_member ((t.process n).standing m.id.group)) _ (and_parts _ _ ready).0 in
       let member = member_is _ parts.0 in
-      let view : m.id.view ≡ (t.group m.id.group).number = eqb-true _ _ (and_parts (m.id.view == (t.group m.id.group).number) _ parts.1).0 in
+      let view : m.id.view ≡ (t.group m.id.group).number =
+      eqb-true _ _ (and_parts (m.id.view == (t.group m.id.group).number) _ parts.1).0 in
       seen_delivers (t.process n) (t.acts n) (i.1 n) m
-      (λ h is. joined_view (sites_at home w a t) home t.here t.used t.config.groups t.group n (t.process n) (t.acts n) one m (x.received m c) allowed h is)
+      (λ h is. joined_view (sites_at home w a t) home t.here t.used t.config.groups t.group n (t.process n) (t.acts n)
+      one m (x.received m c) allowed h is)
       member (sym (view ∙ (one.member m.id.group member).0))
 
   pub kept_seen : Kept SeenNow (Arrived home w a) (site_eq a home)
@@ -222,18 +248,23 @@ module _ (home : SiteNo) (w : Network) (a : SiteNo) where
     answers = λ t g i. (k.answers t g i.0, i.1);
     joins = λ t n g i open_it known out. (
       k.joins t n g i.0 open_it known out,
-      stood t i.1 n (record (t.process n) { standing = set_at group_eq (t.process n).standing g (Joining ((t.group g).asked + 1) (view_of (t.process n).time g)) })
+      stood t i.1 n (record (t.process n) {
+        standing = set_at group_eq (t.process n).standing g
+            (Joining ((t.group g).asked + 1) (view_of (t.process n).time g));
+      })
           (seen_asks (t.process n) (t.acts n) (i.1 n) g ((t.group g).asked + 1) (view_of (t.process n).time g)),
     );
     sends = λ t g n content i member may. (
       k.sends t g n content i.0 member may,
-      changed t i.1 n (record (t.process n) { time = (next_message t g n content).times }) (t.acts n ++ Sent (next_message t g n content) ∷ [])
+      changed t i.1 n (record (t.process n) { time = (next_message t g n content).times })
+          (t.acts n ++ Sent (next_message t g n content) ∷ [])
           (seen_sent (t.process n) (t.acts n) (i.1 n) (next_message t g n content) (λ h. bumped_view (t.process n).time g (local t n) h)),
     );
     receives = λ t from m i came view member. (k.receives t from m i.0 came view member, i.1);
     delivers = λ t n m i c ready. (
       k.delivers t n m i.0 c ready,
-      changed t i.1 n (record (t.process n) { time = join (t.process n).time m.times; delivered = (t.process n).delivered ++ m.id ∷ [] }) (t.acts n ++ Delivered m ∷ []) (delivers_seen t n m i ready c),
+      changed t i.1 n (record (t.process n) { time = join (t.process n).time m.times; delivered = (t.process n).delivered ++ m.id ∷ [] })
+          (t.acts n ++ Delivered m ∷ []) (delivers_seen t n m i ready c),
     );
     freezes = λ t g i current. (k.freezes t g i.0 current, i.1);
     pends = λ t from g p tail i came current. (k.pends t from g p tail i.0 came current, i.1);

@@ -1,10 +1,12 @@
--- How many places who has the token of a view has settled: those before its first one, and those up to the last one that its stable messages set.
+-- How many places who has the token of a view has settled: those before its first one, and those up to the last one that its stable
+-- messages set.
 use Rattle.std.proofs.Common.{ap, arith, inl, inr, subst, sym, ◌∙◌}
 use Rattle.std.proofs.lemmas.Bool.{and_parts, cases_lt}
 use Rattle.std.proofs.lemmas.List.Elements.{Contains-append_right}
 use Rattle.std.proofs.lemmas.List.{take-append-drop}
 use Rattle.std.specs.List.{flat_map}
-use Rattle.std.specs.Prelude.{◌&&◌, ◌+◌, ◌<◌, Bool, Contains, List, [], drop, false, filter, if◌then◌else◌, length, refl, suc, take, true, unwrap_or, zero, ℕ, ◌∷◌, ◌≡◌, ◌≤◌, ◌⊎◌}
+use Rattle.std.specs.Prelude.{◌&&◌, ◌+◌, ◌<◌, Bool, Contains, List, [], drop, false, filter, if◌then◌else◌}
+use Rattle.std.specs.Prelude.{length, refl, suc, take, true, unwrap_or, zero, ℕ, ◌∷◌, ◌≡◌, ◌≤◌, ◌⊎◌}
 use Rattle.cast_ready.specs.Ready.{has_delivered}
 use Rattle.cast_rules.specs.Acts.{Act}
 use Rattle.cast_rules.specs.Acts.Act.{Delivered, Entered, Left, Sent}
@@ -53,15 +55,20 @@ last_of (x ∷ listed) n lt = elim (cases_lt n x.1) [
 abbrev pub IsListed : (Uid → Bool) → List Act → Message → Type 0
 IsListed of acts m = Contains acts (Sent m) × (of m.id ≡ true) × (is_order (kind_of m.body) ≡ true)
 
-listing_of : (of : Uid → Bool) (acts : List Act) (x : ℕ × ℕ) → Contains (flat_map (listed_by of) acts) x → (m : Message) × IsListed of acts m × (x.0 ≡ m.id.count) × (x.1 ≡ last_place m.body)
+listing_of : (of : Uid → Bool) (acts : List Act) (x : ℕ × ℕ) → Contains (flat_map (listed_by of) acts) x →
+    (m : Message) × IsListed of acts m × (x.0 ≡ m.id.count) × (x.1 ≡ last_place m.body)
 listing_of of acts x at = let from = in_flat (listed_by of) acts x at in by from.0 from.1 from.2
   where
-    by : (y : Act) → Contains acts y → Contains (listed_by of y) x → (m : Message) × IsListed of acts m × (x.0 ≡ m.id.count) × (x.1 ≡ last_place m.body)
+    by : (y : Act) → Contains acts y → Contains (listed_by of y) x →
+        (m : Message) × IsListed of acts m × (x.0 ≡ m.id.count) × (x.1 ≡ last_place m.body)
     by (Sent m) c here = go (of m.id && is_order (kind_of m.body)) refl here
       where
-        go : (b : Bool) → (of m.id && is_order (kind_of m.body)) ≡ b → Contains (if b then (m.id.count, last_place m.body) ∷ [] else []) x → (z : Message) × IsListed of acts z × (x.0 ≡ z.id.count) × (x.1 ≡ last_place z.body)
+        go : (b : Bool) → (of m.id && is_order (kind_of m.body)) ≡ b → Contains (if b then (m.id.count, last_place m.body) ∷ [] else []) x →
+            (z : Message) × IsListed of acts z × (x.0 ≡ z.id.count) × (x.1 ≡ last_place z.body)
         go true e in_it = elim (contains_cons (m.id.count, last_place m.body) [] x in_it) [
-          | inl same ↦ (let two = and_parts (of m.id) (is_order (kind_of m.body)) e in (m, (c, two.0, two.1), ap (λ (y : ℕ × ℕ). y.0) (sym same), ap (λ (y : ℕ × ℕ). y.1) (sym same)))
+          | inl same ↦
+              (let two = and_parts (of m.id) (is_order (kind_of m.body)) e in
+              (m, (c, two.0, two.1), ap (λ (y : ℕ × ℕ). y.0) (sym same), ap (λ (y : ℕ × ℕ). y.1) (sym same)))
           | inr none ↦ absurd (omega (arith, none.1))
         ]
         go false e in_it = absurd (omega (arith, in_it.1))
@@ -81,7 +88,8 @@ module _ (t : State) (g : GroupNo) (k : ℕ) where
   abbrev stable : ℕ × ℕ → Bool
   stable x = is_stable t (uid_in g v (local t k, x.0))
 
-  pub settled_low : (n : ℕ) → first ≤ n + 1 → ((m : Message) → Contains (t.acts k) (Sent m) → is_in g v m.id ≡ true → last_place m.body ≤ n) → settled_to t g k ≤ n
+  pub settled_low : (n : ℕ) → first ≤ n + 1 →
+      ((m : Message) → Contains (t.acts k) (Sent m) → is_in g v m.id ≡ true → last_place m.body ≤ n) → settled_to t g k ≤ n
   settled_low n low all =
       let last = last_low (filter stable (lists_of t g k)) n (λ x at.
       let m = listing_of (is_of_view t g) (t.acts k) x (among_kept stable (lists_of t g k) x at) in
@@ -94,7 +102,10 @@ module _ (t : State) (g : GroupNo) (k : ℕ) where
   stable_as n c same e = subst (λ i. is_stable t (uid_in g v (local t k, i)) ≡ true) same e
 
   -- a place is settled before the first one, or by a stable message
-  pub settled_by : (n : ℕ) → n < settled_to t g k → (n + 1 < first) ⊎ ((m : Message) × IsListed (is_in g v) (t.acts k) m × (is_stable t (uid_in g v (local t k, m.id.count)) ≡ true) × (n < last_place m.body))
+  pub settled_by : (n : ℕ) → n < settled_to t g k → (n + 1 < first) ⊎ ((m : Message)
+      × IsListed (is_in g v) (t.acts k) m
+      × (is_stable t (uid_in g v (local t k, m.id.count)) ≡ true)
+      × (n < last_place m.body))
   settled_by n lt = elim (cases_lt (n + 1) first) [
     | inl before ↦ inl before
     | inr low ↦ inr (
@@ -106,11 +117,14 @@ module _ (t : State) (g : GroupNo) (k : ℕ) where
   ]
 
   -- what it delivered beyond is unsettled
-  pub settled_near : (done : List Entry) → order_by t g k ≡ done → ((e : Entry) → Contains done e → has_delivered (t.process k) (uid_in g v e) ≡ true) → length done ≤ settled_to t g k + length (unsettled_ids t g k)
+  pub settled_near : (done : List Entry) → order_by t g k ≡ done →
+      ((e : Entry) → Contains done e → has_delivered (t.process k) (uid_in g v e) ≡ true) →
+      length done ≤ settled_to t g k + length (unsettled_ids t g k)
   settled_near done is had =
       let all : unsettled_ids t g k ≡ drop (settled_to t g k) done =
       ap (λ l. filter (λ e. has_delivered (t.process k) (uid_in g v e)) (drop (settled_to t g k) l)) is
-      ∙ keeps_every (λ e. has_delivered (t.process k) (uid_in g v e)) (drop (settled_to t g k) done) (λ e at. had e (drop_of (settled_to t g k) done e at)) in
+      ∙ keeps_every (λ e. has_delivered (t.process k) (uid_in g v e)) (drop (settled_to t g k) done)
+      (λ e at. had e (drop_of (settled_to t g k) done e at)) in
       let same = ap length all in
       let long = drop_long (settled_to t g k) done in
       omega (arith, same, long)

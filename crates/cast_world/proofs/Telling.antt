@@ -4,15 +4,18 @@ use Rattle.std.proofs.Common.{ap, arith, inl, inr, subst, sym, ◌∙◌}
 use Rattle.std.proofs.lemmas.Bool.{cases_Bool, false≢true}
 use Rattle.std.specs.Option.{option_and_then, option_map, option_map_or}
 use Rattle.std.specs.List.{fold, list_any}
-use Rattle.std.specs.Prelude.{cond, map, nat_le, not, suc, zero, ◌⊎◌, ◌==◌, Bool, Contains, List, None, Option, Some, [], false, if◌then◌else◌, refl, true, ℕ, ◌∷◌, ◌≡◌}
+use Rattle.std.specs.Prelude.{cond, map, nat_le, not, suc, zero, ◌⊎◌, ◌==◌, Bool, Contains, List}
+use Rattle.std.specs.Prelude.{None, Option, Some, [], false, if◌then◌else◌, refl, true, ℕ, ◌∷◌, ◌≡◌}
 use Rattle.cast_ready.specs.Ready.{is_outside}
 use Rattle.cast_rules.specs.History.{history}
 use Rattle.cast_rules.specs.Owing.{at_moment, next_due, noting_owed, paying}
 use Rattle.cast_rules.specs.Rules.Asking.{ask_home, request}
 use Rattle.cast_rules.specs.Rules.Keys.{ask_key, id_in}
-use Rattle.cast_rules.specs.Rules.Leaving.{Attempt, close_session, end_session, leave_all, leave_at, leave_each, leave_group, tell, tell_open}
+use Rattle.cast_rules.specs.Rules.Leaving.{Attempt, close_session, end_session, leave_all}
+use Rattle.cast_rules.specs.Rules.Leaving.{leave_at, leave_each, leave_group, tell, tell_open}
 use Rattle.cast_rules.specs.Rules.Owing.{ask_frame, frame_for, frame_of_kind, install_frame, owe, resend, send_for, tick}
-use Rattle.cast_rules.specs.State.{State, closing, emit, going, is_filled, is_group, local, message_of, outside, pushing, set_group, set_session, with_push}
+use Rattle.cast_rules.specs.State.{State, closing, emit, going, is_filled, is_group, local}
+use Rattle.cast_rules.specs.State.{message_of, outside, pushing, set_group, set_session, with_push}
 use Rattle.cast_message.specs.declared.client.Push.{Push}
 use Rattle.cast_message.specs.declared.message.Message.{Message}
 use Rattle.cast_message.specs.declared.site.Change.{Change}
@@ -57,20 +60,24 @@ OnSome P (Some x) = P x
 abbrev Tells : State → SiteNo → SiteFrame → Type 0
 Tells s to f = Says s to f × Adds s f
 
-asks : (s : State) (to : SiteNo) (g : GroupNo) (a : List PendingRequest) → (s.group g).requests ≡ a → OnSome (Tells s to) (option_map (ask_frame g) (first_asking a))
+asks : (s : State) (to : SiteNo) (g : GroupNo) (a : List PendingRequest) → (s.group g).requests ≡ a →
+    OnSome (Tells s to) (option_map (ask_frame g) (first_asking a))
 asks s to g [] e = tt
 asks s to g (a ∷ rest) e = ((a, subst (λ as_listed. Contains as_listed a) (sym e) (0, omega arith, refl), refl), tt)
 
-installs_it : (s : State) (to : SiteNo) (g : GroupNo) (p : Phase) → (s.home g).phase ≡ p → OnSome (Tells s to) (install_frame g (s.home g) to p)
+installs_it : (s : State) (to : SiteNo) (g : GroupNo) (p : Phase) → (s.home g).phase ≡ p →
+    OnSome (Tells s to) (install_frame g (s.home g) to p)
 installs_it s to g Idle e = tt
 installs_it s to g (Gathering awaited reports bodies) e = tt
 installs_it s to g (Installing waiting d bodies) e = ((waiting, d, bodies, e, refl, refl, refl, refl), (waiting, d, bodies, e, refl))
 
-data_says : (s : State) (to : SiteNo) (o : Option Message) → ((m : Message) → o ≡ Some m → Contains s.kept m) → OnSome (Tells s to) (option_map frame.Data o)
+data_says : (s : State) (to : SiteNo) (o : Option Message) → ((m : Message) → o ≡ Some m → Contains s.kept m) →
+    OnSome (Tells s to) (option_map frame.Data o)
 data_says s to None has = tt
 data_says s to (Some m) has = (has m refl, tt)
 
-kind_says : (s : State) (key : OwedKey) (kind : OwedKind) → OwesOf s key kind → OnSome (Tells s key.site) (frame_of_kind history s key.group key kind)
+kind_says : (s : State) (key : OwedKey) (kind : OwedKind) → OwesOf s key kind →
+    OnSome (Tells s key.site) (frame_of_kind history s key.group key kind)
 kind_says s key kinds.Ask owes = asks s key.site key.group (s.group key.group).requests refl
 kind_says s key kinds.Data owes = data_says s key.site (message_of s (id_in (s.group key.group).number key))
     (λ m e. (found_is (λ x. uid_eq x.id (id_in (s.group key.group).number key)) s.kept m e).1)
@@ -82,7 +89,8 @@ kind_says s key kinds.Ack owes = (tt, owes)
 pub says_for : (s : State) (key : OwedKey) → Owes s key → OnSome (Tells s key.site) (frame_for history s key)
 says_for s key owes = go (is_group s key.group)
   where
-    go : (b : Bool) → OnSome (Tells s key.site) (option_and_then (λ h. frame_of_kind history s h key key.kind) (if b then Some key.group else None))
+    go : (b : Bool) →
+        OnSome (Tells s key.site) (option_and_then (λ h. frame_of_kind history s h key key.kind) (if b then Some key.group else None))
     go true = kind_says s key key.kind owes
     go false = tt
 
@@ -93,7 +101,8 @@ due_owed now (o ∷ owed) key at = go (nat_le o.due now) at (due_owed now owed k
     more : ((x : Owed) × Contains owed x × (x.key ≡ key)) → (x : Owed) × Contains (o ∷ owed) x × (x.key ≡ key)
     more r = (r.0, (suc r.1.0, omega (arith, r.1.1), r.1.2), r.2)
 
-    go : (b : Bool) → Contains (map (λ (x : Owed). x.key) (cond b (o ∷ due_frames now owed) (due_frames now owed))) key → (Contains (due_at now owed) key → (x : Owed) × Contains owed x × (x.key ≡ key)) →
+    go : (b : Bool) → Contains (map (λ (x : Owed). x.key) (cond b (o ∷ due_frames now owed) (due_frames now owed))) key →
+        (Contains (due_at now owed) key → (x : Owed) × Contains owed x × (x.key ≡ key)) →
         (x : Owed) × Contains (o ∷ owed) x × (x.key ≡ key)
     go true (zero, lt, is) rest = (o, (0, omega arith, refl), is)
     go true (suc n, lt, is) rest = more (rest (n, omega (arith, lt), is))
@@ -106,7 +115,8 @@ owes_same s t key kinds.Data got group owes = tt
 owes_same s t key kinds.Prepare got group owes = tt
 owes_same s t key kinds.Want got group owes = tt
 owes_same s t key kinds.Install got group owes = tt
-owes_same s t key kinds.Ack got group owes = (λ i. list_any (λ (m : Message). uid_eq m.id (id_in (group i key.group).number key)) (got i)) ∙ owes
+owes_same s t key kinds.Ack got group owes =
+    (λ i. list_any (λ (m : Message). uid_eq m.id (id_in (group i key.group).number key)) (got i)) ∙ owes
 
 owes_sent : (s : State) (sent other : OwedKey) → Owes s other → Owes (send_for history s sent) other
 owes_sent s sent other owes = go (frame_for history s sent)
@@ -140,8 +150,17 @@ owed_sent s sent other owed = go (frame_for history s sent)
 -- and after one was sent again
 owed_renewed : (s : State) (key other : OwedKey) (due : ℕ) → IsOwed s other → IsOwed (record s { owed = renew s.owed key due }) other
 owed_renewed s key other due (o, at, is) = elim (cases_Bool (key_eq key o.key)) [
-  | inl same ↦ (record { due = due; key = key }, item_here owed_cmp tied_frame (record { due = due; key = key }) (paid (key_eq key) s.owed), same_key key o.key same ∙ is)
-  | inr apart ↦ (o, item_more owed_cmp (record { due = due; key = key }) (paid (key_eq key) s.owed) o (contains_kept (λ (x : Owed). not (key_eq key x.key)) s.owed o at (ap not apart)), is)
+  | inl same ↦ (
+    record { due = due; key = key },
+    item_here owed_cmp tied_frame (record { due = due; key = key }) (paid (key_eq key) s.owed),
+    same_key key o.key same ∙ is,
+  )
+  | inr apart ↦ (
+    o,
+    item_more owed_cmp (record { due = due; key = key }) (paid (key_eq key) s.owed)
+        o (contains_kept (λ (x : Owed). not (key_eq key x.key)) s.owed o at (ap not apart)),
+    is,
+  )
 ]
 
 module _ (I : State → Type 0) (k : FullyKeptByTelling I) where
@@ -157,24 +176,31 @@ module _ (I : State → Type 0) (k : FullyKeptByTelling I) where
 
   pub owe_keeps : (s : State) (key : OwedKey) → I s → Owes s key → Wants s key → Lacks s key → I (owe history s key)
   owe_keeps s key i owes wants lacks = keeps_if I (is_owed s.owed key) s (noting_owed (send_for history s key) key) (λ _. i)
-      (λ _. k.owes (send_for history s key) key (next_due (send_for history s key)) (send_for_keeps s key i owes) (owes_sent s key key owes) (wants_sent s key key wants) (lacks_sent s key key lacks))
+      (λ _. k.owes (send_for history s key) key (next_due (send_for history s key)) (send_for_keeps s key i owes) (owes_sent s key key owes)
+      (wants_sent s key key wants) (lacks_sent s key key lacks))
 
   resend_keeps : (s : State) (key : OwedKey) → I s → Owes s key → IsOwed s key → I (resend history s key)
-  resend_keeps s key i owes owed = k.renews (send_for history s key) key (next_due (send_for history s key)) (send_for_keeps s key i owes) (owes_sent s key key owes) (owed_sent s key key owed)
+  resend_keeps s key i owes owed =
+      k.renews (send_for history s key) key (next_due (send_for history s key)) (send_for_keeps s key i owes) (owes_sent s key key owes)
+      (owed_sent s key key owed)
 
   owes_resent : (s : State) (sent other : OwedKey) → Owes s other → Owes (resend history s sent) other
-  owes_resent s sent other owes = owes_same (send_for history s sent) (resend history s sent) other other.kind refl refl (owes_sent s sent other owes)
+  owes_resent s sent other owes =
+      owes_same (send_for history s sent) (resend history s sent) other other.kind refl refl (owes_sent s sent other owes)
 
   owed_resent : (s : State) (sent other : OwedKey) → IsOwed s other → IsOwed (resend history s sent) other
-  owed_resent s sent other owed = owed_renewed (send_for history s sent) sent other (next_due (send_for history s sent)) (owed_sent s sent other owed)
+  owed_resent s sent other owed =
+      owed_renewed (send_for history s sent) sent other (next_due (send_for history s sent)) (owed_sent s sent other owed)
 
   -- where what is owed is so
-  resend_all : (keys : List OwedKey) (s : State) → I s → ((key : OwedKey) → Contains keys key → Owes s key × IsOwed s key) → I (fold (resend history) s keys)
+  resend_all : (keys : List OwedKey) (s : State) → I s → ((key : OwedKey) → Contains keys key → Owes s key × IsOwed s key) →
+      I (fold (resend history) s keys)
   resend_all [] s i owes = i
   resend_all (key ∷ keys) s i owes =
       let first = owes key (0, omega arith, refl) in
       resend_all keys (resend history s key) (resend_keeps s key i first.0 first.1)
-      (λ other at. (let more = owes other (suc at.0, omega (arith, at.1), at.2) in (owes_resent s key other more.0, owed_resent s key other more.1)))
+      (λ other at.
+      (let more = owes other (suc at.0, omega (arith, at.1), at.2) in (owes_resent s key other more.0, owed_resent s key other more.1)))
 
   -- and where Acks may be sent freely
   send_freely : AcksFreely I → (s : State) (key : OwedKey) → I s → I (send_for history s key)
@@ -184,7 +210,8 @@ module _ (I : State → Type 0) (k : FullyKeptByTelling I) where
       other None says = i
       other (Some f) says = k.emits s key.site f i says.0 says.1
 
-      go : (b : Bool) (kind : OwedKind) → I (option_map_or (history.send s key.site) (option_and_then (λ h. frame_of_kind history s h key kind) (if b then Some key.group else None)) s)
+      go : (b : Bool) (kind : OwedKind) → I (option_map_or (history.send s key.site)
+          (option_and_then (λ h. frame_of_kind history s h key kind) (if b then Some key.group else None)) s)
       go false kind = i
       go true kinds.Ask = other (frame_of_kind history s key.group key kinds.Ask) (kind_says s key kinds.Ask tt)
       go true kinds.Data = other (frame_of_kind history s key.group key kinds.Data) (kind_says s key kinds.Data tt)
@@ -193,11 +220,13 @@ module _ (I : State → Type 0) (k : FullyKeptByTelling I) where
       go true kinds.Install = other (frame_of_kind history s key.group key kinds.Install) (kind_says s key kinds.Install tt)
       go true kinds.Ack = free.0 s key.site (id_in (s.group key.group).number key) i
 
-  resend_freely : AcksFreely I → (keys : List OwedKey) (s : State) → I s → ((key : OwedKey) → Contains keys key → IsOwed s key) → I (fold (resend history) s keys)
+  resend_freely : AcksFreely I → (keys : List OwedKey) (s : State) → I s → ((key : OwedKey) → Contains keys key → IsOwed s key) →
+      I (fold (resend history) s keys)
   resend_freely free [] s i owed = i
   resend_freely free (key ∷ keys) s i owed =
       resend_freely free keys (resend history s key)
-      (free.1 (send_for history s key) key (next_due (send_for history s key)) (send_freely free s key i) (owed_sent s key key (owed key (0, omega arith, refl))))
+      (free.1 (send_for history s key) key (next_due (send_for history s key)) (send_freely free s key i)
+      (owed_sent s key key (owed key (0, omega arith, refl))))
       (λ other at. owed_resent s key other (owed other (suc at.0, omega (arith, at.1), at.2)))
 
   pub tick_keeps : (s : State) (t : ℕ) → I s → OwedTrue s ⊎ AcksFreely I → I (tick history s t)
@@ -215,15 +244,20 @@ module _ (I : State → Type 0) (k : FullyKeptByTelling I) where
   -- Requests of local processes
 
   pub ask_home_keeps : (s : State) (g : GroupNo) → I s → I (ask_home history s g)
-  ask_home_keeps s g i = keeps_if I (is_empty (s.group g).requests) s (owe history s (ask_key g s.config.home)) (λ _. i) (λ _. owe_keeps s (ask_key g s.config.home) i tt tt tt)
+  ask_home_keeps s g i =
+      keeps_if I (is_empty (s.group g).requests) s (owe history s (ask_key g s.config.home)) (λ _. i)
+      (λ _. owe_keeps s (ask_key g s.config.home) i tt tt tt)
 
   pub request_keeps : (s : State) (g : GroupNo) (what : Change) (p : Proc) → I s → I (request history s g what p)
   request_keeps s g what p i =
       let now : State = set_group s g (with_request (s.group g) what p) in
-      keeps_if I (is_empty (s.group g).requests) (ask_home history now g) now (λ _. ask_home_keeps now g (k.requests s g what p i)) (λ _. k.requests s g what p i)
+      keeps_if I (is_empty (s.group g).requests) (ask_home history now g) now (λ _. ask_home_keeps now g (k.requests s g what p i))
+      (λ _. k.requests s g what p i)
 
   pub leave_group_keeps : (s : State) (n : ℕ) (g : GroupNo) → I s → I (leave_group history s n g g)
-  leave_group_keeps s n g i = keeps_if I ((s.group g).asked == MAX_NUMBER) (outside s n g) (request history (outside s n g) g change.Leave (local s n)) (λ _. k.parts s n g i)
+  leave_group_keeps s n g i =
+      keeps_if I ((s.group g).asked == MAX_NUMBER) (outside s n g) (request history (outside s n g) g change.Leave (local s n))
+      (λ _. k.parts s n g i)
       (λ _. request_keeps (outside s n g) g change.Leave (local s n) (k.parts s n g i))
 
   pub leave_at_keeps : (s : State) (n : ℕ) (g : GroupNo) → I s → I (outcome (leave_at history s n g g))
@@ -238,12 +272,14 @@ module _ (I : State → Type 0) (k : FullyKeptByTelling I) where
 
   -- Sessions
 
-  with_push_keeps : (s : State) (n : ℕ) (v : Session) (p : Push) → I s → AgreesWith (s.acts n) p → is_open (s.session n) ≡ true → I (with_push s n v p)
+  with_push_keeps : (s : State) (n : ℕ) (v : Session) (p : Push) → I s → AgreesWith (s.acts n) p → is_open (s.session n) ≡ true →
+      I (with_push s n v p)
   with_push_keeps s n v p i agrees is = k.pushes (set_session s n v) n p (k.sets_session s n v i (λ _. is)) agrees
 
   pub push_keeps : (s : State) (n : ℕ) (p : Push) → I s → AgreesWith (s.acts n) p → I (pushing s n p)
   push_keeps s n p i agrees =
-      keeps_if I (is_open (s.session n)) (with_push s n (pushed_to (s.session n) p) p) s (λ is. with_push_keeps s n (pushed_to (s.session n) p) p i agrees is) (λ _. i)
+      keeps_if I (is_open (s.session n)) (with_push s n (pushed_to (s.session n) p) p)
+      s (λ is. with_push_keeps s n (pushed_to (s.session n) p) p i agrees is) (λ _. i)
 
   pub close_keeps : (s : State) (n : ℕ) (refusal : Refusal) → I s → I (closing s n refusal)
   close_keeps s n refusal i = keeps_if I (is_open (s.session n)) (with_push s n (tell_end refusal (s.session n)) (push.Closed refusal)) s
@@ -256,7 +292,8 @@ module _ (I : State → Type 0) (k : FullyKeptByTelling I) where
 
   pub tell_keeps : (s : State) (n : ℕ) (p : Push) → I s → AgreesWith (s.acts n) p → I (tell history s n p)
   tell_keeps s n p i agrees = keeps_if I (is_open (s.session n)) (tell_open history s n p) s
-      (λ _. keeps_if I (is_filled s n) (close_session history s n Slow) (pushing s n p) (λ _. close_session_keeps s n Slow i) (λ _. push_keeps s n p i agrees)) (λ _. i)
+      (λ _. keeps_if I (is_filled s n) (close_session history s n Slow) (pushing s n p) (λ _. close_session_keeps s n Slow i)
+      (λ _. push_keeps s n p i agrees)) (λ _. i)
 
   pub end_session_keeps : (s : State) (n : ℕ) → I s → I (end_session history s n)
   end_session_keeps s n i = keeps_if I (is_gone (s.session n)) s (leave_all history (going s n) n) (λ _. i)

@@ -14,8 +14,10 @@ use Rattle.std.specs.Cmp.{IsTotalOrder, nat_cmp_is}
 use Rattle.std.specs.FinMap.Entries.{below_all, find, find-put, is_sorted, is_sorted-put, put}
 use Rattle.std.specs.List.{list_all}
 use Rattle.std.specs.Ordering.{eq_by_cmp, is_eq, is_lt, nat_cmp}
-use Rattle.std.specs.Prelude.{◌&&◌, ◌+◌, ◌<◌, ◌==◌, Bool, Contains, List, Option, Some, T, [], cond, false, max, nat_le, nat_lt, refl, suc, true, unwrap_or, zero, ◌||◌, ℕ, ◌∷◌, ◌≡◌, ◌≤◌, ◌⊎◌}
-use Rattle.cast_clock.specs.Times.{at_most, with_bump, clock_at_most, clock_of, count_in, counts_at_most, entering, first_clock, join, join_clocks, join_counts, view_of}
+use Rattle.std.specs.Prelude.{◌&&◌, ◌+◌, ◌<◌, ◌==◌, Bool, Contains, List, Option, Some, T, [], cond, false, max}
+use Rattle.std.specs.Prelude.{nat_le, nat_lt, refl, suc, true, unwrap_or, zero, ◌||◌, ℕ, ◌∷◌, ◌≡◌, ◌≤◌, ◌⊎◌}
+use Rattle.cast_clock.specs.Times.{at_most, with_bump, clock_at_most, clock_of, count_in, counts_at_most}
+use Rattle.cast_clock.specs.Times.{entering, first_clock, join, join_clocks, join_counts, view_of}
 use Rattle.cast_types.specs.Counts.{CountList, count_of}
 use Rattle.cast_types.specs.Names.{Entry, group_cmp, proc_cmp}
 use Rattle.cast_types.specs.Sets.{at_order}
@@ -45,11 +47,15 @@ pub unwrapped : {A : Type 0} (b : Bool) (x d : A) (o : Option A) → unwrap_or (
 unwrapped true x d o = refl
 unwrapped false x d o = refl
 
-count_of-put : (c : CountList) (k : Proc) (n : ℕ) (p : Proc) → count_of (put proc_cmp k n c) p ≡ cond (eq_by_cmp proc_cmp p k) n (count_of c p)
+count_of-put : (c : CountList) (k : Proc) (n : ℕ) (p : Proc) →
+    count_of (put proc_cmp k n c) p ≡ cond (eq_by_cmp proc_cmp p k) n (count_of c p)
 count_of-put c k n p = ap (λ o. unwrap_or o 0) (find-put proc_cmp procs_total p k n c) ∙ unwrapped (eq_by_cmp proc_cmp p k) n 0 _
 
-clock_of-put : (t : ClockList) (k : GroupNo) (c : Clock) (g : GroupNo) → clock_of (put group_cmp k c t) g ≡ cond (eq_by_cmp group_cmp g k) c (clock_of t g)
-clock_of-put t k c g = ap (λ o. unwrap_or o (first_clock 0)) (find-put group_cmp groups_total g k c t) ∙ unwrapped (eq_by_cmp group_cmp g k) c (first_clock 0) _
+clock_of-put : (t : ClockList) (k : GroupNo) (c : Clock) (g : GroupNo) →
+    clock_of (put group_cmp k c t) g ≡ cond (eq_by_cmp group_cmp g k) c (clock_of t g)
+clock_of-put t k c g =
+    ap (λ o. unwrap_or o (first_clock 0)) (find-put group_cmp groups_total g k c t)
+    ∙ unwrapped (eq_by_cmp group_cmp g k) c (first_clock 0) _
 
 pub tied_to : {K : Type 0} (R : K → K → Ordering) → IsTotalOrder R → (a b : K) → a ≡ b → eq_by_cmp R a b ≡ true
 tied_to R o a b e = subst (λ c. eq_by_cmp R a c ≡ true) e (ap is_eq (tied_itself o a))
@@ -62,15 +68,20 @@ abbrev Rises : Clock → Clock → Type 0
 Rises a b = (v : ℕ) (p : Proc) (n : ℕ) → ClockCovers a v p n → ClockCovers b v p n
 
 pub put_rises : (t : ClockList) (k : GroupNo) (c : Clock) → Rises (clock_of t k) c → Below t (put group_cmp k c t)
-put_rises t k c up u has = subst (λ d. ClockCovers d u.view u.proc u.count) (sym (clock_of-put t k c u.group)) (go (eq_by_cmp group_cmp u.group k) refl)
+put_rises t k c up u has =
+    subst (λ d. ClockCovers d u.view u.proc u.count) (sym (clock_of-put t k c u.group)) (go (eq_by_cmp group_cmp u.group k) refl)
   where
     go : (b : Bool) → eq_by_cmp group_cmp u.group k ≡ b → ClockCovers (cond b c (clock_of t u.group)) u.view u.proc u.count
-    go true e = up u.view u.proc u.count (subst (λ g. ClockCovers (clock_of t g) u.view u.proc u.count) (tells_apart group_exact u.group k e) has)
+    go true e =
+        up u.view u.proc u.count (subst (λ g. ClockCovers (clock_of t g) u.view u.proc u.count) (tells_apart group_exact u.group k e) has)
     go false e = has
 
-put_covers : (t : ClockList) (k : GroupNo) (c : Clock) (u : Uid) → u.group ≡ k → ClockCovers c u.view u.proc u.count → Covers (put group_cmp k c t) u
+put_covers : (t : ClockList) (k : GroupNo) (c : Clock) (u : Uid) → u.group ≡ k → ClockCovers c u.view u.proc u.count →
+    Covers (put group_cmp k c t) u
 put_covers t k c u same has =
-    subst (λ d. ClockCovers d u.view u.proc u.count) (sym (clock_of-put t k c u.group)) (subst (λ b. ClockCovers (cond b c (clock_of t u.group)) u.view u.proc u.count) (sym (tied_to group_cmp groups_total u.group k same)) has)
+    subst (λ d. ClockCovers d u.view u.proc u.count) (sym (clock_of-put t k c u.group))
+    (subst (λ b. ClockCovers (cond b c (clock_of t u.group)) u.view u.proc u.count)
+    (sym (tied_to group_cmp groups_total u.group k same)) has)
 
 count_rises : (c : CountList) (k : Proc) (n : ℕ) → count_of c k ≤ n → (p : Proc) → count_of c p ≤ count_of (put proc_cmp k n c) p
 count_rises c k n le p = subst (λ m. count_of c p ≤ m) (sym (count_of-put c k n p)) (go (eq_by_cmp proc_cmp p k) refl)
@@ -86,7 +97,9 @@ below_bumped t g p = put_rises t g _ (λ v q n. elim [
 ])
 
 pub below_entering : (t : ClockList) (g : GroupNo) (n : ℕ) → view_of t g < n → Below t (entering t g n)
-below_entering t g n lt = put_rises t g (first_clock n) (λ v q k. elim [ inl low ↦ inl (omega (arith, low, lt)) | inr (same, le) ↦ inl (omega (arith, same, lt)) ])
+below_entering t g n lt =
+    put_rises t g (first_clock n)
+    (λ v q k. elim [ inl low ↦ inl (omega (arith, low, lt)) | inr (same, le) ↦ inl (omega (arith, same, lt)) ])
 
 joined_left : (c d : CountList) (p : Proc) → count_of c p ≤ count_of (join_counts c d) p
 joined_left c [] p = omega arith
@@ -97,15 +110,19 @@ joined_left c (e ∷ d) p =
 
 joined_right : (c d : CountList) (p : Proc) → count_of d p ≤ count_of (join_counts c d) p
 joined_right c [] p = omega arith
-joined_right c (e ∷ d) p = subst (λ n. n ≤ count_of (join_counts c (e ∷ d)) p) (sym (unwrapped (eq_by_cmp proc_cmp p e.0) e.1 0 (find proc_cmp p d))) (go (eq_by_cmp proc_cmp p e.0) refl (joined_right next d p) (joined_left next d p))
+joined_right c (e ∷ d) p =
+    subst (λ n. n ≤ count_of (join_counts c (e ∷ d)) p) (sym (unwrapped (eq_by_cmp proc_cmp p e.0) e.1 0 (find proc_cmp p d)))
+    (go (eq_by_cmp proc_cmp p e.0) refl (joined_right next d p) (joined_left next d p))
   where
     next : CountList
     next = put proc_cmp e.0 (max (count_of c e.0) e.1) c
 
-    go : (b : Bool) → eq_by_cmp proc_cmp p e.0 ≡ b → count_of d p ≤ count_of (join_counts next d) p → count_of next p ≤ count_of (join_counts next d) p →
+    go : (b : Bool) → eq_by_cmp proc_cmp p e.0 ≡ b → count_of d p ≤ count_of (join_counts next d) p →
+        count_of next p ≤ count_of (join_counts next d) p →
         cond b e.1 (count_of d p) ≤ count_of (join_counts next d) p
     go true tie right left =
-        let put_is : count_of next p ≡ max (count_of c e.0) e.1 = count_of-put c e.0 (max (count_of c e.0) e.1) p ∙ ap (λ b. cond b (max (count_of c e.0) e.1) (count_of c p)) tie in
+        let put_is : count_of next p ≡ max (count_of c e.0) e.1 =
+        count_of-put c e.0 (max (count_of c e.0) e.1) p ∙ ap (λ b. cond b (max (count_of c e.0) e.1) (count_of c p)) tie in
         omega (arith, left, put_is)
     go false tie right left = right
 
@@ -113,13 +130,16 @@ abbrev both : Clock → Clock → Clock
 both a b = record { view = a.view; counts = join_counts a.counts b.counts }
 
 -- by the order of the views
-module _ (a b : Clock) (P : Clock → Type 0) (less : a.view < b.view → P b) (equal : a.view ≡ b.view → P (both a b)) (greater : b.view < a.view → P a) where
+module _ (a b : Clock) (P : Clock → Type 0) (less : a.view < b.view → P b) (equal : a.view ≡ b.view → P (both a b))
+    (greater : b.view < a.view → P a) where
   by_views : P (join_clocks a b)
   by_views = elim (cases_lt a.view b.view) [
     | inl lt ↦ subst (λ o. P (at_order o b (both a b) a)) (nat_cmp_is a.view b.view Less lt) (less lt)
     | inr ge ↦ elim (cases_lt b.view a.view) [
       | inl gt ↦ subst (λ o. P (at_order o b (both a b) a)) (nat_cmp_is a.view b.view Greater gt) (greater gt)
-      | inr le ↦ let same : a.view ≡ b.view = omega (arith, ge, le) in subst (λ o. P (at_order o b (both a b) a)) (nat_cmp_is a.view b.view Equal same) (equal same)
+      | inr le ↦
+          let same : a.view ≡ b.view = omega (arith, ge, le) in
+          subst (λ o. P (at_order o b (both a b) a)) (nat_cmp_is a.view b.view Equal same) (equal same)
     ]
   ]
 
@@ -132,17 +152,24 @@ clocks_left a b v p n has = by_views a b (λ c. ClockCovers c v p n)
 clocks_right : (a b : Clock) → Rises b (join_clocks a b)
 clocks_right a b v p n has = by_views a b (λ c. ClockCovers c v p n)
     (λ lt. has)
-    (λ e. elim has [ inl low ↦ inl (omega (arith, low, e)) | inr (same, le) ↦ inr (same ∙ sym e, let up = joined_right a.counts b.counts p in omega (arith, up, le)) ])
+    (λ e. elim has [
+      | inl low ↦ inl (omega (arith, low, e))
+      | inr (same, le) ↦ inr (same ∙ sym e, let up = joined_right a.counts b.counts p in omega (arith, up, le))
+    ])
     (λ gt. elim has [ inl low ↦ inl (omega (arith, low, gt)) | inr (same, le) ↦ inl (omega (arith, same, gt)) ])
 
 pub below_join : (s t : ClockList) → Below s (join s t)
 below_join s [] u has = has
-below_join s (e ∷ t) u has = below_join (put group_cmp e.0 (join_clocks (clock_of s e.0) e.1) s) t u (put_rises s e.0 _ (clocks_left (clock_of s e.0) e.1) u has)
+below_join s (e ∷ t) u has =
+    below_join (put group_cmp e.0 (join_clocks (clock_of s e.0) e.1) s) t u (put_rises s e.0 _ (clocks_left (clock_of s e.0) e.1) u has)
 
 pub join_covers : (s t : ClockList) → Below t (join s t)
 join_covers s [] u has = elim has [
   | inl low ↦ absurd (omega (arith, low))
-  | inr (same, le) ↦ elim (cases_lt 0 (view_of s u.group)) [ inl up ↦ inl (omega (arith, same, up)) | inr down ↦ inr (omega (arith, same, down), omega (arith, le)) ]
+  | inr (same, le) ↦ elim (cases_lt 0 (view_of s u.group)) [
+    | inl up ↦ inl (omega (arith, same, up))
+    | inr down ↦ inr (omega (arith, same, down), omega (arith, le))
+  ]
 ]
 join_covers s (e ∷ t) u has = go (eq_by_cmp group_cmp u.group e.0) refl (join_covers next t u) (below_join next t u)
   where
@@ -152,10 +179,13 @@ join_covers s (e ∷ t) u has = go (eq_by_cmp group_cmp u.group e.0) refl (join_
     is : clock_of (e ∷ t) u.group ≡ cond (eq_by_cmp group_cmp u.group e.0) e.1 (clock_of t u.group)
     is = unwrapped (eq_by_cmp group_cmp u.group e.0) e.1 (first_clock 0) (find group_cmp u.group t)
 
-    go : (b : Bool) → eq_by_cmp group_cmp u.group e.0 ≡ b → (Covers t u → Covers (join next t) u) → (Covers next u → Covers (join next t) u) → Covers (join next t) u
+    go : (b : Bool) → eq_by_cmp group_cmp u.group e.0 ≡ b → (Covers t u → Covers (join next t) u) →
+        (Covers next u → Covers (join next t) u) → Covers (join next t) u
     go true tie right left = left (put_covers s e.0 (join_clocks (clock_of s e.0) e.1) u (tells_apart group_exact u.group e.0 tie)
-        (clocks_right (clock_of s e.0) e.1 u.view u.proc u.count (subst (λ c. ClockCovers c u.view u.proc u.count) (is ∙ ap (λ b. cond b e.1 (clock_of t u.group)) tie) has)))
-    go false tie right left = right (subst (λ c. ClockCovers c u.view u.proc u.count) (is ∙ ap (λ b. cond b e.1 (clock_of t u.group)) tie) has)
+        (clocks_right (clock_of s e.0) e.1 u.view u.proc u.count
+        (subst (λ c. ClockCovers c u.view u.proc u.count) (is ∙ ap (λ b. cond b e.1 (clock_of t u.group)) tie) has)))
+    go false tie right left =
+        right (subst (λ c. ClockCovers c u.view u.proc u.count) (is ∙ ap (λ b. cond b e.1 (clock_of t u.group)) tie) has)
 
 -- each group stands once in a time
 abbrev pub Once : ClockList → Type 0
@@ -175,7 +205,8 @@ view_join s (e ∷ t) once g n one two = go (eq_by_cmp group_cmp g e.0) refl (vi
     is : clock_of (e ∷ t) g ≡ cond (eq_by_cmp group_cmp g e.0) e.1 (clock_of t g)
     is = unwrapped (eq_by_cmp group_cmp g e.0) e.1 (first_clock 0) (find group_cmp g t)
 
-    go : (b : Bool) → eq_by_cmp group_cmp g e.0 ≡ b → (view_of next g ≤ n → view_of t g ≤ n → view_of (join next t) g ≤ n) → view_of (join next t) g ≤ n
+    go : (b : Bool) → eq_by_cmp group_cmp g e.0 ≡ b → (view_of next g ≤ n → view_of t g ≤ n → view_of (join next t) g ≤ n) →
+        view_of (join next t) g ≤ n
     go true tie more =
         let same = tells_apart group_exact g e.0 tie in
         let left : (clock_of s e.0).view ≤ n = subst (λ h. view_of s h ≤ n) same one in
@@ -184,27 +215,38 @@ view_join s (e ∷ t) once g n one two = go (eq_by_cmp group_cmp g e.0) refl (vi
         more (subst (λ (c : Clock). c.view ≤ n) (sym (next_is ∙ ap (λ b. cond b (join_clocks (clock_of s e.0) e.1) (clock_of s g)) tie))
         (by_views (clock_of s e.0) e.1 (λ c. c.view ≤ n) (λ lt. right) (λ e. left) (λ gt. left))) (omega (arith, none))
     go false tie more =
-        more (subst (λ (c : Clock). c.view ≤ n) (sym (next_is ∙ ap (λ b. cond b (join_clocks (clock_of s e.0) e.1) (clock_of s g)) tie)) one)
+        more
+        (subst (λ (c : Clock). c.view ≤ n) (sym (next_is ∙ ap (λ b. cond b (join_clocks (clock_of s e.0) e.1) (clock_of s g)) tie)) one)
         (subst (λ (c : Clock). c.view ≤ n) (is ∙ ap (λ b. cond b e.1 (clock_of t g)) tie) two)
 
 pub below_view : (s t : ClockList) → Below s t → (g : GroupNo) → view_of s g ≤ view_of t g
-below_view s t up g = elim (up record { group = g; view = view_of s g; proc = record { site = record { 0 = 0 }; serial = 0 }; count = 0 } (inr (refl, omega arith))) [ inl lt ↦ omega (arith, lt) | inr (same, le) ↦ omega (arith, same) ]
+below_view s t up g =
+    elim (up record { group = g; view = view_of s g; proc = record { site = record { 0 = 0 }; serial = 0 }; count = 0 }
+    (inr (refl, omega arith))) [ inl lt ↦ omega (arith, lt) | inr (same, le) ↦ omega (arith, same) ]
 
-pub bumped_covers : (t : ClockList) (g : GroupNo) (p : Proc) (u : Uid) → u.group ≡ g → u.proc ≡ p → u.view ≡ view_of t g → u.count ≡ count_in t g p + 1 → Covers (with_bump t g p) u
-bumped_covers t g p u group proc view count = put_covers t g _ u group (inr (view, subst (λ n. u.count ≤ n) (sym here) (omega (arith, count))))
+pub bumped_covers : (t : ClockList) (g : GroupNo) (p : Proc) (u : Uid) → u.group ≡ g → u.proc ≡ p → u.view ≡ view_of t g →
+    u.count ≡ count_in t g p + 1 → Covers (with_bump t g p) u
+bumped_covers t g p u group proc view count =
+    put_covers t g _ u group (inr (view, subst (λ n. u.count ≤ n) (sym here) (omega (arith, count))))
   where
     here : count_of (put proc_cmp p (count_in t g p + 1) (clock_of t g).counts) u.proc ≡ count_in t g p + 1
-    here = count_of-put (clock_of t g).counts p (count_in t g p + 1) u.proc ∙ ap (λ b. cond b (count_in t g p + 1) (count_of (clock_of t g).counts u.proc)) (tied_to proc_cmp procs_total u.proc p proc)
+    here =
+        count_of-put (clock_of t g).counts p (count_in t g p + 1) u.proc
+        ∙ ap (λ b. cond b (count_in t g p + 1) (count_of (clock_of t g).counts u.proc)) (tied_to proc_cmp procs_total u.proc p proc)
 
 pub bumped_view : (t : ClockList) (g : GroupNo) (p : Proc) (h : GroupNo) → view_of (with_bump t g p) h ≡ view_of t h
 bumped_view t g p h = ap (λ (c : Clock). c.view) (clock_of-put t g _ h) ∙ go (eq_by_cmp group_cmp h g) refl
   where
-    go : (b : Bool) → eq_by_cmp group_cmp h g ≡ b → (cond b (record { view = view_of t g; counts = put proc_cmp p (count_in t g p + 1) (clock_of t g).counts }) (clock_of t h)).view ≡ view_of t h
+    go : (b : Bool) → eq_by_cmp group_cmp h g ≡ b →
+        (cond b (record { view = view_of t g; counts = put proc_cmp p (count_in t g p + 1) (clock_of t g).counts }) (clock_of t h)).view
+        ≡ view_of t h
     go true tie = ap (view_of t) (sym (tells_apart group_exact h g tie))
     go false tie = refl
 
 pub entered_view : (t : ClockList) (g : GroupNo) (n : ℕ) → view_of (entering t g n) g ≡ n
-entered_view t g n = ap (λ (c : Clock). c.view) (clock_of-put t g (first_clock n) g ∙ ap (λ b. cond b (first_clock n) (clock_of t g)) (tied_to group_cmp groups_total g g refl))
+entered_view t g n =
+    ap (λ (c : Clock). c.view)
+    (clock_of-put t g (first_clock n) g ∙ ap (λ b. cond b (first_clock n) (clock_of t g)) (tied_to group_cmp groups_total g g refl))
 
 -- entering a view of one group leaves the clocks of others
 pub other_clock : (t : ClockList) (g : GroupNo) (n : ℕ) (h : GroupNo) → (g ≡ h → ⊥) → clock_of (entering t g n) h ≡ clock_of t h
@@ -219,8 +261,10 @@ other_view t g n h other = ap (λ (c : Clock). c.view) (other_clock t g n h othe
 
 pub bumped_count : (t : ClockList) (g : GroupNo) (p : Proc) → count_in (with_bump t g p) g p ≡ count_in t g p + 1
 bumped_count t g p =
-    ap (λ (c : Clock). count_of c.counts p) (clock_of-put t g next g ∙ ap (λ b. cond b next (clock_of t g)) (tied_to group_cmp groups_total g g refl))
-    ∙ count_of-put (clock_of t g).counts p (count_in t g p + 1) p ∙ ap (λ b. cond b (count_in t g p + 1) (count_of (clock_of t g).counts p)) (tied_to proc_cmp procs_total p p refl)
+    ap (λ (c : Clock). count_of c.counts p)
+    (clock_of-put t g next g ∙ ap (λ b. cond b next (clock_of t g)) (tied_to group_cmp groups_total g g refl))
+    ∙ count_of-put (clock_of t g).counts p (count_in t g p + 1) p
+    ∙ ap (λ b. cond b (count_in t g p + 1) (count_of (clock_of t g).counts p)) (tied_to proc_cmp procs_total p p refl)
   where
     next : Clock
     next = record { view = view_of t g; counts = put proc_cmp p (count_in t g p + 1) (clock_of t g).counts }
@@ -239,13 +283,15 @@ put_sorted k c t e = to_true _ (is_sorted-put group_cmp groups_total k c t (from
 
 pub join_sorted : (s t : ClockList) → is_sorted group_cmp s ≡ true → is_sorted group_cmp (join s t) ≡ true
 join_sorted s [] e = e
-join_sorted s (x ∷ t) e = join_sorted (put group_cmp x.0 (join_clocks (clock_of s x.0) x.1) s) t (put_sorted x.0 (join_clocks (clock_of s x.0) x.1) s e)
+join_sorted s (x ∷ t) e =
+    join_sorted (put group_cmp x.0 (join_clocks (clock_of s x.0) x.1) s) t (put_sorted x.0 (join_clocks (clock_of s x.0) x.1) s e)
 
 missing : (g : GroupNo) (t : ClockList) → below_all group_cmp g t ≡ true → clock_of t g ≡ first_clock 0
 missing g [] e = refl
 missing g (x ∷ t) e = go (group_cmp g x.0) (and_parts _ _ e).0 (missing g t (and_parts _ _ e).1)
   where
-    go : (o : Ordering) → is_lt o ≡ true → clock_of t g ≡ first_clock 0 → unwrap_or (cond (is_eq o) (Some x.1) (find group_cmp g t)) (first_clock 0) ≡ first_clock 0
+    go : (o : Ordering) → is_lt o ≡ true → clock_of t g ≡ first_clock 0 →
+        unwrap_or (cond (is_eq o) (Some x.1) (find group_cmp g t)) (first_clock 0) ≡ first_clock 0
     go Less lt more = more
     go Equal lt more = absurd (false≢true lt)
     go Greater lt more = more
@@ -266,15 +312,19 @@ counts_join c (x ∷ d) e = counts_join (put proc_cmp x.0 (max (count_of c x.0) 
 abbrev CountsSorted : ClockList → Type 0
 CountsSorted t = (g : GroupNo) → is_sorted proc_cmp (clock_of t g).counts ≡ true
 
-clocks_put : (k : GroupNo) (c : Clock) (t : ClockList) → CountsSorted t → is_sorted proc_cmp c.counts ≡ true → CountsSorted (put group_cmp k c t)
-clocks_put k c t all one g = subst (λ (d : Clock). is_sorted proc_cmp d.counts ≡ true) (sym (clock_of-put t k c g)) (go (eq_by_cmp group_cmp g k))
+clocks_put : (k : GroupNo) (c : Clock) (t : ClockList) → CountsSorted t → is_sorted proc_cmp c.counts ≡ true →
+    CountsSorted (put group_cmp k c t)
+clocks_put k c t all one g =
+    subst (λ (d : Clock). is_sorted proc_cmp d.counts ≡ true) (sym (clock_of-put t k c g)) (go (eq_by_cmp group_cmp g k))
   where
     go : (b : Bool) → is_sorted proc_cmp (cond b c (clock_of t g)).counts ≡ true
     go true = one
     go false = all g
 
-clocks_join : (a b : Clock) → is_sorted proc_cmp a.counts ≡ true → is_sorted proc_cmp b.counts ≡ true → is_sorted proc_cmp (join_clocks a b).counts ≡ true
-clocks_join a b one two = by_views a b (λ c. is_sorted proc_cmp c.counts ≡ true) (λ lt. two) (λ e. counts_join a.counts b.counts one) (λ gt. one)
+clocks_join : (a b : Clock) → is_sorted proc_cmp a.counts ≡ true → is_sorted proc_cmp b.counts ≡ true →
+    is_sorted proc_cmp (join_clocks a b).counts ≡ true
+clocks_join a b one two =
+    by_views a b (λ c. is_sorted proc_cmp c.counts ≡ true) (λ lt. two) (λ e. counts_join a.counts b.counts one) (λ gt. one)
 
 times_join : (s t : ClockList) → CountsSorted s → Once t → CountsSorted t → CountsSorted (join s t)
 times_join s [] one once two = one
@@ -285,14 +335,22 @@ times_join s (x ∷ t) one once two = times_join (put group_cmp x.0 (join_clocks
     is g = unwrapped (eq_by_cmp group_cmp g x.0) x.1 (first_clock 0) (find group_cmp g t)
 
     head : is_sorted proc_cmp x.1.counts ≡ true
-    head = subst (λ (c : Clock). is_sorted proc_cmp c.counts ≡ true) (unwrapped (eq_by_cmp group_cmp x.0 x.0) x.1 (first_clock 0) (find group_cmp x.0 t) ∙ ap (λ b. cond b x.1 (clock_of t x.0)) (tied_to group_cmp groups_total x.0 x.0 refl)) (two x.0)
+    head =
+        subst (λ (c : Clock). is_sorted proc_cmp c.counts ≡ true)
+        (unwrapped (eq_by_cmp group_cmp x.0 x.0) x.1 (first_clock 0) (find group_cmp x.0 t)
+        ∙ ap (λ b. cond b x.1 (clock_of t x.0)) (tied_to group_cmp groups_total x.0 x.0 refl)) (two x.0)
 
     rest : CountsSorted t
     rest g = go (eq_by_cmp group_cmp g x.0) refl
       where
         go : (b : Bool) → eq_by_cmp group_cmp g x.0 ≡ b → is_sorted proc_cmp (clock_of t g).counts ≡ true
-        go true e = subst (λ (c : Clock). is_sorted proc_cmp c.counts ≡ true) (sym (ap (clock_of t) (tells_apart group_exact g x.0 e) ∙ once.0)) refl
-        go false e = subst (λ (c : Clock). is_sorted proc_cmp c.counts ≡ true) (unwrapped (eq_by_cmp group_cmp g x.0) x.1 (first_clock 0) (find group_cmp g t) ∙ ap (λ b. cond b x.1 (clock_of t g)) e) (two g)
+        go true e =
+            subst (λ (c : Clock). is_sorted proc_cmp c.counts ≡ true)
+            (sym (ap (clock_of t) (tells_apart group_exact g x.0 e) ∙ once.0)) refl
+        go false e =
+            subst (λ (c : Clock). is_sorted proc_cmp c.counts ≡ true)
+            (unwrapped (eq_by_cmp group_cmp g x.0) x.1 (first_clock 0) (find group_cmp g t)
+            ∙ ap (λ b. cond b x.1 (clock_of t g)) e) (two g)
 
 pub bumped_sorted : (t : ClockList) (g : GroupNo) (p : Proc) → IsSorted t → IsSorted (with_bump t g p)
 bumped_sorted t g p s = (put_sorted g _ t s.0, clocks_put g _ t s.1 (counts_put p (count_in t g p + 1) (clock_of t g).counts (s.1 g)))
@@ -313,38 +371,52 @@ module _ {K V : Type 0} (R : K → K → Ordering) (o : IsTotalOrder R) (exact :
 
   found_in : (es : List (K × V)) (e : K × V) → is_sorted R es ≡ true → Contains es e → find R e.0 es ≡ Some e.1
   found_in [] e s at = absurd (omega (arith, at.1))
-  found_in (x ∷ es) e s (zero, lt, is) = ap (λ b. cond b (Some x.1) (find R e.0 es)) (tied_to R o e.0 x.0 (ap (λ (z : K × V). z.0) (sym is))) ∙ ap (λ (z : K × V). Some z.1) is
-  found_in (x ∷ es) e s (suc n, lt, is) = go (eq_by_cmp R e.0 x.0) refl (found_in es e (and_parts _ _ s).1 (n, omega arith, is)) (above_head x.0 es e (and_parts _ _ s).0 (n, omega arith, is))
+  found_in (x ∷ es) e s (zero, lt, is) =
+      ap (λ b. cond b (Some x.1) (find R e.0 es)) (tied_to R o e.0 x.0 (ap (λ (z : K × V). z.0) (sym is))) ∙ ap (λ (z : K × V). Some z.1) is
+  found_in (x ∷ es) e s (suc n, lt, is) =
+      go (eq_by_cmp R e.0 x.0) refl (found_in es e (and_parts _ _ s).1 (n, omega arith, is))
+      (above_head x.0 es e (and_parts _ _ s).0 (n, omega arith, is))
     where
-      go : (b : Bool) → eq_by_cmp R e.0 x.0 ≡ b → find R e.0 es ≡ Some e.1 → is_lt (R x.0 e.0) ≡ true → cond b (Some x.1) (find R e.0 es) ≡ Some e.1
+      go : (b : Bool) → eq_by_cmp R e.0 x.0 ≡ b → find R e.0 es ≡ Some e.1 → is_lt (R x.0 e.0) ≡ true →
+          cond b (Some x.1) (find R e.0 es) ≡ Some e.1
       go true tie more low = absurd (false≢true (sym (ap is_lt (ap (R x.0) (tells_apart exact e.0 x.0 tie) ∙ tied_itself o x.0)) ∙ low))
       go false tie more low = more
 
 all_pass : {X : Type 0} (test : X → Bool) (xs : List X) → ((x : X) → Contains xs x → test x ≡ true) → list_all test xs ≡ true
 all_pass test [] each = refl
-all_pass test (x ∷ xs) each = λ i. each x (0, omega arith, refl) i && all_pass test xs (λ y at. each y (suc at.0, omega (arith, at.1), at.2)) i
+all_pass test (x ∷ xs) each =
+    λ i. each x (0, omega arith, refl) i && all_pass test xs (λ y at. each y (suc at.0, omega (arith, at.1), at.2)) i
 
 pub below_at_most : (s t : ClockList) → IsSorted s → Below s t → at_most s t ≡ true
-below_at_most s t sorted up = all_pass (λ e. clock_at_most e.1 (clock_of t e.0)) s (λ e at. entry e (ap (λ o. unwrap_or o (first_clock 0)) (found_in group_cmp groups_total group_exact s e sorted.0 at)))
+below_at_most s t sorted up =
+    all_pass (λ e. clock_at_most e.1 (clock_of t e.0))
+    s (λ e at. entry e (ap (λ o. unwrap_or o (first_clock 0)) (found_in group_cmp groups_total group_exact s e sorted.0 at)))
   where
-    counts : (e : GroupNo × Clock) → clock_of s e.0 ≡ e.1 → e.1.view ≡ view_of t e.0 → (c : Entry) → Contains e.1.counts c → nat_le c.1 (count_of (clock_of t e.0).counts c.0) ≡ true
+    counts : (e : GroupNo × Clock) → clock_of s e.0 ≡ e.1 → e.1.view ≡ view_of t e.0 → (c : Entry) → Contains e.1.counts c →
+        nat_le c.1 (count_of (clock_of t e.0).counts c.0) ≡ true
     counts e is same c at =
         let ordered : is_sorted proc_cmp e.1.counts ≡ true = subst (λ (x : Clock). is_sorted proc_cmp x.counts ≡ true) is (sorted.1 e.0) in
-        let own : count_of e.1.counts c.0 ≡ c.1 = ap (λ o. unwrap_or o 0) (found_in proc_cmp procs_total proc_exact e.1.counts c ordered at) in
+        let own : count_of e.1.counts c.0 ≡ c.1 =
+        ap (λ o. unwrap_or o 0) (found_in proc_cmp procs_total proc_exact e.1.counts c ordered at) in
         let has : count_in s e.0 c.0 ≡ c.1 = ap (λ (x : Clock). count_of x.counts c.0) is ∙ own in
-        elim (up record { group = e.0; view = e.1.view; proc = c.0; count = c.1 } (inr (ap (λ (x : Clock). x.view) (sym is), omega (arith, has)))) [
+        elim (up record { group = e.0; view = e.1.view; proc = c.0; count = c.1 }
+        (inr (ap (λ (x : Clock). x.view) (sym is), omega (arith, has)))) [
           | inl above ↦ absurd (omega (arith, above, same))
           | inr level ↦ le-leb c.1 (count_of (clock_of t e.0).counts c.0) level.1
         ]
 
     entry : (e : GroupNo × Clock) → clock_of s e.0 ≡ e.1 → clock_at_most e.1 (clock_of t e.0) ≡ true
     entry e is = elim (cases_lt e.1.view (view_of t e.0)) [
-      | inl lower ↦ ap (λ b. b || ((e.1.view == view_of t e.0) && counts_at_most e.1.counts (clock_of t e.0).counts)) (le-leb (suc e.1.view) (view_of t e.0) lower)
+      | inl lower ↦
+          ap (λ b. b || ((e.1.view == view_of t e.0) && counts_at_most e.1.counts (clock_of t e.0).counts))
+          (le-leb (suc e.1.view) (view_of t e.0) lower)
       | inr not_lower ↦
           let low : view_of s e.0 ≤ view_of t e.0 = below_view s t up e.0 in
           let here : view_of s e.0 ≡ e.1.view = ap (λ (x : Clock). x.view) is in
           let same : e.1.view ≡ view_of t e.0 = omega (arith, low, here, not_lower) in
-          ap (λ b. nat_lt e.1.view (view_of t e.0) || b) (λ i. eq-eqb e.1.view (view_of t e.0) same i && all_pass (λ c. nat_le c.1 (count_of (clock_of t e.0).counts c.0)) e.1.counts (counts e is same) i) ∙ or_true (nat_lt e.1.view (view_of t e.0))
+          ap (λ b. nat_lt e.1.view (view_of t e.0) || b) (λ i. eq-eqb e.1.view (view_of t e.0) same i
+          && all_pass (λ c. nat_le c.1 (count_of (clock_of t e.0).counts c.0)) e.1.counts (counts e is same) i)
+          ∙ or_true (nat_lt e.1.view (view_of t e.0))
     ]
       where
         or_true : (b : Bool) → (b || true) ≡ true

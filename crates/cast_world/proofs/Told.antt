@@ -12,7 +12,8 @@ use Rattle.cast_world.proofs.Same.{same_messages}
 use Rattle.cast_world.specs.Agreement.{delivered_of}
 use Rattle.cast_world.specs.Laws.{HoldsOfDeliveries, ListsAreInOrder, OrdersAgree, SameMessages, SameOrder}
 use Rattle.cast_world.specs.Network.{Network, start}
-use Rattle.cast_world.specs.Worlds.{AllAnswersAreLists, AllRunsAreNetworks, AllTellInOrder, AllTellOneOrder, AllTellTheSame, AllToldOrdersAgree, HoldsOfAnswers}
+use Rattle.cast_world.specs.Worlds.{AllAnswersAreLists, AllRunsAreNetworks, AllTellInOrder}
+use Rattle.cast_world.specs.Worlds.{AllTellOneOrder, AllTellTheSame, AllToldOrdersAgree, HoldsOfAnswers}
 
 pub runs_are_networks : AllRunsAreNetworks
 runs_are_networks configs config steps old new home solo starts runs =

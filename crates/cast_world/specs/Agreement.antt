@@ -1,7 +1,8 @@
 -- How those who share a view agree: who passes to the next, who is within it, what is delivered.
 -- What processes delivered of the view is said in order.
 use Rattle.std.specs.List.{flat_map, list_any}
-use Rattle.std.specs.Prelude.{◌&&◌, ◌+◌, ◌++◌, ◌==◌, Bool, Contains, List, false, filter, ℕ, ◌∷◌, ◌≡◌}
+use Rattle.std.specs.Prelude.{◌&&◌, ◌+◌, ◌++◌, ◌==◌, Bool, Contains}
+use Rattle.std.specs.Prelude.{List, false, filter, ℕ, ◌∷◌, ◌≡◌}
 use Rattle.cast_rules.specs.Acts.{Act}
 use Rattle.cast_rules.specs.Acts.Act.{Entered}
 use Rattle.cast_rules.specs.Noted.{abcasts_by}
@@ -23,15 +24,20 @@ use Rattle.cast_message.specs.declared.site.SiteFrame.TheVariants as frame
 
 -- Who shares a view
 
--- a process passes from a view to the next: it entered the one and later the other, and did not leave the group in between
+-- a process passes from a view to the next: it entered the one and later the other, and did not
+-- leave the group in between
 abbrev pub Passes : Network → Proc → GroupNo → ℕ → Type 0
 Passes w p g view =
     (before cut : CountList) × (a b c : List Act)
     × (acts_of w p ≡ a ++ Entered g view before ∷ b ++ Entered g (view + 1) cut ∷ c) × NeverLeft g b
 
--- a process is within a view: it entered it and has not left the group since, and at its site no Install of the next view waits or was completed
+-- a process is within a view: it entered it and has not left the group since, and at its site no
+-- Install of the next view waits or was completed
 pub record IsWithin (w : Network) (p : Proc) (g : GroupNo) (view : ℕ) : Type 0 where
-  pub entered : (cut : CountList) × (a b : List Act) × (acts_of w p ≡ a ++ Entered g view cut ∷ b) × NeverLeft g b
+  pub entered : (cut : CountList)
+      × (a b : List Act)
+      × (acts_of w p ≡ a ++ Entered g view cut ∷ b)
+      × NeverLeft g b
   pub current : ((w.at p.site).group g).number ≡ view
   pub waits : is_pending ((w.at p.site).group g) ≡ false
 
@@ -69,14 +75,18 @@ IsPrefix {X} xs ys = (rest : List X) × (xs ++ rest ≡ ys)
 
 -- the order of a view, as the set-order messages that a site received tell it
 abbrev pub order_at : Network → SiteNo → GroupNo → ℕ → List Entry
-order_at w s g view = known_order (flat_map (λ m. told_by m.body) (filter (λ m. is_in g view m.id) (w.at s).got))
+order_at w s g view =
+    known_order (flat_map (λ m. told_by m.body) (filter (λ m. is_in g view m.id) (w.at s).got))
 
 -- an Install of a view was sent, with these members and this end of the order of the view before
 abbrev pub WasInstalled : Network → GroupNo → ℕ → Membership → Tail → Type 0
 WasInstalled w g view members tail =
     (from to : SiteNo) × (request : ℕ) × (cut : CountList)
-    × Contains w.sent (record { from = from; to = to; frame = frame.Install g view members request cut tail })
+    × Contains w.sent
+    (record { from = from; to = to; frame = frame.Install g view members request cut tail })
 
 -- a site has a member in a view: an Install of the view names a process of the site
 abbrev pub HasMember : Network → SiteNo → GroupNo → ℕ → Type 0
-HasMember w s g view = (members : Membership) × (tail : Tail) × (p : Proc) × WasInstalled w g view members tail × Contains members.list p × (p.site ≡ s)
+HasMember w s g view =
+    (members : Membership) × (tail : Tail) × (p : Proc) × WasInstalled w g view members tail
+    × Contains members.list p × (p.site ≡ s)

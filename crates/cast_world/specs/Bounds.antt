@@ -1,5 +1,6 @@
 -- What frames can make a daemon keep, whoever sent them.
-use Rattle.std.specs.Prelude.{◌≡◌, ◌≤◌, ◌+◌, ◌*◌, ◌==◌, ◌&&◌, ℕ, Bool, false, not, List, [], length, map, filter, Contains, Some, None}
+use Rattle.std.specs.Prelude.{◌≡◌, ◌≤◌, ◌+◌, ◌*◌, ◌==◌, ◌&&◌, ℕ, Bool, false, not}
+use Rattle.std.specs.Prelude.{List, [], length, map, filter, Contains, Some, None}
 use Rattle.std.specs.List.{AllByRecursion, flat_map}
 use Rattle.cast_types.specs.declared.names.SiteNo.{SiteNo}
 use Rattle.cast_types.specs.declared.names.GroupNo.{GroupNo}
@@ -25,14 +26,18 @@ use Rattle.cast_rules.specs.Run.{IsRun}
 
 -- an Install waits in the group, and the message is one of the view that it ends that its cut names
 abbrev pub covers : MemberSide → Uid → Bool
-covers group u = elim group.pending [ Some p ↦ (u.view == group.number) && is_among entry_eq (entry_of u) (covered_entries p.cut) | None ↦ false ]
+covers group u = elim group.pending [
+  | Some p ↦ (u.view == group.number) && is_among entry_eq (entry_of u) (covered_entries p.cut)
+  | None ↦ false
+]
 
 -- the kept messages that no waiting Install covers
 abbrev pub uncovered_messages : State → List Message
 uncovered_messages s = filter (λ m. not (covers (s.group m.id.group) m.id)) s.kept
 
--- what a domain keeps of messages, where no quota of kept messages was above most: those that no waiting Install covers are at most
--- twice as many. All are of the views that their groups have, and an order has no more places than there are numbers for
+-- what a domain keeps of messages, where no quota of kept messages was above most: those that no
+-- waiting Install covers are at most twice as many. All are of the views that their groups have,
+-- and an order has no more places than there are numbers for
 pub record IsBounded (most : ℕ) (s : State) : Type 0 where
   pub few : length (uncovered_messages s) ≤ 2 * most
   pub current : (m : Message) → Contains s.kept m → m.id.view ≡ (s.group m.id.group).number
@@ -59,26 +64,34 @@ SetsAtMost most (event.Tick t) = Unit {0}
 -- so it is after any events of a domain, with any frames in the name of any site
 abbrev pub WhatIsKeptIsBounded : Type 0
 WhatIsKeptIsBounded =
-    (most : ℕ) (here : SiteNo) (config : DomainConfig) (events : List Event) (answers : List Taken) (sent : List (SiteNo × SiteFrame)) (pushed : List (ℕ × Push)) (s : State) →
-    config.quotas.held ≤ most → AllByRecursion (SetsAtMost most) events → IsRun (opening here config) events answers sent pushed s → IsBounded most s
+    (most : ℕ) (here : SiteNo) (config : DomainConfig) (events : List Event) (answers : List Taken)
+    (sent : List (SiteNo × SiteFrame)) (pushed : List (ℕ × Push)) (s : State) →
+    config.quotas.held ≤ most → AllByRecursion (SetsAtMost most) events →
+    IsRun (opening here config) events answers sent pushed s → IsBounded most s
 
 -- the messages that a waiting Install names in its cut
 abbrev pub named_by : GroupNo → MemberSide → List Uid
-named_by g group = elim group.pending [ Some p ↦ map (uid_in g group.number) (covered_entries p.cut) | None ↦ [] ]
+named_by g group = elim group.pending [
+  | Some p ↦ map (uid_in g group.number) (covered_entries p.cut)
+  | None ↦ []
+]
 
 -- those of all groups
 abbrev pub named_in : State → List Uid
 named_in s = flat_map (λ g. named_by g (s.group g)) s.config.groups
 
--- all that a domain keeps of messages, where no quota of kept messages was above most: none of them twice, and at most twice as many beside those
--- that waiting Installs name
+-- all that a domain keeps of messages, where no quota of kept messages was above most: none of them
+-- twice, and at most twice as many beside those that waiting Installs name
 pub record IsCounted (most : ℕ) (s : State) : Type 0 where
   pub once : (u : Uid) → length (filter (λ m. uid_eq m.id u) s.kept) ≤ 1
   pub total : length s.kept ≤ 2 * most + length (named_in s)
 
--- so it is after any events of a domain, with any frames in the name of any site whose parts are as their types say
+-- so it is after any events of a domain, with any frames in the name of any site whose parts are as
+-- their types say
 abbrev pub AllThatIsKeptIsCounted : Type 0
 AllThatIsKeptIsCounted =
-    (most : ℕ) (here : SiteNo) (config : DomainConfig) (events : List Event) (answers : List Taken) (sent : List (SiteNo × SiteFrame)) (pushed : List (ℕ × Push)) (s : State) →
-    config.quotas.held ≤ most → AllByRecursion (SetsAtMost most) events → AllByRecursion IsTyped events →
+    (most : ℕ) (here : SiteNo) (config : DomainConfig) (events : List Event) (answers : List Taken)
+    (sent : List (SiteNo × SiteFrame)) (pushed : List (ℕ × Push)) (s : State) →
+    config.quotas.held ≤ most → AllByRecursion (SetsAtMost most) events →
+    AllByRecursion IsTyped events →
     IsRun (opening here config) events answers sent pushed s → IsCounted most s

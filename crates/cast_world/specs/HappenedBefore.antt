@@ -20,7 +20,9 @@ StandsBefore acts x y = (a b c : List Act) × (acts ≡ a ++ x ∷ b ++ y ∷ c)
 
 -- z's sender sent y earlier, or delivered y before it sent z
 abbrev pub Edge : Network → Message → Message → Type 0
-Edge w y z = StandsBefore (acts_of w z.id.proc) (Sent y) (Sent z) ⊎ StandsBefore (acts_of w z.id.proc) (Delivered y) (Sent z)
+Edge w y z =
+    StandsBefore (acts_of w z.id.proc) (Sent y) (Sent z)
+    ⊎ StandsBefore (acts_of w z.id.proc) (Delivered y) (Sent z)
 
 -- a path of one or more edges
 pub data HappenedBefore (w : Network) : Message → Message → Type 0 where
@@ -31,10 +33,13 @@ pub data HappenedBefore (w : Network) : Message → Message → Type 0 where
 abbrev pub NeverLeft : GroupNo → List Act → Type 0
 NeverLeft g acts = Contains acts (Left g) → ⊥
 
--- x, of a view of a group, is due to a process that delivers m: the process enters that view at some point of the run; if it does so
--- before it delivers m, it stays a member from then on; and if it enters the view after that one before it delivers m, x is within the
--- cut with which it does
+-- x, of a view of a group, is due to a process that delivers m: the process enters that view at
+-- some point of the run; if it does so before it delivers m, it stays a member from then on; and if
+-- it enters the view after that one before it delivers m, x is within the cut with which it does
 pub record IsDue (acts : List Act) (x : Uid) (m : Message) : Type 0 where
   pub entered : (cut : CountList) × Contains acts (Entered x.group x.view cut)
-  pub stays : (a b c : List Act) (cut : CountList) → acts ≡ a ++ Entered x.group x.view cut ∷ b ++ Delivered m ∷ c → NeverLeft x.group b
-  pub cut : (a b c : List Act) (cut : CountList) → acts ≡ a ++ Entered x.group (x.view + 1) cut ∷ b ++ Delivered m ∷ c → IsTrue (is_within cut (entry_of x))
+  pub stays : (a b c : List Act) (cut : CountList)
+      → acts ≡ a ++ Entered x.group x.view cut ∷ b ++ Delivered m ∷ c → NeverLeft x.group b
+  pub cut : (a b c : List Act) (cut : CountList)
+      → acts ≡ a ++ Entered x.group (x.view + 1) cut ∷ b ++ Delivered m ∷ c
+      → IsTrue (is_within cut (entry_of x))

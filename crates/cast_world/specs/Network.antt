@@ -1,7 +1,8 @@
 -- Daemons of one domain at several sites, and every frame ever sent.
 -- A frame that no step takes is lost; steps may take one again, and in any order.
 use Rattle.std.specs.Option.{option_map_or}
-use Rattle.std.specs.Prelude.{◌&&◌, ◌++◌, ◌==◌, Bool, List, None, Option, Some, [], false, if◌then◌else◌, map, slice_get, true, ℕ, ◌∷◌, ◌≡◌}
+use Rattle.std.specs.Prelude.{◌&&◌, ◌++◌, ◌==◌, Bool, List, None, Option, Some, []}
+use Rattle.std.specs.Prelude.{false, if◌then◌else◌, map, slice_get, true, ℕ, ◌∷◌, ◌≡◌}
 use Rattle.cast_rules.specs.Run.{IsStep, step_in}
 use Rattle.cast_rules.specs.State.{State, opening}
 use Rattle.cast_events.specs.Events.{domain_of}
@@ -55,7 +56,8 @@ event_at w s (Sent k) = hand_frame (w.at s).config.domain s (slice_get w.sent k)
 
 -- the event of a step, where its site is one of the network's
 abbrev pub event_of : Network → Step → Option Event
-event_of w step = if is_among site_eq step.site w.sites then event_at w step.site step.what else None
+event_of w step =
+    if is_among site_eq step.site w.sites then event_at w step.site step.what else None
 
 -- a site has moved to this state, and what it sent is on the network
 abbrev pub move_site : Network → SiteNo → State → Network
@@ -68,7 +70,8 @@ move_site w s t =
 -- an event, where there is one, takes w to v: a step of the history at that site
 abbrev pub Becomes : Network → SiteNo → Option Event → Network → Type 0
 Becomes w s None v = v ≡ w
-Becomes w s (Some e) v = (answer : Taken) × (t : State) × IsStep (w.at s) e answer t × (v ≡ move_site w s t)
+Becomes w s (Some e) v =
+    (answer : Taken) × (t : State) × IsStep (w.at s) e answer t × (v ≡ move_site w s t)
 
 -- a step takes w to v
 abbrev pub Happens : Network → Step → Network → Type 0
@@ -84,7 +87,8 @@ abbrev pub AgreeOnHome : (SiteNo → DomainConfig) → Type 0
 AgreeOnHome config = (s t : SiteNo) → (config s).home ≡ (config t).home
 
 -- a list of steps leads from the start to w
-pub record Reaches (sites : List SiteNo) (config : SiteNo → DomainConfig) (steps : List Step) (w : Network) : Type 0 where
+pub record Reaches (sites : List SiteNo) (config : SiteNo → DomainConfig) (steps : List Step)
+    (w : Network) : Type 0 where
   pub home : AgreeOnHome config
   pub leads : Leads (start sites config) steps w
 

@@ -1,6 +1,7 @@
 -- How daemons, each alone at its site, and the frames that they sent stand for a network.
 use Rattle.std.specs.List.{AllZip, find, position_from}
-use Rattle.std.specs.Prelude.{◌++◌, ◌==◌, Bool, Contains, List, Option, Some, [], false, if◌then◌else◌, map, slice_get, true, ℕ, ◌∷◌, ◌≡◌}
+use Rattle.std.specs.Prelude.{◌++◌, ◌==◌, Bool, Contains, List, Option, Some, []}
+use Rattle.std.specs.Prelude.{false, if◌then◌else◌, map, slice_get, true, ℕ, ◌∷◌, ◌≡◌}
 use Rattle.cast_domain.specs.Fits.{Represents}
 use Rattle.cast_domain.specs.Records.{is_halted, number_of}
 use Rattle.cast_domain.specs.Shared.{part_of}
@@ -22,8 +23,10 @@ use Rattle.cast_types.specs.declared.names.SiteNo.{SiteNo}
 use Rattle.cast_types.specs.declared.names.Uid.{Uid}
 use Rattle.cast_world.specs.Agreement.{delivered_of}
 use Rattle.cast_world.specs.Ids.{ids_of}
-use Rattle.cast_world.specs.Laws.{HoldsInEveryNetwork, ListsAreInOrder, OrdersAgree, SameMessages, SameOrder}
-use Rattle.cast_world.specs.Network.{AgreeOnHome, Becomes, Happens, Leads, Network, Reaches, event_at, names, start}
+use Rattle.cast_world.specs.Laws.{HoldsInEveryNetwork, ListsAreInOrder}
+use Rattle.cast_world.specs.Laws.{OrdersAgree, SameMessages, SameOrder}
+use Rattle.cast_world.specs.Network.{AgreeOnHome, Becomes, Happens, Leads}
+use Rattle.cast_world.specs.Network.{Network, Reaches, event_at, names, start}
 use Rattle.cast_world.specs.declared.step.Happening.TheVariants.{Local, Sent}
 use Rattle.cast_world.specs.declared.step.Packet.{Packet}
 use Rattle.cast_world.specs.declared.step.Step.{Step}
@@ -47,7 +50,8 @@ daemon_at s daemons = find (λ d. site_eq d.site s) daemons
 abbrev pub place_named : SiteNo → List Daemon → Option ℕ
 place_named s daemons = position_from (λ d. site_eq d.site s) 0 daemons
 
--- a daemon stands for a history: the only domain of its table does, and what its processes delivered is what they delivered there
+-- a daemon stands for a history: the only domain of its table does, and what its processes
+-- delivered is what they delivered there
 pub record StandsAt (d : Daemon) (s : State) : Type 0 where
   pub domain : Domain
   pub served : domains_of d.table ≡ domain ∷ []
@@ -55,17 +59,22 @@ pub record StandsAt (d : Daemon) (s : State) : Type 0 where
   pub means : Represents domain (part_of (number_of domain) (shared_of d.table)) s
   pub placed : s.here ≡ d.site
   pub number : s.config.domain ≡ d.number
-  pub delivered : (k : ℕ) → (s.process k).delivered ≡ ids_of (record { site = d.site; serial = k }) d.delivered
+  pub delivered : (k : ℕ) →
+      (s.process k).delivered ≡ ids_of (record { site = d.site; serial = k }) d.delivered
 
--- daemons stand for a network, each for the history at its site; at other sites nothing is ever delivered
+-- daemons stand for a network, each for the history at its site; at other sites nothing is ever
+-- delivered
 pub record StandsFor (world : World) (w : Network) : Type 0 where
   pub running : has_failed world ≡ false
   pub sites : w.sites ≡ map (λ d. d.site) (daemons_of world)
   pub sent : w.sent ≡ packets_of world
-  pub daemons : (s : SiteNo) (d : Daemon) → daemon_at s (daemons_of world) ≡ Some d → StandsAt d (w.at s)
-  pub idle : (s : SiteNo) (k : ℕ) → is_among site_eq s w.sites ≡ false → ((w.at s).process k).delivered ≡ []
+  pub daemons : (s : SiteNo) (d : Daemon) → daemon_at s (daemons_of world) ≡ Some d →
+      StandsAt d (w.at s)
+  pub idle : (s : SiteNo) (k : ℕ) → is_among site_eq s w.sites ≡ false →
+      ((w.at s).process k).delivered ≡ []
 
--- a daemon at a site that serves a domain of this configuration alone, before its first event: nothing is shared, and nothing was delivered
+-- a daemon at a site that serves a domain of this configuration alone, before its first event:
+-- nothing is shared, and nothing was delivered
 pub record IsNew (site : SiteNo) (config : DomainConfig) (daemon : Daemon) : Type 0 where
   pub placed : daemon.site ≡ site
   pub number : daemon.number ≡ config.domain
@@ -76,12 +85,14 @@ pub record IsNew (site : SiteNo) (config : DomainConfig) (daemon : Daemon) : Typ
 -- each of these configurations has one domain: the one that the site has
 abbrev pub AreSolo : List Config → (SiteNo → DomainConfig) → Type 0
 AreSolo configs config =
-    (c : Config) → Contains configs c → (c.domains ≡ config c.site ∷ []) × (is_rising group_cmp (config c.site).groups ≡ true)
+    (c : Config) → Contains configs c →
+    (c.domains ≡ config c.site ∷ []) × (is_rising group_cmp (config c.site).groups ≡ true)
 
 -- daemons of such configurations stand for the network in which nothing has happened
 abbrev pub StandsAtStart : List Config → World → Type 0
 StandsAtStart configs world =
-    (config : SiteNo → DomainConfig) → AreSolo configs config → StandsFor world (start (map (λ c. c.site) configs) config)
+    (config : SiteNo → DomainConfig) → AreSolo configs config →
+    StandsFor world (start (map (λ c. c.site) configs) config)
 
 -- what a site sends is on the network
 abbrev pub sent_from : SiteNo → List (SiteNo × SiteFrame) → List Packet
@@ -91,42 +102,58 @@ sent_from s frames = map (λ f. record { from = s; to = f.0; frame = f.1 }) fram
 abbrev pub NamesAt : ℕ → Event → List Daemon → Type 0
 NamesAt place e daemons = (d : Daemon) → slice_get daemons place ≡ Some d → names d.number e ≡ true
 
--- whatever history a daemon stood for, it stands for the one that an event leads to, and what is sent is on the network
+-- whatever history a daemon stood for, it stands for the one that an event leads to, and what is
+-- sent is on the network
 abbrev pub Serves : Event → Daemon → Daemon → List Packet → List Packet → Type 0
 Serves e old new sent more =
     (s : State) → StandsAt old s →
-    (answer : Taken) × (t : State) × IsStep s e answer t × StandsAt new t × (new.site ≡ old.site) × (more ≡ sent ++ sent_from old.site t.frames)
+    (answer : Taken)
+    × (t : State)
+    × IsStep s e answer t
+    × StandsAt new t
+    × (new.site ≡ old.site)
+    × (more ≡ sent ++ sent_from old.site t.frames)
 
 -- whatever network daemons stood for, they stand for the one that an event at a site leads to
 abbrev pub ServesAt : SiteNo → Event → World → World → Type 0
-ServesAt s e old new = (w : Network) → StandsFor old w → (v : Network) × Becomes w s (Some e) v × StandsFor new v
+ServesAt s e old new =
+    (w : Network) → StandsFor old w → (v : Network) × Becomes w s (Some e) v × StandsFor new v
 
 -- that a step leads to
 abbrev pub Takes : Step → World → World → Type 0
-Takes step old new = (w : Network) → StandsFor old w → (v : Network) × Happens w step v × StandsFor new v
+Takes step old new =
+    (w : Network) → StandsFor old w → (v : Network) × Happens w step v × StandsFor new v
 
 -- that a list of steps leads to
 abbrev pub Runs : List Step → World → World → Type 0
-Runs steps old new = (w : Network) → StandsFor old w → (v : Network) × Leads w steps v × StandsFor new v
+Runs steps old new =
+    (w : Network) → StandsFor old w → (v : Network) × Leads w steps v × StandsFor new v
 
 -- what a process of a domain delivered: nothing in a domain that the network does not have
 abbrev pub delivered_at : Network → DomainNo → Proc → List Uid
-delivered_at w d p = if (w.at p.site).config.domain.0 == d.0 then ((w.at p.site).process p.serial).delivered else []
+delivered_at w d p =
+    if (w.at p.site).config.domain.0 == d.0 then ((w.at p.site).process p.serial).delivered else []
 
 -- what daemons are asked to tell of a process's deliveries is so of whatever network they stand for
 abbrev pub TellsDelivered : World → DomainNo → Proc → List Uid → Type 0
 TellsDelivered world d p ids = (w : Network) → StandsFor world w → ids ≡ delivered_at w d p
 
--- whatever network daemons stood for, they stand for the one that what happens at a site of theirs leads to
+-- whatever network daemons stood for, they stand for the one that what happens at a site of theirs
+-- leads to
 abbrev pub Acts : SiteNo → Event → World → World → Type 0
-Acts s e old new = (w : Network) → StandsFor old w → (v : Network) × Becomes w s (event_at w s (Local e)) v × StandsFor new v
+Acts s e old new =
+    (w : Network) → StandsFor old w →
+    (v : Network) × Becomes w s (event_at w s (Local e)) v × StandsFor new v
 
 abbrev pub Hands : SiteNo → ℕ → World → World → Type 0
-Hands s number old new = (w : Network) → StandsFor old w → (v : Network) × Becomes w s (event_at w s (Sent number)) v × StandsFor new v
+Hands s number old new =
+    (w : Network) → StandsFor old w →
+    (v : Network) × Becomes w s (event_at w s (Sent number)) v × StandsFor new v
 
 -- Laws
 
--- daemons of such configurations, all of one home, are run by a list of steps: they stand for a network to which these steps lead
+-- daemons of such configurations, all of one home, are run by a list of steps: they stand for a
+-- network to which these steps lead
 abbrev pub AllRunsAreNetworks : Type 0
 AllRunsAreNetworks =
     (configs : List Config) (config : SiteNo → DomainConfig) (steps : List Step) (old new : World) →
@@ -136,12 +163,14 @@ AllRunsAreNetworks =
 -- what they are asked to tell of a process's deliveries is what it delivered in this network
 abbrev pub AllAnswersAreLists : Type 0
 AllAnswersAreLists = HoldsInEveryNetwork (λ w.
-    (world : World) (p : Proc) (ids : List Uid) → StandsFor world w → TellsDelivered world (w.at p.site).config.domain p ids → ids ≡ delivered_of w p)
+    (world : World) (p : Proc) (ids : List Uid) → StandsFor world w →
+    TellsDelivered world (w.at p.site).config.domain p ids → ids ≡ delivered_of w p)
 
 -- so a law of what processes delivered holds of what daemons are asked to tell of each
 abbrev pub HoldsOfAnswers : (Network → (Proc → List Uid) → Type 0) → Type 0
 HoldsOfAnswers law = HoldsInEveryNetwork (λ w.
-    (world : World) (told : Proc → List Uid) → StandsFor world w → ((p : Proc) → TellsDelivered world (w.at p.site).config.domain p (told p)) → law w told)
+    (world : World) (told : Proc → List Uid) → StandsFor world w →
+    ((p : Proc) → TellsDelivered world (w.at p.site).config.domain p (told p)) → law w told)
 
 abbrev pub AllTellInOrder : Type 0
 AllTellInOrder = HoldsOfAnswers ListsAreInOrder

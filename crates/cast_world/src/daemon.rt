@@ -1,4 +1,5 @@
-ghost use Rattle.std.specs.Prelude.{◌≡◌, ◌++◌, ◌==◌, [], ◌∷◌, true, Ok, IfOk, OnOk, if◌then◌else◌, map};
+ghost use Rattle.std.specs.Prelude.{◌≡◌, ◌++◌, ◌==◌, [], ◌∷◌, true, Ok};
+ghost use Rattle.std.specs.Prelude.{IfOk, OnOk, if◌then◌else◌, map};
 ghost use Rattle.cast_domain.specs.Records.{number_of};
 ghost use Rattle.cast_table.specs.Tables.{InTable, IsApplied, domains_of};
 ghost use Rattle.cast_world.specs.Ids.{ids_of};
@@ -40,8 +41,8 @@ impl Daemon {
         })
     }
 
-    /// The daemon makes the step of an event that names its domain, or none, and what it sends is on the network. `NoMemory`
-    /// also where the domain halts.
+    /// The daemon makes the step of an event that names its domain, or none, and what it sends is
+    /// on the network. `NoMemory` also where the domain halts.
     pub(crate) fn serve(
         &mut self,
         alloc: Global,
@@ -69,7 +70,8 @@ impl Daemon {
         domain: DomainNo,
         process: Proc,
     ) -> Result<List<Uid>, NoMemory>
-        ensures { IfOk result (λ ids. ids ≡ (if self.now.number.0 == domain.0 then ids_of process self.now.delivered else [])) }
+        ensures { IfOk result (λ ids. ids
+            ≡ (if self.now.number.0 == domain.0 then ids_of process self.now.delivered else [])) }
     {
         if self.number == domain {
             ids_of(alloc, self.delivered.as_slice(), process)
@@ -78,11 +80,15 @@ impl Daemon {
         }
     }
 
-    // The table makes the step of an event that names its domain, or none. `NoMemory` also where the domain halts.
+    // The table makes the step of an event that names its domain, or none. `NoMemory` also where
+    // the domain halts.
     fn apply(&mut self, event: &Event, outs: &mut Outs) -> Result<Taken, NoMemory>
         requires { names self.old.number event.now ≡ true }
-        ensures applied { IfOk result (λ taken. InTable (IsApplied (Ok taken) event.now) self.old.table outs.old self.new.table outs.new) }
-        ensures rest { (self.new.site ≡ self.old.site) × (self.new.number ≡ self.old.number) × (self.new.delivered ≡ self.old.delivered) }
+        ensures applied { IfOk result (λ taken. InTable (IsApplied (Ok taken) event.now)
+            self.old.table outs.old self.new.table outs.new) }
+        ensures rest { (self.new.site ≡ self.old.site)
+            × (self.new.number ≡ self.old.number)
+            × (self.new.delivered ≡ self.old.delivered) }
     {
         match self.table.apply(event, outs) {
             Ok(taken) => Ok(taken),
@@ -115,7 +121,8 @@ fn send_all(
     frames: List<(DomainNo, SiteNo, SiteFrame)>,
     sent: &mut Vec<Packet>,
 ) -> Result<(), NoMemory>
-    ensures { OnOk result (sent.new.items ≡ sent.old.items ++ map (λ f. record { from = from; to = f.1; frame = f.2 }) frames) }
+    ensures { OnOk result (sent.new.items
+        ≡ sent.old.items ++ map (λ f. record { from = from; to = f.1; frame = f.2 }) frames) }
 {
     for (_, to, frame) in frames.into_vec() {
         sent.push(Packet { from, to, frame })?;

@@ -1,23 +1,29 @@
 ghost use Rattle.cast_world.specs.Bounds.{AllThatIsKeptIsCounted, WhatIsKeptIsBounded};
-ghost use Rattle.cast_world.specs.Laws.{AllAbcastsAreActs, AllDeliverInOneOrder, AllDeliverTheSame, AllDeliveriesWereSent, AllJoinsGoForward, AllListsAreActs, AllListsAreInOrder, AllNamesAreUnique, AllOrdersAgree, AllPassWithCut, AllPushesAreActs, AllStampsRise, AllStampsRiseStrictly, AllStartsAreKnown, AllViewsAreDecided, CausalDelivery};
-ghost use Rattle.cast_world.specs.Worlds.{AllAnswersAreLists, AllRunsAreNetworks, AllTellInOrder, AllTellOneOrder, AllTellTheSame, AllToldOrdersAgree};
+ghost use Rattle.cast_world.specs.Laws.{AllAbcastsAreActs, AllDeliverInOneOrder};
+ghost use Rattle.cast_world.specs.Laws.{AllDeliverTheSame, AllDeliveriesWereSent};
+ghost use Rattle.cast_world.specs.Laws.{AllJoinsGoForward, AllListsAreActs, AllListsAreInOrder};
+ghost use Rattle.cast_world.specs.Laws.{AllNamesAreUnique, AllOrdersAgree, AllPassWithCut};
+ghost use Rattle.cast_world.specs.Laws.{AllPushesAreActs, AllStampsRise, AllStampsRiseStrictly};
+ghost use Rattle.cast_world.specs.Laws.{AllStartsAreKnown, AllViewsAreDecided, CausalDelivery};
+ghost use Rattle.cast_world.specs.Worlds.{AllAnswersAreLists, AllRunsAreNetworks, AllTellInOrder};
+ghost use Rattle.cast_world.specs.Worlds.{AllTellOneOrder, AllTellTheSame, AllToldOrdersAgree};
 
-/// No process delivers a message before one that happened before it and is due to it: that one stands earlier among what the process did,
-/// and in the list of what it delivered.
+/// No process delivers a message before one that happened before it and is due to it: that one
+/// stands earlier among what the process did, and in the list of what it delivered.
 pub fn causal_delivery()
     ensures acts { CausalDelivery }
     ensures listed { AllListsAreInOrder }
 {}
 
-/// What a process delivered is, in order, what its acts say that it delivered; and the ABCASTs that it delivered of a view are, in order, those
-/// among what it delivered of the view.
+/// What a process delivered is, in order, what its acts say that it delivered; and the ABCASTs that
+/// it delivered of a view are, in order, those among what it delivered of the view.
 pub fn lists_are_acts()
     ensures delivered { AllListsAreActs }
     ensures abcasts { AllAbcastsAreActs }
 {}
 
-/// A stamp is at least that of each message that happened before. It covers all that the earlier one covers, and the earlier one does not
-/// cover the later message.
+/// A stamp is at least that of each message that happened before. It covers all that the earlier
+/// one covers, and the earlier one does not cover the later message.
 pub fn stamps_rise()
     ensures at_most { AllStampsRise }
     ensures strictly { AllStampsRiseStrictly }
@@ -43,46 +49,52 @@ pub fn deliveries_were_sent()
     ensures { AllDeliveriesWereSent }
 {}
 
-/// Who passes from one view to the next has delivered in it exactly the cut: each message within it, and no other of that view.
+/// Who passes from one view to the next has delivered in it exactly the cut: each message within
+/// it, and no other of that view.
 pub fn passes_with_cut()
     ensures { AllPassWithCut }
 {}
 
-/// Views agree. Who passes from one view to the next delivered the same messages of the first as all others who do, and its ABCASTs in the
-/// same order. Of two members of a view, until an Install of the next one comes to their sites, one has delivered a prefix of the view's
-/// ABCASTs that the other has delivered.
+/// Views agree. Who passes from one view to the next delivered the same messages of the first as
+/// all others who do, and its ABCASTs in the same order. Of two members of a view, until an Install
+/// of the next one comes to their sites, one has delivered a prefix of the view's ABCASTs that the
+/// other has delivered.
 pub fn views_agree()
     ensures same_messages { AllDeliverTheSame }
     ensures same_order { AllDeliverInOneOrder }
     ensures prefix { AllOrdersAgree }
 {}
 
-/// An Install lists the end of the order of the view before it. All that comes before that end is known, and known alike, at each site
-/// that has a member in that view.
+/// An Install lists the end of the order of the view before it. All that comes before that end is
+/// known, and known alike, at each site that has a member in that view.
 pub fn starts_are_known()
     ensures { AllStartsAreKnown }
 {}
 
-/// What a program is told of its process is so: it entered the view that is pushed, delivered the message that is pushed, and left the group
-/// or was put out of it where it is told that it is ejected.
+/// What a program is told of its process is so: it entered the view that is pushed, delivered the
+/// message that is pushed, and left the group or was put out of it where it is told that it is
+/// ejected.
 pub fn pushes_are_acts()
     ensures { AllPushesAreActs }
 {}
 
-/// Whoever forges frames, a domain keeps few messages. After any events, with any frames in the name of any site, those that no waiting
-/// Install covers are at most twice the greatest quota of kept messages that was in force. All that are kept are of the views that their
-/// groups have now, and an order has at most 4,000,000,000 places.
+/// Whoever forges frames, a domain keeps few messages. After any events, with any frames in the
+/// name of any site, those that no waiting Install covers are at most twice the greatest quota of
+/// kept messages that was in force. All that are kept are of the views that their groups have now,
+/// and an order has at most 4,000,000,000 places.
 ///
-/// Where the parts of frames are as their types say, no message is kept twice. So all that are kept are at most twice that quota and, for
-/// each group in which an Install waits, as many as its cut names.
+/// Where the parts of frames are as their types say, no message is kept twice. So all that are kept
+/// are at most twice that quota and, for each group in which an Install waits, as many as its cut
+/// names.
 pub fn what_is_kept_is_bounded()
     ensures uncovered { WhatIsKeptIsBounded }
     ensures counted { AllThatIsKeptIsCounted }
 {}
 
-/// What daemons tell. After any list of steps the daemons of a [`World`](crate::World), all of one home, stand for a network to which these
-/// steps lead, and what `World::delivered` answers of a process is what the process delivered in it. So what holds of deliveries holds of
-/// these answers: they are in causal order, and views agree.
+/// What daemons tell. After any list of steps the daemons of a [`World`](crate::World), all of one
+/// home, stand for a network to which these steps lead, and what `World::delivered` answers of a
+/// process is what the process delivered in it. So what holds of deliveries holds of these answers:
+/// they are in causal order, and views agree.
 pub fn answers_agree()
     ensures networks { AllRunsAreNetworks }
     ensures lists { AllAnswersAreLists }

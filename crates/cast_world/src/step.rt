@@ -13,10 +13,12 @@ pub struct Packet {
 /// What happens at a site.
 #[derive(Drop)]
 pub enum Happening {
-    /// An event of the site's own, which is no frame. A frame given as one does nothing, and neither does an event that names another domain.
+    /// An event of the site's own, which is no frame. A frame given as one does nothing, and
+    /// neither does an event that names another domain.
     Local(Event),
-    /// The frame of this number, of all that were ever sent, the first of which has number 0, comes to the site that it is addressed to.
-    /// Where there is none, or it is addressed to another site, nothing happens.
+    /// The frame of this number, of all that were ever sent, the first of which has number 0, comes
+    /// to the site that it is addressed to. Where there is none, or it is addressed to another
+    /// site, nothing happens.
     Sent(usize),
 }
 

@@ -1,6 +1,8 @@
-ghost use Rattle.std.specs.Prelude.{◌≡◌, ◌<◌, true, false, Some, IfSome, IfOk, OnOk, OnErr, length, vec_len};
+ghost use Rattle.std.specs.Prelude.{◌≡◌, ◌<◌, true, false, Some, IfSome};
+ghost use Rattle.std.specs.Prelude.{IfOk, OnOk, OnErr, length, vec_len};
 ghost use Rattle.cast_world.specs.Network.{is_local, names};
-ghost use Rattle.cast_world.specs.Worlds.{Acts, Hands, NamesAt, Runs, ServesAt, Takes, TellsDelivered, has_failed, place_named, StandsAtStart};
+ghost use Rattle.cast_world.specs.Worlds.{Acts, Hands, NamesAt, Runs, ServesAt, Takes};
+ghost use Rattle.cast_world.specs.Worlds.{TellsDelivered, has_failed, place_named, StandsAtStart};
 
 use crate::daemon::Daemon;
 use crate::step::{Happening, Packet, Step};
@@ -8,7 +10,8 @@ use cast_events::{Config, Event};
 use cast_types::{DomainNo, List, NoMemory, Proc, SiteNo, Uid};
 use std::alloc::{AllocError, Global};
 
-/// Daemons that serve one domain, each alone and at a site of its own, and the network between them, which has every frame ever sent.
+/// Daemons that serve one domain, each alone and at a site of its own, and the network between
+/// them, which has every frame ever sent.
 #[derive(Drop)]
 pub struct World {
     alloc: Global,
@@ -18,7 +21,8 @@ pub struct World {
 }
 
 impl World {
-    /// A daemon for each of these configurations, before its first event: at its site, and of its first domain. One without a domain has none.
+    /// A daemon for each of these configurations, before its first event: at its site, and of its
+    /// first domain. One without a domain has none.
     pub fn new(alloc: Global, configs: &[Config]) -> Result<Self, NoMemory>
         ensures { IfOk result (StandsAtStart configs.now) }
     {
@@ -36,7 +40,8 @@ impl World {
         })
     }
 
-    /// Takes these steps, one after another. `NoMemory` also where a domain halts; after it each later call answers it too.
+    /// Takes these steps, one after another. `NoMemory` also where a domain halts; after it each
+    /// later call answers it too.
     pub fn run(&mut self, steps: &[Step]) -> Result<(), NoMemory>
         ensures runs { OnOk result (Runs steps.now self.old self.new) }
         ensures fails { OnErr result (has_failed self.new ≡ true) }
@@ -54,8 +59,8 @@ impl World {
         }
     }
 
-    /// The messages that a process of a domain delivered, in order: none where the network has no such domain or process. `NoMemory` also
-    /// after `run` answered it.
+    /// The messages that a process of a domain delivered, in order: none where the network has no
+    /// such domain or process. `NoMemory` also after `run` answered it.
     pub fn delivered(&self, domain: DomainNo, process: Proc) -> Result<List<Uid>, NoMemory>
         ensures ids { IfOk result (TellsDelivered self.now domain process) }
         ensures failed { OnOk result (has_failed self.now ≡ false) }

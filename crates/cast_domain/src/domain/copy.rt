@@ -6,7 +6,8 @@ use crate::record::copy_groups;
 use cast_types::NoMemory;
 
 impl Domain {
-    /// A domain that keeps the same and so stands for the same histories, and is halted where this one is.
+    /// A domain that keeps the same and so stands for the same histories, and is halted where this
+    /// one is.
     pub fn copy(&self) -> Result<Self, NoMemory>
         ensures { IfOk result (λ copy. IsCopyOf self.now copy) }
     {

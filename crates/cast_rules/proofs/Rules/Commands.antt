@@ -5,7 +5,8 @@ use Rattle.std.specs.List.{fold}
 use Rattle.std.specs.Option.{option_map_or}
 use Rattle.std.proofs.lemmas.Bool.{not-false, lt-ltb}
 use Rattle.cast_types.specs.declared.names.GroupNo.{GroupNo}
-use Rattle.cast_types.specs.declared.refusal.Refusal.TheVariants.{BadFrame, NoGroup, NotMember, AlreadyMember, Flushing, OwnAbcast, HeldFull, TooLong, NotHolder}
+use Rattle.cast_types.specs.declared.refusal.Refusal.TheVariants.{BadFrame, NoGroup, NotMember, AlreadyMember}
+use Rattle.cast_types.specs.declared.refusal.Refusal.TheVariants.{Flushing, OwnAbcast, HeldFull, TooLong, NotHolder}
 use Rattle.cast_types.specs.declared.limits.TheConstants.{MAX_NUMBER, MAX_PAYLOAD}
 use Rattle.cast_types.specs.declared.names.Proc.{Proc}
 use Rattle.cast_types.specs.Names.{proc_eq}
@@ -30,8 +31,10 @@ use Rattle.cast_rules.specs.Rules.Room.{may_receive, may_order}
 use Rattle.cast_rules.specs.Rules.Sending.{may_raise, send_data}
 use Rattle.cast_rules.specs.Rules.Asking.{request}
 use Rattle.cast_rules.specs.Rules.Leaving.{Attempt, named_here, leave_at, close_session, tell}
-use Rattle.cast_rules.specs.Rules.Commands.{body_of, body_handing, join_at, join, leave, message_sent, send_own, cast_at, cast, hand_over, pass_at, pass_token, reply, requested, commanded}
-use Rattle.cast_rules.proofs.Rules.Follows.{FollowsAll, AtBoth, IsSent, sent_here, choose, IsInvariantOfAll, AlsoHolds, SamePlace, follows_itself_in_all}
+use Rattle.cast_rules.specs.Rules.Commands.{body_of, body_handing, join_at, join, leave, message_sent, send_own}
+use Rattle.cast_rules.specs.Rules.Commands.{cast_at, cast, hand_over, pass_at, pass_token, reply, requested, commanded}
+use Rattle.cast_rules.proofs.Rules.Follows.{FollowsAll, AtBoth, IsSent, sent_here, choose}
+use Rattle.cast_rules.proofs.Rules.Follows.{IsInvariantOfAll, AlsoHolds, SamePlace, follows_itself_in_all}
 use Rattle.cast_rules.proofs.Rules.Room.{receive_same, order_same}
 use Rattle.cast_rules.proofs.Rules.Sending.{sends_follow}
 use Rattle.cast_rules.proofs.Rules.Asking.{request_follows}
@@ -42,12 +45,16 @@ cast_silent : (kind : CastKind) (payload : List ℕ) → told_by (body_of kind p
 cast_silent kind.Causal payload = refl
 cast_silent kind.Atomic payload = refl
 
-module _ {R S H K : Type 0} (a : Site R H) (b : Site S K) (fits : R → S → Type 0) (stands : H → K → Type 0) (all : FollowsAll a b fits stands) where
+module _ {R S H K : Type 0} (a : Site R H) (b : Site S K) (fits : R → S → Type 0) (stands : H → K → Type 0)
+    (all : FollowsAll a b fits stands) where
   -- what is asked of a group that is none of the domain's is refused
-  placed : (r : R) (s : S) → fits r s → (g : GroupNo) (x : H → Attempt R) (y : K → Attempt S) → ((h : H) (l : K) → stands h l → b.place s g ≡ Some l → Attempts fits (x h) (y l)) → Attempts fits (option_map_or x (a.place r g) (r, Some NoGroup)) (option_map_or y (b.place s g) (s, Some NoGroup))
+  placed : (r : R) (s : S) → fits r s → (g : GroupNo) (x : H → Attempt R) (y : K → Attempt S) →
+      ((h : H) (l : K) → stands h l → b.place s g ≡ Some l → Attempts fits (x h) (y l)) →
+      Attempts fits (option_map_or x (a.place r g) (r, Some NoGroup)) (option_map_or y (b.place s g) (s, Some NoGroup))
   placed r s f g x y there = by_place (a.place r g) (b.place s g) (all.follows.place r s f g) refl
     where
-      by_place : (o : Option H) (p : Option K) → AtBoth stands o p → b.place s g ≡ p → Attempts fits (option_map_or x o (r, Some NoGroup)) (option_map_or y p (s, Some NoGroup))
+      by_place : (o : Option H) (p : Option K) → AtBoth stands o p → b.place s g ≡ p →
+          Attempts fits (option_map_or x o (r, Some NoGroup)) (option_map_or y p (s, Some NoGroup))
       by_place (Some h) (Some l) at is = there h l at is
       by_place (Some h) None at is = absurd at
       by_place None (Some l) at is = absurd at
@@ -63,22 +70,33 @@ module _ {R S H K : Type 0} (a : Site R H) (b : Site S K) (fits : R → S → Ty
           let here = all.follows.here r s f in
           let number : ℕ = (b.group s l).asked + 1 in
           let heard : ℕ = view_of (b.time s k) g in
-          let joins = request_follows a b fits stands all (a.note_joining r k g number heard) (b.note_joining s k g number heard) (all.note_joining r s f k given g l there number heard) h l at change.Join (named_here b s k) in
-          let same : request a (a.note_joining r k g ((a.group r h).asked + 1) (view_of (a.time r k) g)) h change.Join (named_here a r k) ≡ request a (a.note_joining r k g number heard) h change.Join (named_here b s k) =
-          (λ j. request a (a.note_joining r k g ((group j).asked + 1) (view_of (time j) g)) h change.Join (record { site = here j; serial = k })) in
-          choose (Attempts fits) (not (is_outside (a.standing r k g))) (not (is_outside (b.standing s k g))) (r, Some AlreadyMember) _ (s, Some AlreadyMember) _
+          let joins =
+          request_follows a b fits stands all (a.note_joining r k g number heard) (b.note_joining s k g number heard)
+          (all.note_joining r s f k given g l there number heard) h l at change.Join (named_here b s k) in
+          let same : request a (a.note_joining r k g ((a.group r h).asked + 1) (view_of (a.time r k) g)) h change.Join (named_here a r k)
+          ≡ request a (a.note_joining r k g number heard) h change.Join (named_here b s k) =
+          (λ j. request a (a.note_joining r k g ((group j).asked + 1) (view_of (time j) g))
+          h change.Join (record { site = here j; serial = k })) in
+          choose (Attempts fits) (not (is_outside (a.standing r k g))) (not (is_outside (b.standing s k g))) (r, Some AlreadyMember)
+          _ (s, Some AlreadyMember) _
           (ap (λ v. not (is_outside v)) (all.standing r s f k g))
           (λ _. (f, refl))
-          (λ _. choose (Attempts fits) ((a.group r h).asked == MAX_NUMBER) ((b.group s l).asked == MAX_NUMBER) (r, Some HeldFull) _ (s, Some HeldFull) _
+          (λ _. choose (Attempts fits) ((a.group r h).asked == MAX_NUMBER) ((b.group s l).asked == MAX_NUMBER) (r, Some HeldFull)
+          _ (s, Some HeldFull) _
           (ap (λ (x : MemberSide). x.asked == MAX_NUMBER) group)
           (λ _. (f, refl))
-          (λ _. (subst (λ x. fits x (request b (b.note_joining s k g number heard) l change.Join (named_here b s k))) (sym same) joins, refl)))
+          (λ _. (
+            subst (λ x. fits x (request b (b.note_joining s k g number heard) l change.Join (named_here b s k))) (sym same) joins,
+            refl,
+          )))
 
   leave_follows : (r : R) (s : S) → fits r s → (k : ℕ) (g : GroupNo) → Attempts fits (leave a r k g) (leave b s k g)
-  leave_follows r s f k g = placed r s f g (leave_at a r k g) (leave_at b s k g) (λ h l at _. leave_at_follows a b fits stands all r s f k g h l at)
+  leave_follows r s f k g =
+      placed r s f g (leave_at a r k g) (leave_at b s k g) (λ h l at _. leave_at_follows a b fits stands all r s f k g h l at)
 
   -- a message is sent
-  all_sent : (r : R) (s : S) → fits r s → (h : H) (l : K) → stands h l → (k : ℕ) (g : GroupNo) (content : Body) → IsSent b s l k g content → fits (send_own a r k (message_sent a r k g h content)) (send_own b s k (message_sent b s k g l content))
+  all_sent : (r : R) (s : S) → fits r s → (h : H) (l : K) → stands h l → (k : ℕ) (g : GroupNo) (content : Body) → IsSent b s l k g content →
+      fits (send_own a r k (message_sent a r k g h content)) (send_own b s k (message_sent b s k g l content))
   all_sent r s f h l at k g content sent =
       let t : R = sent_here a r h k g content in
       let u : S = sent_here b s l k g content in
@@ -96,19 +114,24 @@ module _ {R S H K : Type 0} (a : Site R H) (b : Site S K) (fits : R → S → Ty
       let others : a.others t g ≡ b.others u g = all.follows.others t u now g in
       let raised = bump_raises (b.time s k) g (named_here b s k) in
       subst (λ x. fits x (fold (send_data b id) u (b.others u g))) (λ j. fold (send_data a (sym same j)) t (sym others j))
-      (sends_follow a b fits stands all.follows id (lt-ltb 0 id.count (omega (arith, raised))) (b.others u g) t u now (all.sent s l k g content sent))
+      (sends_follow a b fits stands all.follows id (lt-ltb 0 id.count (omega (arith, raised))) (b.others u g)
+      t u now (all.sent s l k g content sent))
 
-  cast_follows : (r : R) (s : S) → fits r s → (k : ℕ) → b.is_open s k ≡ true → (g : GroupNo) (kind : CastKind) (payload : List ℕ) → Attempts fits (cast a r k g kind payload) (cast b s k g kind payload)
+  cast_follows : (r : R) (s : S) → fits r s → (k : ℕ) → b.is_open s k ≡ true → (g : GroupNo) (kind : CastKind) (payload : List ℕ) →
+      Attempts fits (cast a r k g kind payload) (cast b s k g kind payload)
   cast_follows r s f k given g kind payload = placed r s f g (cast_at a r k g kind payload) (cast_at b s k g kind payload) at_place
     where
-      at_place : (h : H) (l : K) → stands h l → b.place s g ≡ Some l → Attempts fits (cast_at a r k g kind payload h) (cast_at b s k g kind payload l)
+      at_place : (h : H) (l : K) → stands h l → b.place s g ≡ Some l →
+          Attempts fits (cast_at a r k g kind payload h) (cast_at b s k g kind payload l)
       at_place h l at there =
           let here = all.follows.here r s f in
           let time = all.time r s f k given in
           let standing = all.standing r s f k g in
-          choose (Attempts fits) (nat_lt MAX_PAYLOAD (length payload)) (nat_lt MAX_PAYLOAD (length payload)) (r, Some TooLong) _ (s, Some TooLong) _ refl
+          choose (Attempts fits) (nat_lt MAX_PAYLOAD (length payload)) (nat_lt MAX_PAYLOAD (length payload)) (r, Some TooLong)
+          _ (s, Some TooLong) _ refl
           (λ _. (f, refl))
-          (λ _. choose (Attempts fits) (not (is_member (a.standing r k g))) (not (is_member (b.standing s k g))) (r, Some NotMember) _ (s, Some NotMember) _
+          (λ _. choose (Attempts fits) (not (is_member (a.standing r k g))) (not (is_member (b.standing s k g))) (r, Some NotMember)
+          _ (s, Some NotMember) _
           (ap (λ v. not (is_member v)) standing)
           (λ _. (f, refl))
           (λ member. choose (Attempts fits) (a.group r h).frozen (b.group s l).frozen (r, Some Flushing) _ (s, Some Flushing) _
@@ -120,20 +143,30 @@ module _ {R S H K : Type 0} (a : Site R H) (b : Site S K) (fits : R → S → Ty
           (λ _. choose (Attempts fits) (not (may_receive a r)) (not (may_receive b s)) (r, Some HeldFull) _ (s, Some HeldFull) _
           (ap not (receive_same a b fits stands all r s f))
           (λ _. (f, refl))
-          (λ _. choose (Attempts fits) (not (may_raise (a.time r k) g (named_here a r k))) (not (may_raise (b.time s k) g (named_here b s k))) (r, Some HeldFull) _ (s, Some HeldFull) _
+          (λ _. choose (Attempts fits) (not (may_raise (a.time r k) g (named_here a r k)))
+          (not (may_raise (b.time s k) g (named_here b s k))) (r, Some HeldFull) _ (s, Some HeldFull) _
           (λ j. not (may_raise (time j) g (record { site = here j; serial = k })))
           (λ _. (f, refl))
           (λ raises. (
             all.note_cast _ _ (all_sent r s f h l at k g (body_of kind payload)
-                (record { given = given; at = there; member = not-false (is_member (b.standing s k g)) member; unfrozen = unfrozen; raises = not-false (may_raise (b.time s k) g (named_here b s k)) raises; silent = cast_silent kind payload })),
+                (record {
+                  given = given;
+                  at = there;
+                  member = not-false (is_member (b.standing s k g)) member;
+                  unfrozen = unfrozen;
+                  raises = not-false (may_raise (b.time s k) g (named_here b s k)) raises;
+                  silent = cast_silent kind payload;
+                })),
             refl,
           )))))))
 
-  pass_follows : (r : R) (s : S) → fits r s → (k : ℕ) → b.is_open s k ≡ true → (g : GroupNo) (to : Proc) → Attempts fits (pass_token a r k g to) (pass_token b s k g to)
+  pass_follows : (r : R) (s : S) → fits r s → (k : ℕ) → b.is_open s k ≡ true → (g : GroupNo) (to : Proc) →
+      Attempts fits (pass_token a r k g to) (pass_token b s k g to)
   pass_follows r s f k given g to = placed r s f g (pass_at a r k g to) (pass_at b s k g to) at_place
     where
       -- what is sent there is sent here
-      handed : (h : H) (l : K) → stands h l → (place : ℕ) → IsSent b s l k g (body_handing place to) → Attempts fits (hand_over a r k g to h place) (hand_over b s k g to l place)
+      handed : (h : H) (l : K) → stands h l → (place : ℕ) → IsSent b s l k g (body_handing place to) →
+          Attempts fits (hand_over a r k g to h place) (hand_over b s k g to l place)
       handed h l at place sent =
           choose (Attempts fits) (proc_eq to (named_here a r k)) (proc_eq to (named_here b s k)) (r, None) _ (s, None) _
           (λ j. proc_eq to (record { site = all.follows.here r s f j; serial = k }))
@@ -145,10 +178,12 @@ module _ {R S H K : Type 0} (a : Site R H) (b : Site S K) (fits : R → S → Ty
           let here = all.follows.here r s f in
           let time = all.time r s f k given in
           let group = all.follows.group r s f h l at in
-          choose (Attempts fits) (not (is_member (a.standing r k g))) (not (is_member (b.standing s k g))) (r, Some NotMember) _ (s, Some NotMember) _
+          choose (Attempts fits) (not (is_member (a.standing r k g))) (not (is_member (b.standing s k g))) (r, Some NotMember)
+          _ (s, Some NotMember) _
           (ap (λ v. not (is_member v)) (all.standing r s f k g))
           (λ _. (f, refl))
-          (λ member. choose (Attempts fits) (not (is_among proc_eq to (members_of (a.group r h)))) (not (is_among proc_eq to (members_of (b.group s l)))) (r, Some NotMember) _ (s, Some NotMember) _
+          (λ member. choose (Attempts fits) (not (is_among proc_eq to (members_of (a.group r h))))
+          (not (is_among proc_eq to (members_of (b.group s l)))) (r, Some NotMember) _ (s, Some NotMember) _
           (ap (λ (x : MemberSide). not (is_among proc_eq to (members_of x))) group)
           (λ _. (f, refl))
           (λ _. choose (Attempts fits) (a.group r h).frozen (b.group s l).frozen (r, Some Flushing) _ (s, Some Flushing) _
@@ -163,24 +198,41 @@ module _ {R S H K : Type 0} (a : Site R H) (b : Site S K) (fits : R → S → Ty
           (λ _. choose (Attempts fits) (not (may_order a r)) (not (may_order b s)) (r, Some HeldFull) _ (s, Some HeldFull) _
           (ap not (order_same a b fits stands all r s f))
           (λ _. (f, refl))
-          (λ _. choose (Attempts fits) (not (may_raise (a.time r k) g (named_here a r k))) (not (may_raise (b.time s k) g (named_here b s k))) (r, Some HeldFull) _ (s, Some HeldFull) _
+          (λ _. choose (Attempts fits) (not (may_raise (a.time r k) g (named_here a r k)))
+          (not (may_raise (b.time s k) g (named_here b s k))) (r, Some HeldFull) _ (s, Some HeldFull) _
           (λ j. not (may_raise (time j) g (record { site = here j; serial = k })))
           (λ _. (f, refl))
-          (λ raises. subst (λ o. Attempts fits (option_map_or (hand_over a r k g to h) o (r, Some HeldFull)) (option_map_or (hand_over b s k g to l) (b.place_to_pass s l k) (s, Some HeldFull)))
+          (λ raises. subst (λ o. Attempts fits (option_map_or (hand_over a r k g to h) o (r, Some HeldFull))
+          (option_map_or (hand_over b s k g to l) (b.place_to_pass s l k) (s, Some HeldFull)))
           (sym (all.place_to_pass r s f h l at k g there (not-false (is_member (b.standing s k g)) member) unfrozen))
-          (elim (b.place_to_pass s l k) as (λ o. Attempts fits (option_map_or (hand_over a r k g to h) o (r, Some HeldFull)) (option_map_or (hand_over b s k g to l) o (s, Some HeldFull))) [
-            | Some place ↦ handed h l at place (record { given = given; at = there; member = not-false (is_member (b.standing s k g)) member; unfrozen = unfrozen; raises = not-false (may_raise (b.time s k) g (named_here b s k)) raises; silent = refl })
+          (elim (b.place_to_pass s l k) as (λ o. Attempts fits (option_map_or (hand_over a r k g to h) o (r, Some HeldFull))
+          (option_map_or (hand_over b s k g to l) o (s, Some HeldFull))) [
+            | Some place ↦
+                handed h l at place (record {
+                  given = given;
+                  at = there;
+                  member = not-false (is_member (b.standing s k g))
+                      member;
+                  unfrozen = unfrozen;
+                  raises = not-false (may_raise (b.time s k) g (named_here b s k)) raises;
+                  silent = refl;
+                })
             | None ↦ (f, refl)
           ]))))))))
 
   replied : (k tag : ℕ) (x : Attempt R) (y : Attempt S) → Attempts fits x y → fits (reply a x k tag) (reply b y k tag)
-  replied k tag x y same = subst (λ o. fits (tell a x.0 k (push.Reply tag o)) (reply b y k tag)) (sym same.1) (tell_follows a b fits stands all x.0 y.0 same.0 k (push.Reply tag y.1))
+  replied k tag x y same =
+      subst (λ o. fits (tell a x.0 k (push.Reply tag o)) (reply b y k tag)) (sym same.1)
+      (tell_follows a b fits stands all x.0 y.0 same.0 k (push.Reply tag y.1))
 
-  requested_follows : (r : R) (s : S) → fits r s → (k : ℕ) → b.is_open s k ≡ true → (q : Request) → fits (requested a r k q) (requested b s k q)
+  requested_follows : (r : R) (s : S) → fits r s → (k : ℕ) → b.is_open s k ≡ true → (q : Request) →
+      fits (requested a r k q) (requested b s k q)
   requested_follows r s f k given (Join tag g) = replied k tag (join a r k g) (join b s k g) (join_follows r s f k given g)
   requested_follows r s f k given (Leave tag g) = replied k tag (leave a r k g) (leave b s k g) (leave_follows r s f k g)
-  requested_follows r s f k given (Cast tag g kind payload) = replied k tag (cast a r k g kind payload) (cast b s k g kind payload) (cast_follows r s f k given g kind payload)
-  requested_follows r s f k given (Pass tag g to) = replied k tag (pass_token a r k g to) (pass_token b s k g to) (pass_follows r s f k given g to)
+  requested_follows r s f k given (Cast tag g kind payload) =
+      replied k tag (cast a r k g kind payload) (cast b s k g kind payload) (cast_follows r s f k given g kind payload)
+  requested_follows r s f k given (Pass tag g to) =
+      replied k tag (pass_token a r k g to) (pass_token b s k g to) (pass_follows r s f k given g to)
 
   pub commanded_follows : (r : R) (s : S) → fits r s → (k : ℕ) (c : Command) → fits (commanded a r k c) (commanded b s k c)
   commanded_follows r s f k (command.Request q) =
@@ -193,5 +245,7 @@ module _ {R S H K : Type 0} (a : Site R H) (b : Site S K) (fits : R → S → Ty
       (λ _. f)
 
 -- an invariant of the moves holds after each command
-pub commanded_keeps : {S H : Type 0} (d : Site S H) (holds : S → Type 0) → IsInvariantOfAll d holds → (s : S) → holds s → (k : ℕ) (c : Command) → holds (commanded d s k c)
-commanded_keeps d holds keeps s l k c = (commanded_follows d d (AlsoHolds holds) SamePlace (follows_itself_in_all d holds keeps) s s (refl, l) k c).1
+pub commanded_keeps : {S H : Type 0} (d : Site S H) (holds : S → Type 0) → IsInvariantOfAll d holds → (s : S) → holds s →
+    (k : ℕ) (c : Command) → holds (commanded d s k c)
+commanded_keeps d holds keeps s l k c =
+    (commanded_follows d d (AlsoHolds holds) SamePlace (follows_itself_in_all d holds keeps) s s (refl, l) k c).1

@@ -74,8 +74,10 @@ pub record Follows {R S H K : Type 0} (a : Site R H) (b : Site S K) (fits : R �
   pub group : (r : R) (s : S) → fits r s → (h : H) (k : K) → stands h k → a.group r h ≡ b.group s k
   pub home : (r : R) (s : S) → fits r s → (h : H) (k : K) → stands h k → a.home r h ≡ b.home s k
   pub others : (r : R) (s : S) → fits r s → (g : GroupNo) → a.others r g ≡ b.others s g
-  pub stable_upto : (r : R) (s : S) → fits r s → (u : Uid) → asked s u → (b.others s u.group ≡ [] → ⊥) → a.stable_upto r u ≡ b.stable_upto s u
-  pub has_acked : (r : R) (s : S) → fits r s → (u : Uid) → asked s u → nat_lt 0 u.count ≡ true → (to : SiteNo) → a.has_acked r u to ≡ b.has_acked s u to
+  pub stable_upto : (r : R) (s : S) → fits r s → (u : Uid) → asked s u → (b.others s u.group ≡ [] → ⊥) →
+      a.stable_upto r u ≡ b.stable_upto s u
+  pub has_acked : (r : R) (s : S) → fits r s → (u : Uid) → asked s u → nat_lt 0 u.count ≡ true → (to : SiteNo) →
+      a.has_acked r u to ≡ b.has_acked s u to
   pub message : (r : R) (s : S) → fits r s → (u : Uid) → a.message r u ≡ b.message s u
   pub is_owed : (r : R) (s : S) → fits r s → (key : OwedKey) → a.is_owed r key ≡ b.is_owed s key
   pub due : (r : R) (s : S) → fits r s → a.due r ≡ b.due s
@@ -135,57 +137,77 @@ pub record FollowsAll {R S H K : Type 0} (a : Site R H) (b : Site S K) (fits : R
   pub follows : Follows a b fits stands
   -- the rules ask of messages whose acknowledgements are used, and of those that local processes send
   pub used : (s : S) (k : K) (from : SiteNo) (u : Uid) → b.place s u.group ≡ Some k → is_used_ack b s k from u ≡ true → follows.asked s u
-  pub sent : (s : S) (l : K) (k : ℕ) (g : GroupNo) (content : Body) → IsSent b s l k g content → follows.asked (sent_here b s l k g content) (message_sent b s k g l content).id
+  pub sent : (s : S) (l : K) (k : ℕ) (g : GroupNo) (content : Body) → IsSent b s l k g content →
+      follows.asked (sent_here b s l k g content) (message_sent b s k g l content).id
   pub name : (r : R) (s : S) → fits r s → (h : H) (k : K) → stands h k → a.name r h ≡ b.name s k
   pub places : (r : R) (s : S) → fits r s → AllAt stands (a.places r) (b.places s)
   pub quotas : (r : R) (s : S) → fits r s → a.quotas r ≡ b.quotas s
   pub held : (r : R) (s : S) → fits r s → a.held r ≡ b.held s
-  pub is_received : (r : R) (s : S) → fits r s → (k : K) (from : SiteNo) (m : Message) → IsTaken b s k from m → a.is_received r m.id ≡ b.is_received s m.id
-  pub is_stable : (r : R) (s : S) → fits r s → (k : K) (from : SiteNo) (m : Message) → IsTaken b s k from m → b.is_received s m.id ≡ false → a.is_stable (a.receive r m) m.id ≡ b.is_stable (b.receive s m) m.id
+  pub is_received : (r : R) (s : S) → fits r s → (k : K) (from : SiteNo) (m : Message) → IsTaken b s k from m →
+      a.is_received r m.id ≡ b.is_received s m.id
+  pub is_stable : (r : R) (s : S) → fits r s → (k : K) (from : SiteNo) (m : Message) → IsTaken b s k from m → b.is_received s m.id ≡ false →
+      a.is_stable (a.receive r m) m.id ≡ b.is_stable (b.receive s m) m.id
   pub is_open : (r : R) (s : S) → fits r s → (k : ℕ) → a.is_open r k ≡ b.is_open s k
   pub is_full : (r : R) (s : S) → fits r s → (k : ℕ) → a.is_full r k ≡ b.is_full s k
   pub members : (r : R) (s : S) → fits r s → (h : H) (k : K) → stands h k → a.members r h ≡ b.members s k
-  pub put_out : (r : R) (s : S) → fits r s → (h : H) (k : K) → stands h k → (skips : Bool) (members : Membership) → a.put_out r h skips members ≡ b.put_out s k skips members
+  pub put_out : (r : R) (s : S) → fits r s → (h : H) (k : K) → stands h k → (skips : Bool) (members : Membership) →
+      a.put_out r h skips members ≡ b.put_out s k skips members
   pub standing : (r : R) (s : S) → fits r s → (k : ℕ) (g : GroupNo) → a.standing r k g ≡ b.standing s k g
   pub time : (r : R) (s : S) → fits r s → (k : ℕ) → b.is_open s k ≡ true → a.time r k ≡ b.time s k
   pub awaits_own : (r : R) (s : S) → fits r s → (k : ℕ) → b.is_open s k ≡ true → a.awaits_own r k ≡ b.awaits_own s k
   pub holds : (r : R) (s : S) → fits r s → (h : H) (l : K) → stands h l → (k : ℕ) → a.holds r h k ≡ b.holds s l k
-  pub place_to_pass : (r : R) (s : S) → fits r s → (h : H) (l : K) → stands h l → (k : ℕ) (g : GroupNo) → b.place s g ≡ Some l → is_member (b.standing s k g) ≡ true → (b.group s l).frozen ≡ false → a.place_to_pass r h k ≡ b.place_to_pass s l k
-  pub push : (r : R) (s : S) → fits r s → (k : ℕ) → b.is_open s k ≡ true → b.is_full s k ≡ false → (p : Push) → fits (a.push r k p) (b.push s k p)
+  pub place_to_pass : (r : R) (s : S) → fits r s → (h : H) (l : K) → stands h l → (k : ℕ) (g : GroupNo) → b.place s g ≡ Some l →
+      is_member (b.standing s k g) ≡ true → (b.group s l).frozen ≡ false → a.place_to_pass r h k ≡ b.place_to_pass s l k
+  pub push : (r : R) (s : S) → fits r s → (k : ℕ) → b.is_open s k ≡ true → b.is_full s k ≡ false → (p : Push) →
+      fits (a.push r k p) (b.push s k p)
   pub note_cast : (r : R) (s : S) → fits r s → fits (a.note_cast r) (b.note_cast s)
-  pub note_joining : (r : R) (s : S) → fits r s → (k : ℕ) → b.is_open s k ≡ true → (g : GroupNo) (h : K) → b.place s g ≡ Some h → (number heard : ℕ) → fits (a.note_joining r k g number heard) (b.note_joining s k g number heard)
-  pub note_outside : (r : R) (s : S) → fits r s → (k : ℕ) (g : GroupNo) → is_outside (b.standing s k g) ≡ false → fits (a.note_outside r k g) (b.note_outside s k g)
-  pub sends : (r : R) (s : S) → fits r s → (h : H) (l : K) → stands h l → (k : ℕ) (g : GroupNo) (content : Body) → IsSent b s l k g content → fits (sent_here a r h k g content) (sent_here b s l k g content)
-  pub receive : (r : R) (s : S) → fits r s → (k : K) (from : SiteNo) (m : Message) → IsTaken b s k from m → b.is_received s m.id ≡ false → fits (a.receive r m) (b.receive s m)
+  pub note_joining : (r : R) (s : S) → fits r s → (k : ℕ) → b.is_open s k ≡ true → (g : GroupNo) (h : K) → b.place s g ≡ Some h →
+      (number heard : ℕ) → fits (a.note_joining r k g number heard) (b.note_joining s k g number heard)
+  pub note_outside : (r : R) (s : S) → fits r s → (k : ℕ) (g : GroupNo) → is_outside (b.standing s k g) ≡ false →
+      fits (a.note_outside r k g) (b.note_outside s k g)
+  pub sends : (r : R) (s : S) → fits r s → (h : H) (l : K) → stands h l → (k : ℕ) (g : GroupNo) (content : Body) →
+      IsSent b s l k g content → fits (sent_here a r h k g content) (sent_here b s l k g content)
+  pub receive : (r : R) (s : S) → fits r s → (k : K) (from : SiteNo) (m : Message) → IsTaken b s k from m → b.is_received s m.id ≡ false →
+      fits (a.receive r m) (b.receive s m)
   pub brings : (r : R) (s : S) → fits r s → (k : K) (m : Message) → IsBrought b s k m → fits (a.receive r m) (b.receive s m)
   pub report : (r : R) (s : S) → fits r s → (h : H) (k : K) → stands h k → is_pending (b.group s k) ≡ false → a.report r h ≡ b.report s k
   pub freeze : (r : R) (s : S) → fits r s → (h : H) (k : K) → stands h k → fits (a.freeze r h) (b.freeze s k)
-  pub pend : (r : R) (s : S) → fits r s → (h : H) (k : K) → stands h k → (p : Pending) (tail : Tail) → IsPended b s k p → fits (a.pend r h p tail) (b.pend s k p tail)
-  pub note_request : (r : R) (s : S) → fits r s → (h : H) (k : K) → stands h k → (what : Change) (p : Proc) → fits (a.note_request r h what p) (b.note_request s k what p)
+  pub pend : (r : R) (s : S) → fits r s → (h : H) (k : K) → stands h k → (p : Pending) (tail : Tail) → IsPended b s k p →
+      fits (a.pend r h p tail) (b.pend s k p tail)
+  pub note_request : (r : R) (s : S) → fits r s → (h : H) (k : K) → stands h k → (what : Change) (p : Proc) →
+      fits (a.note_request r h what p) (b.note_request s k what p)
   pub note_answer : (r : R) (s : S) → fits r s → (h : H) (k : K) → stands h k → fits (a.note_answer r h) (b.note_answer s k)
-  pub move_home : (r : R) (s : S) → fits r s → (h : H) (k : K) → stands h k → (move : HomeMove) → fits (a.move_home r h move) (b.move_home s k move)
-  pub enter_view : (r : R) (s : S) → fits r s → (h : H) (k : K) → stands h k → (g : GroupNo) (skips : Bool) (n : ℕ) (members : Membership) (request : ℕ) (cut : CountList) → IsEntered b s k g n members → fits (a.enter_view r h skips n members request cut) (b.enter_view s k skips n members request cut)
+  pub move_home : (r : R) (s : S) → fits r s → (h : H) (k : K) → stands h k → (move : HomeMove) →
+      fits (a.move_home r h move) (b.move_home s k move)
+  pub enter_view : (r : R) (s : S) → fits r s → (h : H) (k : K) → stands h k →
+      (g : GroupNo) (skips : Bool) (n : ℕ) (members : Membership) (request : ℕ) (cut : CountList) → IsEntered b s k g n members →
+      fits (a.enter_view r h skips n members request cut) (b.enter_view s k skips n members request cut)
   pub release_ended : (r : R) (s : S) → fits r s → (h : H) (k : K) → stands h k → fits (a.release_ended r h) (b.release_ended s k)
   pub is_gone : (r : R) (s : S) → fits r s → (k : ℕ) → a.is_gone r k ≡ b.is_gone s k
-  pub close : (r : R) (s : S) → fits r s → (k : ℕ) → b.is_open s k ≡ true → (refusal : Refusal) → fits (a.close r k refusal) (b.close s k refusal)
+  pub close : (r : R) (s : S) → fits r s → (k : ℕ) → b.is_open s k ≡ true → (refusal : Refusal) →
+      fits (a.close r k refusal) (b.close s k refusal)
 
 -- What rules are made of
 
 module _ {R S : Type 0} (fits : R → S → Type 0) where
   -- the same choice on both sides
-  pub choose : (c e : Bool) (x y : R) (u v : S) → c ≡ e → (e ≡ true → fits x u) → (e ≡ false → fits y v) → fits (if c then x else y) (if e then u else v)
+  pub choose : (c e : Bool) (x y : R) (u v : S) → c ≡ e → (e ≡ true → fits x u) → (e ≡ false → fits y v) →
+      fits (if c then x else y) (if e then u else v)
   choose true true x y u v same then_fits else_fits = then_fits refl
   choose true false x y u v same then_fits else_fits = absurd (false≢true (sym same))
   choose false true x y u v same then_fits else_fits = absurd (false≢true same)
   choose false false x y u v same then_fits else_fits = else_fits refl
 
   -- the same for each item in turn
-  pub each : {X : Type 0} (f : R → X → R) (g : S → X → S) → ((r : R) (s : S) (x : X) → fits r s → fits (f r x) (g s x)) → (xs : List X) (r : R) (s : S) → fits r s → fits (fold f r xs) (fold g s xs)
+  pub each : {X : Type 0} (f : R → X → R) (g : S → X → S) → ((r : R) (s : S) (x : X) → fits r s → fits (f r x) (g s x)) →
+      (xs : List X) (r : R) (s : S) → fits r s → fits (fold f r xs) (fold g s xs)
   each f g step [] r s h = h
   each f g step (x ∷ xs) r s h = each f g step xs (f r x) (g s x) (step r s x h)
 
   -- and for each place in turn
-  pub each_place : {H K : Type 0} (stands : H → K → Type 0) (f : R → H → R) (g : S → K → S) → ((r : R) (s : S) → fits r s → (h : H) (k : K) → stands h k → fits (f r h) (g s k)) → (hs : List H) (ks : List K) → AllAt stands hs ks → (r : R) (s : S) → fits r s → fits (fold f r hs) (fold g s ks)
+  pub each_place : {H K : Type 0} (stands : H → K → Type 0) (f : R → H → R) (g : S → K → S) →
+      ((r : R) (s : S) → fits r s → (h : H) (k : K) → stands h k → fits (f r h) (g s k)) → (hs : List H) (ks : List K) →
+      AllAt stands hs ks → (r : R) (s : S) → fits r s → fits (fold f r hs) (fold g s ks)
   each_place stands f g step [] [] at r s h = h
   each_place stands f g step [] (k ∷ ks) at r s h = absurd at
   each_place stands f g step (x ∷ hs) [] at r s h = absurd at
@@ -198,9 +220,11 @@ pub record IsInvariantOfAll {S H : Type 0} (d : Site S H) (holds : S → Type 0)
   pub keeps : IsInvariant d holds
   pub push : (s : S) → holds s → (k : ℕ) → d.is_open s k ≡ true → d.is_full s k ≡ false → (p : Push) → holds (d.push s k p)
   pub note_cast : (s : S) → holds s → holds (d.note_cast s)
-  pub note_joining : (s : S) → holds s → (k : ℕ) → d.is_open s k ≡ true → (g : GroupNo) (h : H) → d.place s g ≡ Some h → (number heard : ℕ) → holds (d.note_joining s k g number heard)
+  pub note_joining : (s : S) → holds s → (k : ℕ) → d.is_open s k ≡ true → (g : GroupNo) (h : H) → d.place s g ≡ Some h →
+      (number heard : ℕ) → holds (d.note_joining s k g number heard)
   pub note_outside : (s : S) → holds s → (k : ℕ) (g : GroupNo) → is_outside (d.standing s k g) ≡ false → holds (d.note_outside s k g)
-  pub sends : (s : S) → holds s → (h : H) (k : ℕ) (g : GroupNo) (content : Body) → IsSent d s h k g content → holds (sent_here d s h k g content)
+  pub sends : (s : S) → holds s → (h : H) (k : ℕ) (g : GroupNo) (content : Body) → IsSent d s h k g content →
+      holds (sent_here d s h k g content)
   pub receive : (s : S) → holds s → (h : H) (from : SiteNo) (m : Message) → IsTaken d s h from m → holds (d.receive s m)
   pub brings : (s : S) → holds s → (h : H) (m : Message) → IsBrought d s h m → holds (d.receive s m)
   pub freeze : (s : S) → holds s → (h : H) → holds (d.freeze s h)
@@ -208,7 +232,8 @@ pub record IsInvariantOfAll {S H : Type 0} (d : Site S H) (holds : S → Type 0)
   pub note_request : (s : S) → holds s → (h : H) (what : Change) (p : Proc) → holds (d.note_request s h what p)
   pub note_answer : (s : S) → holds s → (h : H) → holds (d.note_answer s h)
   pub move_home : (s : S) → holds s → (h : H) (move : HomeMove) → holds (d.move_home s h move)
-  pub enter_view : (s : S) → holds s → (h : H) (g : GroupNo) (skips : Bool) (n : ℕ) (members : Membership) (request : ℕ) (cut : CountList) → IsEntered d s h g n members → holds (d.enter_view s h skips n members request cut)
+  pub enter_view : (s : S) → holds s → (h : H) (g : GroupNo) (skips : Bool) (n : ℕ) (members : Membership) (request : ℕ) (cut : CountList) →
+      IsEntered d s h g n members → holds (d.enter_view s h skips n members request cut)
   pub release_ended : (s : S) → holds s → (h : H) → holds (d.release_ended s h)
   pub close : (s : S) → holds s → (k : ℕ) → d.is_open s k ≡ true → (refusal : Refusal) → holds (d.close s k refusal)
 
@@ -271,11 +296,13 @@ follows_itself d holds keeps = record {
 }
 
 -- it may ask of each message
-pub itself_asks : {S H : Type 0} (d : Site S H) (holds : S → Type 0) (keeps : IsInvariant d holds) (s : S) (u : Uid) → (follows_itself d holds keeps).asked s u
+pub itself_asks : {S H : Type 0} (d : Site S H) (holds : S → Type 0) (keeps : IsInvariant d holds) (s : S) (u : Uid) →
+    (follows_itself d holds keeps).asked s u
 unfolding follows_itself
 itself_asks d holds keeps s u = tt
 
-pub follows_itself_in_all : {S H : Type 0} (d : Site S H) (holds : S → Type 0) → IsInvariantOfAll d holds → FollowsAll d d (AlsoHolds holds) SamePlace
+pub follows_itself_in_all : {S H : Type 0} (d : Site S H) (holds : S → Type 0) → IsInvariantOfAll d holds →
+    FollowsAll d d (AlsoHolds holds) SamePlace
 follows_itself_in_all d holds keeps = record {
   follows = follows_itself d holds keeps.keeps;
   used = λ s k from u at is_used. itself_asks d holds keeps.keeps s u;
@@ -297,7 +324,10 @@ follows_itself_in_all d holds keeps = record {
   place_to_pass = λ r s f h l at k g there member unfrozen. λ i. d.place_to_pass (f.0 i) (at i) k;
   push = λ r s f k given room p. (λ i. d.push (f.0 i) k p, keeps.push s f.1 k given room p);
   note_cast = λ r s f. (λ i. d.note_cast (f.0 i), keeps.note_cast s f.1);
-  note_joining = λ r s f k given g h at number heard. (λ i. d.note_joining (f.0 i) k g number heard, keeps.note_joining s f.1 k given g h at number heard);
+  note_joining = λ r s f k given g h at number heard. (
+    λ i. d.note_joining (f.0 i) k g number heard,
+    keeps.note_joining s f.1 k given g h at number heard,
+  );
   note_outside = λ r s f k g is. (λ i. d.note_outside (f.0 i) k g, keeps.note_outside s f.1 k g is);
   sends = λ r s f h l at k g content sent. (λ i. sent_here d (f.0 i) (at i) k g content, keeps.sends s f.1 l k g content sent);
   receive = λ r s f k from m taken new. (λ i. d.receive (f.0 i) m, keeps.receive s f.1 k from m taken);
@@ -316,7 +346,8 @@ follows_itself_in_all d holds keeps = record {
 }
 
 -- a site that follows another follows it also in states of which an invariant holds
-pub with_invariant : {R S H K : Type 0} (a : Site R H) (b : Site S K) (fits : R → S → Type 0) (stands : H → K → Type 0) (holds : S → Type 0) → Follows a b fits stands → IsInvariant b holds → Follows a b (λ r s. fits r s × holds s) stands
+pub with_invariant : {R S H K : Type 0} (a : Site R H) (b : Site S K) (fits : R → S → Type 0) (stands : H → K → Type 0)
+    (holds : S → Type 0) → Follows a b fits stands → IsInvariant b holds → Follows a b (λ r s. fits r s × holds s) stands
 with_invariant a b fits stands holds follows keeps = record {
   asked = follows.asked;
   still_asked = follows.still_asked;
@@ -343,6 +374,8 @@ with_invariant a b fits stands holds follows keeps = record {
 }
 
 -- and it asks of the same messages
-pub invariant_asks : {R S H K : Type 0} (a : Site R H) (b : Site S K) (fits : R → S → Type 0) (stands : H → K → Type 0) (holds : S → Type 0) (follows : Follows a b fits stands) (keeps : IsInvariant b holds) (s : S) (u : Uid) → follows.asked s u → (with_invariant a b fits stands holds follows keeps).asked s u
+pub invariant_asks : {R S H K : Type 0} (a : Site R H) (b : Site S K) (fits : R → S → Type 0) (stands : H → K → Type 0) (holds : S → Type 0)
+    (follows : Follows a b fits stands) (keeps : IsInvariant b holds) (s : S) (u : Uid) → follows.asked s u →
+    (with_invariant a b fits stands holds follows keeps).asked s u
 unfolding with_invariant
 invariant_asks a b fits stands holds follows keeps s u asked = asked

@@ -13,17 +13,21 @@ use Rattle.cast_view.specs.MemberSide.{MemberSide, first_asking}
 use Rattle.cast_view.specs.Home.{Home}
 use Rattle.cast_rules.specs.Rules.Keys.{id_in}
 use Rattle.cast_rules.specs.Rules.Interface.{Site}
-use Rattle.cast_rules.specs.Rules.Owing.{ask_frame, install_frame, wanted_view, frame_of_kind, frame_for, send_for, owe, resend, resend_due, tick}
+use Rattle.cast_rules.specs.Rules.Owing.{ask_frame, install_frame, wanted_view, frame_of_kind}
+use Rattle.cast_rules.specs.Rules.Owing.{frame_for, send_for, owe, resend, resend_due, tick}
 use Rattle.cast_rules.proofs.Rules.Follows.{Follows, AtBoth, choose, each, IsInvariant, AlsoHolds, SamePlace, follows_itself}
 
-module _ {R S H K : Type 0} (a : Site R H) (b : Site S K) (fits : R → S → Type 0) (stands : H → K → Type 0) (follows : Follows a b fits stands) where
+module _ {R S H K : Type 0} (a : Site R H) (b : Site S K) (fits : R → S → Type 0) (stands : H → K → Type 0)
+    (follows : Follows a b fits stands) where
   -- either side of a flush wants messages of the same view
   wanted_same : (r : R) (s : S) → fits r s → (h : H) (k : K) → stands h k → (x : Side) → wanted_view a r h x ≡ wanted_view b s k x
   wanted_same r s f h k at side.Site = ap (λ (x : MemberSide). x.number) (follows.group r s f h k at)
   wanted_same r s f h k at side.Home = ap (λ (x : Home). x.number) (follows.home r s f h k at)
 
-  kind_same : (r : R) (s : S) → fits r s → (h : H) (k : K) → stands h k → (key : OwedKey) (kind : OwedKind) → frame_of_kind a r h key kind ≡ frame_of_kind b s k key kind
-  kind_same r s f h k at key Ask = ap (λ (x : MemberSide). option_map (ask_frame key.group) (first_asking x.requests)) (follows.group r s f h k at)
+  kind_same : (r : R) (s : S) → fits r s → (h : H) (k : K) → stands h k → (key : OwedKey) (kind : OwedKind) →
+      frame_of_kind a r h key kind ≡ frame_of_kind b s k key kind
+  kind_same r s f h k at key Ask =
+      ap (λ (x : MemberSide). option_map (ask_frame key.group) (first_asking x.requests)) (follows.group r s f h k at)
   kind_same r s f h k at key Data =
       ap (λ (x : MemberSide). option_map frame.Data (a.message r (id_in x.number key))) (follows.group r s f h k at)
       ∙ ap (option_map frame.Data) (follows.message r s f (id_in (b.group s k).number key))
@@ -36,7 +40,8 @@ module _ {R S H K : Type 0} (a : Site R H) (b : Site S K) (fits : R → S → Ty
   pub frame_same : (r : R) (s : S) → fits r s → (key : OwedKey) → frame_for a r key ≡ frame_for b s key
   frame_same r s f key = placed (a.place r key.group) (b.place s key.group) (follows.place r s f key.group)
     where
-      placed : (o : Option H) (p : Option K) → AtBoth stands o p → option_and_then (λ h. frame_of_kind a r h key key.kind) o ≡ option_and_then (λ k. frame_of_kind b s k key key.kind) p
+      placed : (o : Option H) (p : Option K) → AtBoth stands o p →
+          option_and_then (λ h. frame_of_kind a r h key key.kind) o ≡ option_and_then (λ k. frame_of_kind b s k key key.kind) p
       placed (Some h) (Some k) at = kind_same r s f h k at key key.kind
       placed (Some h) None at = absurd at
       placed None (Some k) at = absurd at

@@ -9,7 +9,8 @@ use Rattle.cast_rules.specs.Rules.Interface.{Site}
 use Rattle.cast_rules.specs.Rules.Room.{may_receive, may_order, may_take}
 use Rattle.cast_rules.proofs.Rules.Follows.{FollowsAll}
 
-module _ {R S H K : Type 0} (a : Site R H) (b : Site S K) (fits : R → S → Type 0) (stands : H → K → Type 0) (all : FollowsAll a b fits stands) where
+module _ {R S H K : Type 0} (a : Site R H) (b : Site S K) (fits : R → S → Type 0) (stands : H → K → Type 0)
+    (all : FollowsAll a b fits stands) where
   pub receive_same : (r : R) (s : S) → fits r s → may_receive a r ≡ may_receive b s
   receive_same r s f = λ j. quota.may_receive (all.quotas r s f j) (all.held r s f j)
 

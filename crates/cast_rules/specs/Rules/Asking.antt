@@ -20,9 +20,12 @@ module _ {S H : Type 0} (d : Site S H) where
 
   -- the first request, where there is one, is owed to the home
   abbrev pub ask_home : S → H → S
-  ask_home s h = if is_empty (d.group s h).requests then s else owe d s (ask_key (d.name s h) (d.config s).home)
+  ask_home s h =
+      if is_empty (d.group s h).requests then s
+      else owe d s (ask_key (d.name s h) (d.config s).home)
 
   -- one more request; it is asked at once where it is the first
   abbrev pub request : S → H → Change → Proc → S
   request s h what p =
-      if is_empty (d.group s h).requests then ask_home (d.note_request s h what p) h else d.note_request s h what p
+      if is_empty (d.group s h).requests then ask_home (d.note_request s h what p) h
+      else d.note_request s h what p

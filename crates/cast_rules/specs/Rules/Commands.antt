@@ -1,8 +1,12 @@
 -- The rules of commands: what a program asks for, when it is refused, and its reply.
-use Rattle.std.specs.Prelude.{ℕ, ◌+◌, not, ◌==◌, nat_lt, if◌then◌else◌, List, [], length, Some, None}
+use Rattle.std.specs.Prelude.{ℕ, ◌+◌, not, ◌==◌, nat_lt, if◌then◌else◌}
+use Rattle.std.specs.Prelude.{List, [], length, Some, None}
 use Rattle.std.specs.Option.{option_map_or}
 use Rattle.cast_types.specs.declared.names.GroupNo.{GroupNo}
-use Rattle.cast_types.specs.declared.refusal.Refusal.TheVariants.{BadFrame, NoGroup, NotMember, AlreadyMember, Flushing, OwnAbcast, HeldFull, TooLong, NotHolder}
+use Rattle.cast_types.specs.declared.refusal.Refusal.TheVariants.{BadFrame, NoGroup, NotMember}
+use Rattle.cast_types.specs.declared.refusal.Refusal.TheVariants.{AlreadyMember, Flushing}
+use Rattle.cast_types.specs.declared.refusal.Refusal.TheVariants.{OwnAbcast, HeldFull, TooLong}
+use Rattle.cast_types.specs.declared.refusal.Refusal.TheVariants.{NotHolder}
 use Rattle.cast_types.specs.declared.limits.TheConstants.{MAX_NUMBER, MAX_PAYLOAD}
 use Rattle.cast_types.specs.declared.names.Proc.{Proc}
 use Rattle.cast_types.specs.Names.{proc_eq}
@@ -43,7 +47,11 @@ module _ {S H : Type 0} (d : Site S H) where
   join_at s k g h =
       if not (is_outside (d.standing s k g)) then (s, Some AlreadyMember)
       else if (d.group s h).asked == MAX_NUMBER then (s, Some HeldFull)
-      else (request d (d.note_joining s k g ((d.group s h).asked + 1) (view_of (d.time s k) g)) h change.Join (named_here d s k), None)
+      else (
+        request d (d.note_joining s k g ((d.group s h).asked + 1) (view_of (d.time s k) g))
+            h change.Join (named_here d s k),
+        None,
+      )
 
   abbrev pub join : S → ℕ → GroupNo → Attempt S
   join s k g = option_map_or (join_at s k g) (d.place s g) (s, Some NoGroup)
@@ -56,7 +64,12 @@ module _ {S H : Type 0} (d : Site S H) where
   message_sent s k g h content =
       let times : ClockList = with_bump (d.time s k) g (named_here d s k) in
       record {
-        id = record { group = g; view = (d.group s h).number; proc = named_here d s k; count = count_in times g (named_here d s k) };
+        id = record {
+          group = g;
+          view = (d.group s h).number;
+          proc = named_here d s k;
+          count = count_in times g (named_here d s k);
+        };
         times = times;
         body = content;
       }
@@ -76,7 +89,8 @@ module _ {S H : Type 0} (d : Site S H) where
       else (d.note_cast (send_own s k (message_sent s k g h (body_of cast payload))), None)
 
   abbrev pub cast : S → ℕ → GroupNo → CastKind → List ℕ → Attempt S
-  cast s k g kind payload = option_map_or (cast_at s k g kind payload) (d.place s g) (s, Some NoGroup)
+  cast s k g kind payload =
+      option_map_or (cast_at s k g kind payload) (d.place s g) (s, Some NoGroup)
 
   -- it hands the token over to a process, but not to itself
   abbrev pub hand_over : S → ℕ → GroupNo → Proc → H → ℕ → Attempt S

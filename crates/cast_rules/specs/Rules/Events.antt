@@ -1,6 +1,7 @@
 -- What each event does before a domain comes to rest, and what it is answered.
 use Rattle.std.specs.Prelude.{ℕ, ◌+◌, Bool, not, ◌&&◌, ◌==◌, if◌then◌else◌}
-use Rattle.cast_types.specs.declared.refusal.Refusal.TheVariants.{NotOpen, TooManySessions, OutOfRange}
+use Rattle.cast_types.specs.declared.refusal.Refusal.TheVariants.{NotOpen, TooManySessions}
+use Rattle.cast_types.specs.declared.refusal.Refusal.TheVariants.{OutOfRange}
 use Rattle.cast_types.specs.declared.limits.TheConstants.{MAX_NUMBER}
 use Rattle.cast_quota.specs.Quotas as quota
 use Rattle.cast_events.specs.declared.limits.TheConstants.{MAX_TAKE}
@@ -20,7 +21,8 @@ abbrev pub is_taken : ℕ → Bool
 is_taken most = quota.is_from_to 1 MAX_TAKE most
 
 module _ {S H : Type 0} (d : Site S H) (n : Sessions S) where
-  -- one more session may be opened: beside those that are not gone, and while a serial is left, since serials are used once
+  -- one more session may be opened: beside those that are not gone, and while a serial is left,
+  -- since serials are used once
   abbrev pub may_open : S → Bool
   may_open s = quota.may_open (d.quotas s) (n.count s) && not (n.used s == MAX_NUMBER)
 
@@ -37,17 +39,20 @@ module _ {S H : Type 0} (d : Site S H) (n : Sessions S) where
   acted s (event.Gone e k) = end_session d s k
   acted s (event.Frame e from f) = framed d s from f
   acted s (event.Suspect e site) = suspect d s site
-  acted s (event.Quota e name value) = if quota.is_in_range name value then n.set_quota s name value else s
+  acted s (event.Quota e name value) =
+      if quota.is_in_range name value then n.set_quota s name value else s
   acted s (event.Take e k most) = took s k most
   acted s (event.Tick t) = tick d s t
 
   abbrev pub answered : S → Event → Taken
-  answered s (event.Open e) = if may_open s then taken.Opened (n.used s + 1) else taken.Refused TooManySessions
+  answered s (event.Open e) =
+      if may_open s then taken.Opened (n.used s + 1) else taken.Refused TooManySessions
   answered s (event.Command e k c) = if d.is_open s k then taken.Nothing else taken.Refused NotOpen
   answered s (event.Gone e k) = if d.is_gone s k then taken.Refused NotOpen else taken.Nothing
   answered s (event.Frame e from f) = taken.Nothing
   answered s (event.Suspect e site) = taken.Nothing
-  answered s (event.Quota e name value) = if quota.is_in_range name value then taken.Nothing else taken.Refused OutOfRange
+  answered s (event.Quota e name value) =
+      if quota.is_in_range name value then taken.Nothing else taken.Refused OutOfRange
   answered s (event.Take e k most) =
       if d.is_gone s k then taken.Refused NotOpen
       else if is_taken most then taken.Entries (n.entries s k most) else taken.Refused OutOfRange

@@ -36,7 +36,8 @@ module _ {S H : Type 0} (d : Site S H) where
 
   -- a message of the view is wanted from the home
   abbrev pub own_want_key : S → H → Entry → OwedKey
-  own_want_key s h e = message_key Want (uid_in (d.name s h) (d.group s h).number e) (d.config s).home
+  own_want_key s h e =
+      message_key Want (uid_in (d.name s h) (d.group s h).number e) (d.config s).home
 
   -- an Install waits, and a message is wanted, of the view that ends and well formed in it
   abbrev pub is_wanted_here : S → H → Message → Bool
@@ -48,21 +49,26 @@ module _ {S H : Type 0} (d : Site S H) where
   -- one that the home forwards is received, for which no room is needed
   abbrev pub on_wanted : S → H → SiteNo → Message → S
   on_wanted s h from m =
-      if is_from_home d s from && is_wanted_here s h m then want_no_more d (d.receive s m) m.id else s
+      if is_from_home d s from && is_wanted_here s h m
+      then want_no_more d (d.receive s m) m.id
+      else s
 
   -- the Install that waits is completed
   abbrev pub complete : S → H → Pending → S
-  complete s h p = install d false s h (d.config s).home ((d.group s h).number + 1) p.members p.request p.cut
+  complete s h p =
+      install d false s h (d.config s).home ((d.group s h).number + 1) p.members p.request p.cut
 
   abbrev pub want_own : H → S → Entry → S
   want_own h s e = owe d s (own_want_key s h e)
 
 module _ {S H : Type 0} (d : Site S H) (q : Resting S H) where
-  -- once each member here has delivered its cut, and what is free then is let go: a program that is told of it may be too slow, and its
-  -- process leaves other groups too. Until then the site wants what is missing
+  -- once each member here has delivered its cut, and what is free then is let go: a program that is
+  -- told of it may be too slow, and its process leaves other groups too. Until then the site wants
+  -- what is missing
   abbrev pub complete_or_want : S → H → Pending → S
   complete_or_want s h p =
-      if q.has_cut s h p.cut then let_go d q (complete d s h p) else fold (want_own d h) s (q.missing s h p.cut)
+      if q.has_cut s h p.cut then let_go d q (complete d s h p)
+      else fold (want_own d h) s (q.missing s h p.cut)
 
   abbrev pub go_on : S → H → S
   go_on s h = elim (d.group s h).pending [ Some p ↦ complete_or_want s h p | None ↦ s ]

@@ -43,11 +43,14 @@ module _ {S H : Type 0} (d : Site S H) where
       on_flushed d s h from view (record { counts = counts; tail = tail; kept = kept })
   on_frame s h from (frame.Want u) = on_want d s h from u
   on_frame s h from (frame.Forward m) = on_forward d (on_wanted d s h from m) h m
-  on_frame s h from (frame.Install g view members request cut tail) = on_install d s h from view members request cut tail
+  on_frame s h from (frame.Install g view members request cut tail) =
+      on_install d s h from view members request cut tail
   on_frame s h from (frame.Installed g view) = on_installed d s h from view
   on_frame s h from (frame.Out g view) = on_out d s h view
 
   -- one from a site or for a group that is not configured is ignored
   abbrev pub framed : S → SiteNo → SiteFrame → S
   framed s from f =
-      if is_among site_eq from (d.config s).sites then option_map_or (λ h. on_frame s h from f) (d.place s (group_of f)) s else s
+      if is_among site_eq from (d.config s).sites
+      then option_map_or (λ h. on_frame s h from f) (d.place s (group_of f)) s
+      else s

@@ -13,7 +13,8 @@ use Rattle.cast_message.specs.declared.site.SiteFrame.TheVariants as frame
 use Rattle.cast_timer.specs.declared.key.OwedKind.{OwedKind}
 use Rattle.cast_timer.specs.declared.key.OwedKind.TheVariants.{Prepare, Install}
 use Rattle.cast_flush.specs.declared.report.Report.{Report}
-use Rattle.cast_view.specs.Home.{may_start, awaited_of, wants_in, bodies_of, may_decide, waiting_of, takes_report, takes_installed}
+use Rattle.cast_view.specs.Home.{may_start, awaited_of, wants_in, bodies_of}
+use Rattle.cast_view.specs.Home.{may_decide, waiting_of, takes_report, takes_installed}
 use Rattle.cast_view.specs.Home.HomeMove.{Started, Suspected, Reported, Brought, Decided, Installed}
 use Rattle.cast_rules.specs.Rules.Keys.{home_key, want_key}
 use Rattle.cast_rules.specs.Rules.Interface.{Site}
@@ -45,7 +46,8 @@ module _ {S H : Type 0} (d : Site S H) where
 
   -- the next view is decided once all have reported and no message is wanted
   abbrev pub decide : S → H → S
-  decide s h = if may_decide (d.name s h) (d.home s h) then announce (d.move_home s h Decided) h else s
+  decide s h =
+      if may_decide (d.name s h) (d.home s h) then announce (d.move_home s h Decided) h else s
 
   -- the messages that some of the sites lack, each with the site that it is wanted from
   abbrev pub wants : S → H → List (SiteNo × Entry)
@@ -87,11 +89,14 @@ module _ {S H : Type 0} (d : Site S H) where
 
   -- Prepare and Install are owed to a site no more
   abbrev pub release_site : S → H → SiteNo → S
-  release_site s h site = d.pay (d.pay s (home_key Prepare (d.name s h) site)) (home_key Install (d.name s h) site)
+  release_site s h site =
+      d.pay (d.pay s (home_key Prepare (d.name s h) site)) (home_key Install (d.name s h) site)
 
-  -- a site is suspected: nothing is awaited from it any more, and what is not wanted without it is owed no more
+  -- a site is suspected: nothing is awaited from it any more, and what is not wanted without it is
+  -- owed no more
   abbrev pub suspect_in : SiteNo → S → H → S
-  suspect_in site s h = drop_wants (d.move_home (release_site s h site) h (Suspected site)) h (wants s h)
+  suspect_in site s h =
+      drop_wants (d.move_home (release_site s h site) h (Suspected site)) h (wants s h)
 
   -- at the home, for each group
   abbrev pub suspect : S → SiteNo → S
@@ -99,20 +104,24 @@ module _ {S H : Type 0} (d : Site S H) where
 
   -- a message of the view that the home decided last, and well formed in it
   abbrev pub is_of_home : S → H → Message → Bool
-  is_of_home s h m = (m.id.view == (d.home s h).number) && is_well_formed d s (d.home s h).members.list m
+  is_of_home s h m =
+      (m.id.view == (d.home s h).number) && is_well_formed d s (d.home s h).members.list m
 
   -- one that the home wants comes, and is wanted no more
   abbrev pub on_forward : S → H → Message → S
   on_forward s h m =
       elim (find (λ w. entry_eq w.1 (entry_of m.id)) (wants s h)) [
         | Some w ↦
-            (if is_of_home s h m then d.move_home (d.pay s (want_key (d.name s h) w)) h (Brought m) else s)
+            (if is_of_home s h m
+            then d.move_home (d.pay s (want_key (d.name s h) w)) h (Brought m)
+            else s)
         | None ↦ s
       ]
 
   -- a message that a site wants: one that came because some sites lack it, or a kept one
   abbrev pub forwardable : S → H → Uid → Option Message
-  forwardable s h u = option_or (find (λ m. uid_eq m.id u) (bodies_of (d.home s h).phase)) (d.message s u)
+  forwardable s h u =
+      option_or (find (λ m. uid_eq m.id u) (bodies_of (d.home s h).phase)) (d.message s u)
 
   -- it is forwarded; a site sends itself none unless it is the home
   abbrev pub on_want : S → H → SiteNo → Uid → S

@@ -29,8 +29,9 @@ use Rattle.cast_view.specs.declared.member.Pending.{Pending}
 use Rattle.cast_view.specs.MemberSide.{MemberSide}
 use Rattle.cast_view.specs.Home.{Home, HomeMove}
 
--- an S is what is known of the domain, and an H says where a group stands in it. First comes what a rule asks, and
--- from `send` on what it does. Each field has beside it what stands for it in the history of a domain
+-- an S is what is known of the domain, and an H says where a group stands in it. First comes what a
+-- rule asks, and from `send` on what it does. Each field has beside it what stands for it in the
+-- history of a domain
 pub record Site (S H : Type 0) : Type 0 where
   -- the site's number: `here`
   pub here : S → SiteNo
@@ -68,7 +69,8 @@ pub record Site (S H : Type 0) : Type 0 where
   pub is_full : S → ℕ → Bool
   -- the local members of a group, by serial: those that `process` says are members
   pub members : S → H → List ℕ
-  -- the local members that a next view lacks, and all of them where a view is skipped: from `process`
+  -- the local members that a next view lacks, and all of them where a view is skipped: from
+  -- `process`
   pub put_out : S → H → Bool → Membership → List ℕ
   -- what a local process, named by its serial, is in a group: `process`
   pub standing : S → ℕ → GroupNo → Standing
@@ -78,7 +80,8 @@ pub record Site (S H : Type 0) : Type 0 where
   pub awaits_own : S → ℕ → Bool
   -- a local process holds the token of a group's view: from `acts`
   pub holds : S → H → ℕ → Bool
-  -- the place from which another would order, if a holder settled all that it ordered: from `acts`, `acks`
+  -- the place from which another would order, if a holder settled all that it ordered: from `acts`,
+  -- `acks`
   pub place_to_pass : S → H → ℕ → Option ℕ
   -- a frame is owed: its key is in `owed`
   pub is_owed : S → OwedKey → Bool
@@ -124,18 +127,20 @@ pub record Site (S H : Type 0) : Type 0 where
   pub note_answer : S → H → S
   -- a flush has frozen a group: `group`
   pub freeze : S → H → S
-  -- the Install of a group's next view waits, with the end of the order of the one that ends: `group`, `closed`
+  -- the Install of a group's next view waits, with the end of the order of the one that ends:
+  -- `group`, `closed`
   pub pend : S → H → Pending → Tail → S
   -- the home of a group moves on: `home`
   pub move_home : S → H → HomeMove → S
-  -- a group passes to a view of this number, with these members: `group`, `process`, `acts`. The local members that it
-  -- lacks are put out; all of them, where a view was skipped. The local processes that it takes in enter it: a member,
-  -- and one whose request to join was applied, by the number of the last one of this site that was. The last argument
-  -- is the Install's cut
+  -- a group passes to a view of this number, with these members: `group`, `process`, `acts`. The
+  -- local members that it lacks are put out; all of them, where a view was skipped. The local
+  -- processes that it takes in enter it: a member, and one whose request to join was applied, by
+  -- the number of the last one of this site that was. The last argument is the Install's cut
   pub enter_view : S → H → Bool → ℕ → Membership → ℕ → CountList → S
   -- messages of a group's ended views are kept no longer: `kept`
   pub release_ended : S → H → S
-  -- an open session is closed, and the reason is the last that its program is told: `session`, `pushes`
+  -- an open session is closed, and the reason is the last that its program is told: `session`,
+  -- `pushes`
   pub close : S → ℕ → Refusal → S
   -- a session is gone, and its outbox: `session`
   pub go : S → ℕ → S
@@ -169,13 +174,15 @@ pub record Resting (S H : Type 0) : Type 0 where
   pub is_delivered : S → Uid → Bool
   -- each local member of a group has delivered all messages of its view within a cut: `process`
   pub has_cut : S → H → CountList → Bool
-  -- of those, the first 64 that a local member has not delivered and that were not received: from `process`, `got`
+  -- of those, the first 64 that a local member has not delivered and that were not received: from
+  -- `process`, `got`
   pub missing : S → H → CountList → List Entry
   -- the local processes that hold the token of a group's view, by serial: from `acts`
   pub holders : S → H → List ℕ
   -- what a holder has to list, at the places after those that are known: from `acts`
   pub next_places : S → H → ℕ → Option Placement
-  -- a local process has delivered the first message that was ready for it: `process`, `acts`, `abcasts`, `deliveries`
+  -- a local process has delivered the first message that was ready for it: `process`, `acts`,
+  -- `abcasts`, `deliveries`
   pub note_delivered : S → ℕ → Message → S
   -- kept messages whose ids pass a test are let go: `kept`
   pub release : S → (Uid → Bool) → S

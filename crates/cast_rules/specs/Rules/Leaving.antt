@@ -30,7 +30,8 @@ module _ {S H : Type 0} (d : Site S H) where
       else request d (d.note_outside s k g) h change.Leave (named_here s k)
 
   abbrev pub leave_at : S → ℕ → GroupNo → H → Attempt S
-  leave_at s k g h = if is_outside (d.standing s k g) then (s, Some NotMember) else (leave_group s k g h, None)
+  leave_at s k g h =
+      if is_outside (d.standing s k g) then (s, Some NotMember) else (leave_group s k g h, None)
 
   -- the process leaves all groups that it joins or is a member of
   abbrev pub leave_each : ℕ → S → H → S
@@ -39,7 +40,8 @@ module _ {S H : Type 0} (d : Site S H) where
   abbrev pub leave_all : S → ℕ → S
   leave_all s k = fold (leave_each k) s (d.places s)
 
-  -- a session is closed, and its process leaves all its groups; where its outbox is full, it was too slow, whatever else is the matter
+  -- a session is closed, and its process leaves all its groups; where its outbox is full, it was
+  -- too slow, whatever else is the matter
   abbrev pub close_session : S → ℕ → Refusal → S
   close_session s k refusal = leave_all (d.close s k (if d.is_full s k then Slow else refusal)) k
 

@@ -15,9 +15,11 @@ use Rattle.cast_rules.specs.Rules.Commands.{message_sent, send_own}
 
 -- each rule is of the group that stands at h, and of the local process of serial k
 module _ {S H : Type 0} (d : Site S H) (q : Resting S H) where
-  -- the holder is a member, no flush has frozen the group, and there is room for one more set-order message
+  -- the holder is a member, no flush has frozen the group, and there is room for one more set-order
+  -- message
   abbrev pub may_list : S → H → ℕ → Bool
-  may_list s h k = is_member (d.standing s k (d.name s h)) && (not (d.group s h).frozen && may_order d s)
+  may_list s h k =
+      is_member (d.standing s k (d.name s h)) && (not (d.group s h).frozen && may_order d s)
 
   -- the holder lists ABCASTs at these places in a set-order message
   abbrev pub send_places : S → H → ℕ → Placement → S
@@ -26,11 +28,14 @@ module _ {S H : Type 0} (d : Site S H) (q : Resting S H) where
   -- where its count may be raised; what is free then is let go
   abbrev pub list_places : S → H → ℕ → Placement → S
   list_places s h k places =
-      if may_raise (d.time s k) (d.name s h) (named_here d s k) then let_go d q (send_places s h k places) else s
+      if may_raise (d.time s k) (d.name s h) (named_here d s k)
+      then let_go d q (send_places s h k places)
+      else s
 
   -- where it has some to list
   abbrev pub set_order_by : S → H → ℕ → S
-  set_order_by s h k = if may_list s h k then option_map_or (list_places s h k) (q.next_places s h k) s else s
+  set_order_by s h k =
+      if may_list s h k then option_map_or (list_places s h k) (q.next_places s h k) s else s
 
   -- each that is a process of this site
   abbrev pub set_order : S → H → S

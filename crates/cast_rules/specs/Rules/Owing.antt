@@ -9,7 +9,8 @@ use Rattle.cast_message.specs.declared.site.SiteFrame.{SiteFrame}
 use Rattle.cast_message.specs.declared.site.SiteFrame.TheVariants as frame
 use Rattle.cast_timer.specs.declared.key.OwedKey.{OwedKey}
 use Rattle.cast_timer.specs.declared.key.OwedKind.{OwedKind}
-use Rattle.cast_timer.specs.declared.key.OwedKind.TheVariants.{Ask, Data, Prepare, Want, Install, Ack}
+use Rattle.cast_timer.specs.declared.key.OwedKind.TheVariants.{Ask, Data, Prepare}
+use Rattle.cast_timer.specs.declared.key.OwedKind.TheVariants.{Want, Install, Ack}
 use Rattle.cast_timer.specs.declared.key.Side.{Side}
 use Rattle.cast_timer.specs.declared.key.Side.TheVariants as side
 use Rattle.cast_view.specs.declared.phase.Phase.{Phase}
@@ -24,12 +25,14 @@ use Rattle.cast_rules.specs.Rules.Interface.{Site}
 abbrev pub ask_frame : GroupNo → PendingRequest → SiteFrame
 ask_frame g a = frame.Ask g a.number a.change a.proc
 
--- the view that the home decided as a site is to install it, with the last request of the site that had been applied
+-- the view that the home decided as a site is to install it, with the last request of the site that
+-- had been applied
 abbrev pub install_frame : GroupNo → Home → SiteNo → Phase → Option SiteFrame
 install_frame g home to Idle = None
 install_frame g home to (Gathering awaited reports bodies) = None
 install_frame g home to (Installing waiting decision bodies) =
-    Some (frame.Install g home.number home.members (answer_in decision.answers to).number decision.cut decision.tail)
+    Some (frame.Install g home.number home.members
+    (answer_in decision.answers to).number decision.cut decision.tail)
 
 module _ {S H : Type 0} (d : Site S H) where
   -- the number of the view that a side of a flush wants messages of
@@ -65,6 +68,7 @@ module _ {S H : Type 0} (d : Site S H) where
   abbrev pub resend_due : S → S
   resend_due s = fold resend s (d.due s)
 
-  -- time passes: the moment never goes back, and all frames that are due then are sent again, in their order
+  -- time passes: the moment never goes back, and all frames that are due then are sent again, in
+  -- their order
   abbrev pub tick : S → ℕ → S
   tick s t = resend_due (d.note_moment s t)

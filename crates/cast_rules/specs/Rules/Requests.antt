@@ -30,18 +30,22 @@ module _ {S H : Type 0} (d : Site S H) where
   answer_ask s h from number None = s
   answer_ask s h from number (Some full) = d.send s from (frame.Asked (d.name s h) number full)
 
-  -- at the home a request is taken in, and answered where it is the next one of its site or was answered before
+  -- at the home a request is taken in, and answered where it is the next one of its site or was
+  -- answered before
   abbrev pub on_ask : S → H → SiteNo → ℕ → Change → Proc → S
   on_ask s h from number what p =
       if is_home d s
-      then answer_ask (d.move_home s h (Asked from number what p)) h from number (answer_to (d.home s h) from number what p)
+      then answer_ask (d.move_home s h (Asked from number what p))
+      h from number (answer_to (d.home s h) from number what p)
       else s
 
-  -- a process whose join is refused is outside, if it still joins by that request, and its program is told
+  -- a process whose join is refused is outside, if it still joins by that request, and its program
+  -- is told
   abbrev pub deny : S → H → PendingRequest → S
   deny s h a =
       if is_joining_by (d.standing s a.proc.serial (d.name s h)) a.number
-      then tell d (d.note_outside s a.proc.serial (d.name s h)) a.proc.serial (push.Denied (d.name s h) GroupFull)
+      then tell d (d.note_outside s a.proc.serial (d.name s h))
+      a.proc.serial (push.Denied (d.name s h) GroupFull)
       else s
 
   abbrev pub deny_if : Bool → S → H → PendingRequest → S
@@ -49,12 +53,15 @@ module _ {S H : Type 0} (d : Site S H) where
 
   -- the first request is answered: it is taken off, and the next one is asked
   abbrev pub take_answer : S → H → S
-  take_answer s h = ask_home d (d.note_answer (d.pay s (ask_key (d.name s h) (d.config s).home)) h) h
+  take_answer s h =
+      ask_home d (d.note_answer (d.pay s (ask_key (d.name s h) (d.config s).home)) h) h
 
   abbrev pub on_asked : S → H → SiteNo → ℕ → Bool → S
   on_asked s h from number full =
       elim (first_asking (d.group s h).requests) [
         | Some a ↦
-            (if is_from_home d s from && (a.number == number) then deny_if full (take_answer s h) h a else s)
+            (if is_from_home d s from && (a.number == number)
+            then deny_if full (take_answer s h) h a
+            else s)
         | None ↦ s
       ]

@@ -44,6 +44,7 @@ module _ {S H : Type 0} (d : Site S H) (q : Resting S H) where
   abbrev pub settle : S → S
   settle s = fold deliver_all s (q.serials s)
 
-  -- deliveries by serial; then by group set-order messages; then by group Installs and what the site wants; then by group the home
+  -- deliveries by serial; then by group set-order messages; then by group Installs and what the
+  -- site wants; then by group the home
   abbrev pub pass : S → S
   pass s = lead d (go_on_all d q (set_orders d q (settle s)))

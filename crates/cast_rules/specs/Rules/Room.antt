@@ -11,7 +11,8 @@ module _ {S H : Type 0} (d : Site S H) where
   abbrev pub may_receive : S → Bool
   may_receive s = quota.may_receive (d.quotas s) (d.held s)
 
-  -- a set-order message may be sent or received beside them, and a holder may deliver an ABCAST: there is room for these where casts find none
+  -- a set-order message may be sent or received beside them, and a holder may deliver an ABCAST:
+  -- there is room for these where casts find none
   abbrev pub may_order : S → Bool
   may_order s = quota.may_order (d.quotas s) (d.held s)
 

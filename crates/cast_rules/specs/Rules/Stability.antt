@@ -15,11 +15,14 @@ use Rattle.cast_rules.specs.Rules.Interface.{Site}
 
 -- each rule is of a message u of the group that stands at h
 module _ {S H : Type 0} (d : Site S H) where
-  -- an acknowledgement is used that is of a message of the current view of a local process, and from another site of that view
+  -- an acknowledgement is used that is of a message of the current view of a local process, and
+  -- from another site of that view
   abbrev pub is_used_ack : S → H → SiteNo → Uid → Bool
   is_used_ack s h from u =
       is_current (d.group s h) u.view
-      && (nat_lt 0 u.count && (site_eq u.proc.site (d.here s) && is_among site_eq from (d.others s u.group)))
+      && (nat_lt 0 u.count
+      && (site_eq u.proc.site (d.here s)
+      && is_among site_eq from (d.others s u.group)))
 
   -- a site has a message, and it is owed to that site no more
   abbrev pub with_ack : S → SiteNo → Uid → S
@@ -32,9 +35,12 @@ module _ {S H : Type 0} (d : Site S H) where
   -- all other sites are told where more messages are stable than before
   abbrev pub tell_more : Uid → ℕ → S → S
   tell_more u before s =
-      if nat_lt before (d.stable_upto s u) then fold (tell_stable u (d.stable_upto s u)) s (d.others s u.group) else s
+      if nat_lt before (d.stable_upto s u)
+      then fold (tell_stable u (d.stable_upto s u)) s (d.others s u.group)
+      else s
 
-  -- an acknowledgement is kept; one of a message that was stable before shows that the site was not told
+  -- an acknowledgement is kept; one of a message that was stable before shows that the site was not
+  -- told
   abbrev pub on_ack : S → H → SiteNo → Uid → S
   on_ack s h from u =
       if is_used_ack s h from u
@@ -43,7 +49,8 @@ module _ {S H : Type 0} (d : Site S H) where
       else tell_more u (d.stable_upto s u) (with_ack s from u))
       else s
 
-  -- the process's own site tells that its messages up to one are stable: their acknowledgements are owed to it no more
+  -- the process's own site tells that its messages up to one are stable: their acknowledgements are
+  -- owed to it no more
   abbrev pub on_stable : S → H → SiteNo → Uid → S
   on_stable s h from u =
       if is_current (d.group s h) u.view && site_eq u.proc.site from

@@ -9,7 +9,8 @@ use Rattle.cast_message.specs.declared.site.SiteFrame.TheVariants as frame
 use Rattle.cast_message.specs.declared.client.Push.TheVariants as push
 use Rattle.cast_message.specs.Membership.{Membership}
 use Rattle.cast_message.specs.Tail.{Tail}
-use Rattle.cast_view.specs.declared.member.Verdict.TheVariants.{Again, Skips, Completes, Pends, Ignored}
+use Rattle.cast_view.specs.declared.member.Verdict.TheVariants.{Again, Skips, Completes}
+use Rattle.cast_view.specs.declared.member.Verdict.TheVariants.{Pends, Ignored}
 use Rattle.cast_view.specs.MemberSide.{verdict_of, is_put_out_by}
 use Rattle.cast_rules.specs.Rules.Interface.{Site}
 use Rattle.cast_rules.specs.Rules.Asking.{is_from_home}
@@ -28,13 +29,16 @@ module _ {S H : Type 0} (d : Site S H) where
   abbrev pub tell_view : GroupNo → ℕ → Membership → S → ℕ → S
   tell_view g n members s k = tell d s k (push.View g n members)
 
-  -- a site passes to the next view, all its processes at once; then those that were put out are told, and then the members
+  -- a site passes to the next view, all its processes at once; then those that were put out are
+  -- told, and then the members
   abbrev pub enter_and_tell : Bool → S → H → ℕ → Membership → ℕ → CountList → S
   enter_and_tell skips s h n members request cut =
       let entered : S = d.enter_view s h skips n members request cut in
-      fold (tell_view (d.name s h) n members) (fold (tell_out (d.name s h) n) entered (d.put_out s h skips members)) (d.members entered h)
+      fold (tell_view (d.name s h) n members)
+      (fold (tell_out (d.name s h) n) entered (d.put_out s h skips members)) (d.members entered h)
 
-  -- messages of the view before it are kept no longer, and nothing is owed for it. The first argument says whether a view was skipped
+  -- messages of the view before it are kept no longer, and nothing is owed for it. The first
+  -- argument says whether a view was skipped
   abbrev pub change_view : Bool → S → H → ℕ → Membership → ℕ → CountList → S
   change_view skips s h n members request cut =
       d.pay_view (d.release_ended (enter_and_tell skips s h n members request cut) h) (d.name s h)
@@ -44,8 +48,9 @@ module _ {S H : Type 0} (d : Site S H) where
   install skips s h from n members request cut =
       d.send (change_view skips s h n members request cut) from (frame.Installed (d.name s h) n)
 
-  -- a view is installed by a site that has none, and where it skips a number; of one that the site knows the home is told again. The Install
-  -- of the next view of a site that has one waits, until the members here have delivered its cut
+  -- a view is installed by a site that has none, and where it skips a number; of one that the site
+  -- knows the home is told again. The Install of the next view of a site that has one waits, until
+  -- the members here have delivered its cut
   abbrev pub on_install : S → H → SiteNo → ℕ → Membership → ℕ → CountList → Tail → S
   on_install s h from n members request cut tail =
       if is_from_home d s from
@@ -58,6 +63,7 @@ module _ {S H : Type 0} (d : Site S H) where
       ]
       else s
 
-  -- a site that is told of a view without members here, of a number that it has not reached, has no view any more: its members are put out
+  -- a site that is told of a view without members here, of a number that it has not reached, has no
+  -- view any more: its members are put out
   abbrev pub on_out : S → H → ℕ → S
   on_out s h n = if is_put_out_by (d.group s h) n then change_view true s h n no_members 0 [] else s

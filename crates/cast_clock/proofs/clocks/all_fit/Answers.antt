@@ -9,12 +9,18 @@ pub returns-then-not-fits_joined : goal.returns-then-not-fits_joined
 returns-then-not-fits_joined c =
     let e = c.loop-group-item.result in
     let fits : GroupNo × Clock → Bool = λ x. clock_has_room (join_clocks (clock_of c.args.mine.now x.0) x.1) in
-    let tested : c.fits_joined.result ≡ fits e = c.fits_joined.ensures ∙ ap (λ (o : Option Clock). clock_has_room (join_clocks (unwrap_or o (first_clock 0)) e.1)) c.find_near-next.ensures in
-    all_stops fits c.args.theirs.now c.loop-group.group-index e (omega arith) c.loop-group-item.is c.loop-group.invariant (sym tested ∙ c.if-not-fits_joined.true)
+    let tested : c.fits_joined.result ≡ fits e =
+    c.fits_joined.ensures
+    ∙ ap (λ (o : Option Clock). clock_has_room (join_clocks (unwrap_or o (first_clock 0)) e.1)) c.find_near-next.ensures in
+    all_stops fits c.args.theirs.now c.loop-group.group-index e (omega arith) c.loop-group-item.is c.loop-group.invariant
+    (sym tested ∙ c.if-not-fits_joined.true)
 
 pub loop-group-preserved : goal.loop-group-preserved
 loop-group-preserved c =
     let e = c.loop-group-item.result in
     let fits : GroupNo × Clock → Bool = λ x. clock_has_room (join_clocks (clock_of c.args.mine.now x.0) x.1) in
-    let tested : c.fits_joined.result ≡ fits e = c.fits_joined.ensures ∙ ap (λ (o : Option Clock). clock_has_room (join_clocks (unwrap_or o (first_clock 0)) e.1)) c.find_near-next.ensures in
-    all_goes fits c.args.theirs.now c.loop-group.group-index e (omega arith) c.loop-group-item.is c.loop-group.invariant (sym tested ∙ c.if-not-fits_joined.false)
+    let tested : c.fits_joined.result ≡ fits e =
+    c.fits_joined.ensures
+    ∙ ap (λ (o : Option Clock). clock_has_room (join_clocks (unwrap_or o (first_clock 0)) e.1)) c.find_near-next.ensures in
+    all_goes fits c.args.theirs.now c.loop-group.group-index e (omega arith) c.loop-group-item.is c.loop-group.invariant
+    (sym tested ∙ c.if-not-fits_joined.false)

@@ -17,5 +17,6 @@ loop-group-preserved c =
     record {
       same = ap (put_all left) made ∙ ap (λ xs. put_all xs before) (sym first) ∙ c.loop-group.invariant.same;
       room = omega (arith, count, c.loop-group.invariant.room, c.in_ok-place.ensures.len, c.in_ok-place.ensures.capacity);
-      in_order = rw made (from_T _ (is_sorted-put group_cmp group_total c.in-Some.group c.in-Some.clock before (as_T _ c.loop-group.invariant.in_order)));
+      in_order = rw made
+          (from_T _ (is_sorted-put group_cmp group_total c.in-Some.group c.in-Some.clock before (as_T _ c.loop-group.invariant.in_order)));
     }

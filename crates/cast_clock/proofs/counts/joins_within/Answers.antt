@@ -11,7 +11,9 @@ pub returns-then-mine-theirs-le-MAX_MEMBERS : goal.returns-then-mine-theirs-le-M
 returns-then-mine-theirs-le-MAX_MEMBERS c =
     let mine = c.args.mine.now in
     let theirs = c.args.theirs.now in
-    let joined = length-join_counts mine theirs (as_T _ (valid_counts mine c.requires.mine).in_order) (as_T _ (valid_counts theirs c.requires.theirs).in_order) in
+    let joined =
+    length-join_counts mine theirs (as_T _ (valid_counts mine c.requires.mine).in_order)
+    (as_T _ (valid_counts theirs c.requires.theirs).in_order) in
     let few : count_by (lacks mine) theirs ≤ length theirs = count_by-le-length (lacks mine) theirs in
     let room : length mine + length theirs ≤ 64 = c.if-mine-theirs-le-MAX_MEMBERS.true in
     le_as (length mine + length theirs) 64 room

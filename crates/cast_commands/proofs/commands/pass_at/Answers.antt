@@ -35,16 +35,20 @@ returns-in_default-place_to_pass-clause-made c =
     let kept : c.record-kept.result.now ≡ x = c.record-kept.ensures in
     let member : is_member (standing_of r.delay q g) ≡ true = ap is_member (sym c.standing.ensures.value ∙ c.in-Member.is) in
     let named : is_among proc_eq c.args.to (members_of x.here) ≡ true =
-    sym (c.is_named.ensures ∙ ap (is_among proc_eq c.args.to) (c.members.ensures.value ∙ ap (λ y. members_of y.here) kept)) ∙ c.if-not-is_named.false in
+    sym (c.is_named.ensures ∙ ap (is_among proc_eq c.args.to) (c.members.ensures.value ∙ ap (λ y. members_of y.here) kept))
+    ∙ c.if-not-is_named.false in
     let going : x.here.frozen ≡ false = sym (c.is_frozen.ensures ∙ ap (λ y. y.here.frozen) kept) ∙ c.if-is_frozen.false in
     let own : awaits_own_in r q ≡ false = sym c.awaits_own.ensures ∙ c.if-awaits_own.false in
-    let first : c.first.result ≡ (hand_here (log_of r.orders x.name) q).first = c.first.ensures ∙ ap (λ y. (hand_here (log_of r.orders y.name) q).first) kept in
-    let holding : is_some (hand_here (log_of r.orders x.name) q).first ≡ true = ap is_some (sym first) ∙ c.is_none.ensures ∙ ap not c.if-is_none.false in
+    let first : c.first.result ≡ (hand_here (log_of r.orders x.name) q).first =
+    c.first.ensures ∙ ap (λ y. (hand_here (log_of r.orders y.name) q).first) kept in
+    let holding : is_some (hand_here (log_of r.orders x.name) q).first ≡ true =
+    ap is_some (sym first) ∙ c.is_none.ensures ∙ ap not c.if-is_none.false in
     let room : may_order records r ≡ true = sym c.has_order_room.ensures ∙ c.if-not-has_order_room.false in
     let raised = raised_some (may_raise (time_of r.delay q) g q) (with_bump (time_of r.delay q) g q) c.in-Some.time c.in-Some.stamp
     (sym c.in-Some.is ∙ c.in_ok-time.ensures) in
     let past = pass_past r k g c.args.to i q here member named going own holding room raised.0 in
-    let none : place_to_pass_of r q x ≡ None = sym (c.place_to_pass.ensures ∙ ap (place_to_pass_of r q) kept) ∙ c.in_default-place_to_pass.is in
+    let none : place_to_pass_of r q x ≡ None =
+    sym (c.place_to_pass.ensures ∙ ap (place_to_pass_of r q) kept) ∙ c.in_default-place_to_pass.is in
     sym (past ∙ ap (λ o. option_map_or (hand_over records r k g c.args.to i) o (r, Some HeldFull)) none)
 
 -- handed over to itself, it stays where it is
@@ -60,18 +64,25 @@ returns-then-eq-clause-made c =
     let kept : c.record-kept.result.now ≡ x = c.record-kept.ensures in
     let member : is_member (standing_of r.delay q g) ≡ true = ap is_member (sym c.standing.ensures.value ∙ c.in-Member.is) in
     let named : is_among proc_eq c.args.to (members_of x.here) ≡ true =
-    sym (c.is_named.ensures ∙ ap (is_among proc_eq c.args.to) (c.members.ensures.value ∙ ap (λ y. members_of y.here) kept)) ∙ c.if-not-is_named.false in
+    sym (c.is_named.ensures ∙ ap (is_among proc_eq c.args.to) (c.members.ensures.value ∙ ap (λ y. members_of y.here) kept))
+    ∙ c.if-not-is_named.false in
     let going : x.here.frozen ≡ false = sym (c.is_frozen.ensures ∙ ap (λ y. y.here.frozen) kept) ∙ c.if-is_frozen.false in
     let own : awaits_own_in r q ≡ false = sym c.awaits_own.ensures ∙ c.if-awaits_own.false in
-    let first : c.first.result ≡ (hand_here (log_of r.orders x.name) q).first = c.first.ensures ∙ ap (λ y. (hand_here (log_of r.orders y.name) q).first) kept in
-    let holding : is_some (hand_here (log_of r.orders x.name) q).first ≡ true = ap is_some (sym first) ∙ c.is_none.ensures ∙ ap not c.if-is_none.false in
+    let first : c.first.result ≡ (hand_here (log_of r.orders x.name) q).first =
+    c.first.ensures ∙ ap (λ y. (hand_here (log_of r.orders y.name) q).first) kept in
+    let holding : is_some (hand_here (log_of r.orders x.name) q).first ≡ true =
+    ap is_some (sym first) ∙ c.is_none.ensures ∙ ap not c.if-is_none.false in
     let room : may_order records r ≡ true = sym c.has_order_room.ensures ∙ c.if-not-has_order_room.false in
     let raised = raised_some (may_raise (time_of r.delay q) g q) (with_bump (time_of r.delay q) g q) c.in-Some.time c.in-Some.stamp
     (sym c.in-Some.is ∙ c.in_ok-time.ensures) in
     let past = pass_past r k g c.args.to i q here member named going own holding room raised.0 in
-    let place : place_to_pass_of r q x ≡ Some c.in-Some-place_to_pass.place = sym (c.place_to_pass.ensures ∙ ap (place_to_pass_of r q) kept) ∙ c.in-Some-place_to_pass.is in
+    let place : place_to_pass_of r q x ≡ Some c.in-Some-place_to_pass.place =
+    sym (c.place_to_pass.ensures ∙ ap (place_to_pass_of r q) kept) ∙ c.in-Some-place_to_pass.is in
     let same : proc_eq c.args.to (local_in r k) ≡ true = ap (proc_eq c.args.to) (sym here) ∙ sym c.eq.ensures ∙ c.if-eq.true in
-    let sends : Attempt Records = (send_own records r k (message_sent records r k g i (body_handing c.in-Some-place_to_pass.place c.args.to)), None) in
+    let sends : Attempt Records = (
+      send_own records r k (message_sent records r k g i (body_handing c.in-Some-place_to_pass.place c.args.to)),
+      None,
+    ) in
     sym (past
     ∙ ap (λ o. option_map_or (hand_over records r k g c.args.to i) o (r, Some HeldFull)) place
     ∙ ap (λ b. if b then (r, None) else sends) same)
@@ -97,33 +108,43 @@ returns-clause-made c =
     let kept : c.record-kept.result.now ≡ x = c.record-kept.ensures in
     let member : is_member (standing_of r.delay q g) ≡ true = ap is_member (sym c.standing.ensures.value ∙ c.in-Member.is) in
     let named : is_among proc_eq c.args.to (members_of x.here) ≡ true =
-    sym (c.is_named.ensures ∙ ap (is_among proc_eq c.args.to) (c.members.ensures.value ∙ ap (λ y. members_of y.here) kept)) ∙ c.if-not-is_named.false in
+    sym (c.is_named.ensures ∙ ap (is_among proc_eq c.args.to) (c.members.ensures.value ∙ ap (λ y. members_of y.here) kept))
+    ∙ c.if-not-is_named.false in
     let going : x.here.frozen ≡ false = sym (c.is_frozen.ensures ∙ ap (λ y. y.here.frozen) kept) ∙ c.if-is_frozen.false in
     let own : awaits_own_in r q ≡ false = sym c.awaits_own.ensures ∙ c.if-awaits_own.false in
-    let first : c.first.result ≡ (hand_here (log_of r.orders x.name) q).first = c.first.ensures ∙ ap (λ y. (hand_here (log_of r.orders y.name) q).first) kept in
-    let holding : is_some (hand_here (log_of r.orders x.name) q).first ≡ true = ap is_some (sym first) ∙ c.is_none.ensures ∙ ap not c.if-is_none.false in
+    let first : c.first.result ≡ (hand_here (log_of r.orders x.name) q).first =
+    c.first.ensures ∙ ap (λ y. (hand_here (log_of r.orders y.name) q).first) kept in
+    let holding : is_some (hand_here (log_of r.orders x.name) q).first ≡ true =
+    ap is_some (sym first) ∙ c.is_none.ensures ∙ ap not c.if-is_none.false in
     let room : may_order records r ≡ true = sym c.has_order_room.ensures ∙ c.if-not-has_order_room.false in
     let raised = raised_some (may_raise (time_of r.delay q) g q) (with_bump (time_of r.delay q) g q) c.in-Some.time c.in-Some.stamp
     (sym c.in-Some.is ∙ c.in_ok-time.ensures) in
     let past = pass_past r k g c.args.to i q here member named going own holding room raised.0 in
     let to = c.args.to in
     let at = c.in-Some-place_to_pass.place in
-    let place : place_to_pass_of r q x ≡ Some at = sym (c.place_to_pass.ensures ∙ ap (place_to_pass_of r q) kept) ∙ c.in-Some-place_to_pass.is in
+    let place : place_to_pass_of r q x ≡ Some at =
+    sym (c.place_to_pass.ensures ∙ ap (place_to_pass_of r q) kept) ∙ c.in-Some-place_to_pass.is in
     let other : proc_eq to (local_in r k) ≡ false = ap (proc_eq to) (sym here) ∙ sym c.eq.ensures ∙ c.if-eq.false in
     let sends : Attempt Records = (send_own records r k (message_sent records r k g i (body_handing at to)), None) in
-    let stamp : c.in-Some.stamp ≡ with_bump (time_of r.delay (local_in r k)) g (local_in r k) = raised.2 ∙ ap (λ y. with_bump (time_of r.delay y) g y) here in
-    let time : c.in-Some.time ≡ with_bump (time_of r.delay (local_in r k)) g (local_in r k) = raised.1 ∙ ap (λ y. with_bump (time_of r.delay y) g y) here in
+    let stamp : c.in-Some.stamp ≡ with_bump (time_of r.delay (local_in r k)) g (local_in r k) =
+    raised.2 ∙ ap (λ y. with_bump (time_of r.delay y) g y) here in
+    let time : c.in-Some.time ≡ with_bump (time_of r.delay (local_in r k)) g (local_in r k) =
+    raised.1 ∙ ap (λ y. with_bump (time_of r.delay y) g y) here in
     let view : c.number.result ≡ x.here.number = c.number.ensures ∙ ap (λ y. y.here.number) kept in
-    let count : c.count.result ≡ count_in (with_bump (time_of r.delay (local_in r k)) g (local_in r k)) g (local_in r k) = c.count.ensures ∙ λ j. count_in (time j) g (here j) in
-    let placed : c.from_parts.result ≡ record { first = at; ids = []; holder = Some to } = c.from_parts.ensures ∙ λ j. record { first = at; ids = c.new.ensures.items j; holder = Some to } in
+    let count : c.count.result ≡ count_in (with_bump (time_of r.delay (local_in r k)) g (local_in r k)) g (local_in r k) =
+    c.count.ensures ∙ λ j. count_in (time j) g (here j) in
+    let placed : c.from_parts.result ≡ record { first = at; ids = []; holder = Some to } =
+    c.from_parts.ensures ∙ λ j. record { first = at; ids = c.new.ensures.items j; holder = Some to } in
     let made : Message = record {
       id = record { group = g; view = c.number.result; proc = q; count = c.count.result };
       times = c.in-Some.stamp;
       body = body.Order c.from_parts.result;
     } in
     let noted : records_in c.note_sent.new.self c.args.lent.now ≡ note_sent_by r q made =
-    seen_as c.args.domain.now c.note_sent.new.self c.in_ok-note_sent.ensures.same c.args.lent.now.shared.now c.args.lent.now.outs.now ∙ c.in_ok-note_sent.ensures.made c.args.lent.now.outs.now r.part in
-    let sent : records_in c.send_message.new.self c.send_message.new.lent ≡ send_own records r k (message_sent records r k g i (body_handing at to)) =
+    seen_as c.args.domain.now c.note_sent.new.self c.in_ok-note_sent.ensures.same c.args.lent.now.shared.now c.args.lent.now.outs.now
+    ∙ c.in_ok-note_sent.ensures.made c.args.lent.now.outs.now r.part in
+    let sent : records_in c.send_message.new.self c.send_message.new.lent
+    ≡ send_own records r k (message_sent records r k g i (body_handing at to)) =
     c.in_ok-send_message.ensures.made
     ∙ (λ j. send_message records (noted j) made)
     ∙ λ j. send_message records (note_sent_by r (here j) (record {

@@ -9,5 +9,6 @@ use Rattle.cast_commands.proofs.home.drop_all.Given as goal
 abbrev pub invariant-loop-wanted : goal.invariant-loop-wanted
 invariant-loop-wanted l = record {
   back : GivesBack l.domain.config.domain l.fn.lent l.lent;
-  left : fold (drop_want records l.place l.still) (records_in l.domain l.lent) (drop l.wanted-index l.before) ≡ fold (drop_want records l.place l.still) (records_in l.domain l.fn.lent) l.before;
+  left : fold (drop_want records l.place l.still) (records_in l.domain l.lent) (drop l.wanted-index l.before)
+      ≡ fold (drop_want records l.place l.still) (records_in l.domain l.fn.lent) l.before;
 }

@@ -10,4 +10,5 @@ returns-clause-made c =
     let lent = c.args.lent.now in
     let r = records_in c.args.domain.now lent in
     c.drop_all.ensures.made
-    ∙ ap (λ ws. fold (drop_want records c.args.place ws) r c.args.before.now) (c.as_slice.ensures ∙ c.in_ok-still.ensures lent.outs.now r.part)
+    ∙ ap (λ ws. fold (drop_want records c.args.place ws) r c.args.before.now)
+    (c.as_slice.ensures ∙ c.in_ok-still.ensures lent.outs.now r.part)

@@ -10,4 +10,5 @@ returns-clause-made c =
     let r = records_in c.args.domain.now lent in
     let wanted = c.as_slice.ensures ∙ c.in_ok-wanted.ensures lent.outs.now r.part in
     c.in_ok-drop_wants.ensures.made
-    ∙ (λ j. drop_wants records (record (c.release_site.ensures.made j) { groups = c.in_ok-suspect_at.ensures.items j }) c.args.place (wanted j))
+    ∙ (λ j.
+    drop_wants records (record (c.release_site.ensures.made j) { groups = c.in_ok-suspect_at.ensures.items j }) c.args.place (wanted j))

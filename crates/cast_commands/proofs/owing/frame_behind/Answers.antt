@@ -23,9 +23,11 @@ returns-in-Some-clause-frame c =
 pub returns-in_default-clause-stands : goal.returns-in_default-clause-stands
 returns-in_default-clause-stands c =
     let r = records_in c.args.domain.now c.args.lent.now in
-    IfOk-weaker c.frame_with_key.result _ _ (λ f is. subst (IsFrameOf r) (sym is) (stands_found r c.args.key (frame_for records r c.args.key) refl)) c.frame_with_key.ensures
+    IfOk-weaker c.frame_with_key.result _ _
+    (λ f is. subst (IsFrameOf r) (sym is) (stands_found r c.args.key (frame_for records r c.args.key) refl)) c.frame_with_key.ensures
 
 pub returns-in_default-clause-frame : goal.returns-in_default-clause-frame
 returns-in_default-clause-frame c =
     let r = records_in c.args.domain.now c.args.lent.now in
-    IfOk-weaker c.frame_with_key.result _ _ (λ f is. ap (option_map (λ (l : OwedKey × SiteFrame). l.1)) is ∙ found_alone c.args.key (frame_for records r c.args.key)) c.frame_with_key.ensures
+    IfOk-weaker c.frame_with_key.result _ _ (λ f is. ap (option_map (λ (l : OwedKey × SiteFrame). l.1)) is
+    ∙ found_alone c.args.key (frame_for records r c.args.key)) c.frame_with_key.ensures

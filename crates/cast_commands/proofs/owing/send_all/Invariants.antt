@@ -11,5 +11,6 @@ abbrev pub invariant-loop-key : goal.invariant-loop-key
 invariant-loop-key l = record {
   back : GivesBack l.domain.config.domain l.fn.lent l.lent;
   stands : IsFrameOf (records_in l.domain l.lent) l.last;
-  left : fold (send_for records) (records_in l.domain l.lent) l.key-iterator.rest.items ≡ fold (send_for records) (records_in l.domain l.fn.lent) l.fn.keys.items;
+  left : fold (send_for records) (records_in l.domain l.lent) l.key-iterator.rest.items
+      ≡ fold (send_for records) (records_in l.domain l.fn.lent) l.fn.keys.items;
 }

@@ -10,10 +10,12 @@ returns-in-Some c =
     let u = c.args.id in
     c.is_current.ensures
     ∙ ap (λ x. is_current x.here u.view) c.record.ensures
-    ∙ ap (λ (p : Option ℕ). option_map_or (λ i. is_current (record_at d.groups.items i).here u.view) p false) (sym c.in-Some.is ∙ c.place_of.ensures.place)
+    ∙ ap (λ (p : Option ℕ). option_map_or (λ i. is_current (record_at d.groups.items i).here u.view) p false)
+    (sym c.in-Some.is ∙ c.place_of.ensures.place)
 
 pub returns-in-None : goal.returns-in-None
 returns-in-None c =
     let d = c.args.domain.now in
     let u = c.args.id in
-    ap (λ (p : Option ℕ). option_map_or (λ i. is_current (record_at d.groups.items i).here u.view) p false) (sym c.in-None.is ∙ c.place_of.ensures.place)
+    ap (λ (p : Option ℕ). option_map_or (λ i. is_current (record_at d.groups.items i).here u.view) p false)
+    (sym c.in-None.is ∙ c.place_of.ensures.place)

@@ -15,4 +15,6 @@ returns-clause-made c o part =
     c.over_first-over.ensures ∙ ap (count_first (is_over_of r x kept)) c.oldest.ensures in
     (λ i. record r { orders = c.forget_first.ensures i })
     ∙ (λ i. record r { orders = change_in c.record.result.now.name (forgot (over i)) r.orders })
-    ∙ ap (λ (y : GroupRecord). record r { orders = change_in y.name (forgot (count_first (is_over_of r x kept) (oldest_in (log_of r.orders y.name)))) r.orders }) c.record.ensures
+    ∙ ap (λ (y : GroupRecord).
+    record r { orders = change_in y.name (forgot (count_first (is_over_of r x kept) (oldest_in (log_of r.orders y.name)))) r.orders })
+    c.record.ensures

@@ -24,4 +24,5 @@ loop-place-preserved c =
 pub returns-then-not-some_are_long-clause-made : goal.returns-then-not-some_are_long-clause-made
 returns-then-not-some_are_long-clause-made c = λ o part.
     let r = records_of c.args.domain.now part o in
-    sym (none_trimmed c.args.kept.now r (range_with_len 0 (length c.args.domain.now.groups.items)) (sym c.some_are_long.ensures ∙ c.if-not-some_are_long.true))
+    sym (none_trimmed c.args.kept.now r (range_with_len 0 (length c.args.domain.now.groups.items))
+    (sym c.some_are_long.ensures ∙ c.if-not-some_are_long.true))

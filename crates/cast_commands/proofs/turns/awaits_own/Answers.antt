@@ -7,4 +7,5 @@ pub returns : goal.returns
 returns c =
     let groups = c.args.domain.now.groups in
     let all : length groups.items ≡ c.loop-place.place = search rules in
-    sym (none_awaited (records_in c.args.domain.now c.args.lent.now) c.args.process (λ i within. c.loop-place.invariant i (omega (arith, within, all))))
+    sym (none_awaited (records_in c.args.domain.now c.args.lent.now)
+    c.args.process (λ i within. c.loop-place.invariant i (omega (arith, within, all))))

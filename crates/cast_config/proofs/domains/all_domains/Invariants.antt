@@ -8,4 +8,5 @@ use Rattle.cast_config.proofs.domains.all_domains.Given as goal
 -- what was read, and what is still read
 abbrev pub invariant-loop-table : goal.invariant-loop-table
 invariant-loop-table l =
-    with_front l.domains (each domain_of (map (λ t. table_view t.now) (drop l.table-index l.tables))) ≡ each domain_of (map (λ t. table_view t.now) l.tables)
+    with_front l.domains (each domain_of (map (λ t. table_view t.now) (drop l.table-index l.tables)))
+    ≡ each domain_of (map (λ t. table_view t.now) l.tables)

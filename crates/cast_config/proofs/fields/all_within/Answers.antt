@@ -9,12 +9,17 @@ use Rattle.cast_config.proofs.fields.all_within.Goals as goal
 pub returns-in_err-short_number_of : goal.returns-in_err-short_number_of
 returns-in_err-short_number_of c =
     let p = err_from_is_err_and c.from_residual.result c.from_residual.ensures.1 in
-    rw (p.1, p.2) (λ _. ends view (number_of c.args.field 1 65535) c.loop-item.numbers.items c.args.items.now c.loop-item.item-index _ c.in_err-short_number_of.field-0.0 (each (number_of c.args.field 1 65535) (map view c.args.items.now)) c.loop-item-test.true (sym (rw c.item-item.is at c.in_err-short_number_of.ensures)) c.loop-item.invariant)
+    rw (p.1, p.2) (λ _. ends view (number_of c.args.field 1 65535) c.loop-item.numbers.items c.args.items.now c.loop-item.item-index _
+    c.in_err-short_number_of.field-0.0 (each (number_of c.args.field 1 65535) (map view c.args.items.now))
+    c.loop-item-test.true (sym (rw c.item-item.is at c.in_err-short_number_of.ensures)) c.loop-item.invariant)
 
 pub loop-item-preserved : goal.loop-item-preserved
 loop-item-preserved c =
-    rw c.in_ok-push.ensures.items (goes_on view (number_of c.args.field 1 65535) c.loop-item.numbers.items c.args.items.now c.loop-item.item-index _ c.in_ok-short_number_of.field-0 (each (number_of c.args.field 1 65535) (map view c.args.items.now)) c.loop-item-test.true (sym (rw c.item-item.is at c.in_ok-short_number_of.ensures)) c.loop-item.invariant)
+    rw c.in_ok-push.ensures.items (goes_on view (number_of c.args.field 1 65535) c.loop-item.numbers.items c.args.items.now
+    c.loop-item.item-index _ c.in_ok-short_number_of.field-0 (each (number_of c.args.field 1 65535) (map view c.args.items.now))
+    c.loop-item-test.true (sym (rw c.item-item.is at c.in_ok-short_number_of.ensures)) c.loop-item.invariant)
 
 pub returns : goal.returns
 returns c =
-    is_done view (number_of c.args.field 1 65535) c.loop-item.numbers.items c.args.items.now c.loop-item.item-index (each (number_of c.args.field 1 65535) (map view c.args.items.now)) c.loop-item-test.false c.loop-item.invariant
+    is_done view (number_of c.args.field 1 65535) c.loop-item.numbers.items c.args.items.now c.loop-item.item-index
+    (each (number_of c.args.field 1 65535) (map view c.args.items.now)) c.loop-item-test.false c.loop-item.invariant

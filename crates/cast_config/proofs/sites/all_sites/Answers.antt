@@ -9,12 +9,17 @@ use Rattle.cast_config.proofs.sites.all_sites.Goals as goal
 pub returns-in_err-site_of : goal.returns-in_err-site_of
 returns-in_err-site_of c =
     let p = err_from_is_err_and c.from_residual.result c.from_residual.ensures.1 in
-    rw (p.1, p.2) (λ memory. ends (λ t. table_view t.now) site_of c.loop-table.sites c.args.tables.now c.loop-table.table-index _ c.in_err-site_of.field-0.0 (each site_of (map (λ t. table_view t.now) c.args.tables.now)) c.loop-table-test.true ((rw c.table-item.is at c.in_err-site_of.ensures) memory) c.loop-table.invariant)
+    rw (p.1, p.2) (λ memory. ends (λ t. table_view t.now) site_of c.loop-table.sites c.args.tables.now c.loop-table.table-index _
+    c.in_err-site_of.field-0.0 (each site_of (map (λ t. table_view t.now) c.args.tables.now))
+    c.loop-table-test.true ((rw c.table-item.is at c.in_err-site_of.ensures) memory) c.loop-table.invariant)
 
 pub loop-table-preserved : goal.loop-table-preserved
 loop-table-preserved c =
-    rw c.in_ok-push.ensures.ok (goes_on (λ t. table_view t.now) site_of c.loop-table.sites c.args.tables.now c.loop-table.table-index _ c.in_ok-site_of.field-0 (each site_of (map (λ t. table_view t.now) c.args.tables.now)) c.loop-table-test.true (rw c.table-item.is at c.in_ok-site_of.ensures) c.loop-table.invariant)
+    rw c.in_ok-push.ensures.ok (goes_on (λ t. table_view t.now) site_of c.loop-table.sites c.args.tables.now c.loop-table.table-index _
+    c.in_ok-site_of.field-0 (each site_of (map (λ t. table_view t.now) c.args.tables.now))
+    c.loop-table-test.true (rw c.table-item.is at c.in_ok-site_of.ensures) c.loop-table.invariant)
 
 pub returns : goal.returns
 returns c =
-    is_done (λ t. table_view t.now) site_of c.loop-table.sites c.args.tables.now c.loop-table.table-index (each site_of (map (λ t. table_view t.now) c.args.tables.now)) c.loop-table-test.false c.loop-table.invariant
+    is_done (λ t. table_view t.now) site_of c.loop-table.sites c.args.tables.now c.loop-table.table-index
+    (each site_of (map (λ t. table_view t.now) c.args.tables.now)) c.loop-table-test.false c.loop-table.invariant

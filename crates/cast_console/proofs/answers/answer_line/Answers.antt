@@ -8,4 +8,5 @@ pub returns-in-Show-clause-text : goal.returns-in-Show-clause-text
 returns-in-Show-clause-text g c = rw (c.in-Show.is, c.text_answer-in-Show.ensures.text, sym c.table-in-Show.ensures) c.show_text.ensures
 
 pub returns-in-Retire-clause-text : goal.returns-in-Retire-clause-text
-returns-in-Retire-clause-text g c = rw (c.in-Retire.is, c.text_answer-in-Retire.ensures.text, sym c.table-in-Retire.ensures) c.retire_text.ensures
+returns-in-Retire-clause-text g c =
+    rw (c.in-Retire.is, c.text_answer-in-Retire.ensures.text, sym c.table-in-Retire.ensures) c.retire_text.ensures

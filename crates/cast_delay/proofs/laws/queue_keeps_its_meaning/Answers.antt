@@ -1,4 +1,5 @@
-use Rattle.cast_delay.proofs.Queues.{new_fits, admit_fits, dismiss_fits, tell_fits, view_fits, freeze_fits, pend_fits, offer_fits, forget_fits, delivery_fits}
+use Rattle.cast_delay.proofs.Queues.{new_fits, admit_fits, dismiss_fits, tell_fits, view_fits}
+use Rattle.cast_delay.proofs.Queues.{freeze_fits, pend_fits, offer_fits, forget_fits, delivery_fits}
 use Rattle.cast_delay.proofs.laws.queue_keeps_its_meaning.Goals as goal
 
 pub returns-clause-new : goal.returns-clause-new

@@ -19,13 +19,19 @@ returns-in_default-clause-first c =
 
 -- where a message is
 pub returns-then-place-first-clause-items : goal.returns-then-place-first-clause-items
-returns-then-place-first-clause-items c = c.take_out.ensures ∙ removed_is key_of c.args.key.0 c.args.messages.now.items c.in-Some.place c.requires.rising (search rules)
+returns-then-place-first-clause-items c =
+    c.take_out.ensures ∙ removed_is key_of c.args.key.0 c.args.messages.now.items c.in-Some.place c.requires.rising (search rules)
 
 pub returns-else-place-first-clause-items : goal.returns-else-place-first-clause-items
-returns-else-place-first-clause-items c = c.take_out.ensures ∙ removed_is key_of c.args.key.0 c.args.messages.now.items c.in-Some.place c.requires.rising (search rules)
+returns-else-place-first-clause-items c =
+    c.take_out.ensures ∙ removed_is key_of c.args.key.0 c.args.messages.now.items c.in-Some.place c.requires.rising (search rules)
 
 pub returns-then-place-first-clause-first : goal.returns-then-place-first-clause-first
-returns-then-place-first-clause-first c = sym (one_less key_of c.args.key.0 c.args.messages.now.items c.in-Some.place c.args.first c.requires.rising (search rules) c.if-place-first.true c.requires.first)
+returns-then-place-first-clause-first c =
+    sym (one_less key_of c.args.key.0 c.args.messages.now.items c.in-Some.place c.args.first c.requires.rising (search rules)
+    c.if-place-first.true c.requires.first)
 
 pub returns-else-place-first-clause-first : goal.returns-else-place-first-clause-first
-returns-else-place-first-clause-first c = sym (none_less key_of c.args.key.0 c.args.messages.now.items c.in-Some.place c.args.first (search rules) c.if-place-first.false c.requires.first)
+returns-else-place-first-clause-first c =
+    sym (none_less key_of c.args.key.0 c.args.messages.now.items c.in-Some.place c.args.first (search rules)
+    c.if-place-first.false c.requires.first)

@@ -8,11 +8,15 @@ use Rattle.cast_delay.proofs.rows.count_below.Goals as goal
 pub returns-clause-below : goal.returns-clause-below
 returns-clause-below c = λ i lt within.
     let places = c.args.places.now in
-    let parted = IsPartitionPoint-from_clause (λ k. nat_lt k c.args.place) places c.partition_point.result c.partition_point.ensures.partitioned (IsPartitionedBy-ltb (λ k. k) places c.args.place c.requires) (λ a r f called. search rules) in
+    let parted =
+    IsPartitionPoint-from_clause (λ k. nat_lt k c.args.place) places c.partition_point.result c.partition_point.ensures.partitioned
+    (IsPartitionedBy-ltb (λ k. k) places c.args.place c.requires) (λ a r f called. search rules) in
     ltb-true _ c.args.place (parted.0 i 0 (omega arith) lt)
 
 pub returns-clause-others : goal.returns-clause-others
 returns-clause-others c = λ i le within.
     let places = c.args.places.now in
-    let parted = IsPartitionPoint-from_clause (λ k. nat_lt k c.args.place) places c.partition_point.result c.partition_point.ensures.partitioned (IsPartitionedBy-ltb (λ k. k) places c.args.place c.requires) (λ a r f called. search rules) in
+    let parted =
+    IsPartitionPoint-from_clause (λ k. nat_lt k c.args.place) places c.partition_point.result c.partition_point.ensures.partitioned
+    (IsPartitionedBy-ltb (λ k. k) places c.args.place c.requires) (λ a r f called. search rules) in
     ltb-false _ c.args.place (parted.1 i 0 le within)

@@ -8,7 +8,8 @@ use Rattle.cast_delay.proofs.rows.found_in.Goals as goal
 pub returns-in-Ok : goal.returns-in-Ok
 returns-in-Ok c =
     let by_process = c.in-Ok.ensures.position (λ (r : Row). r.process) (answers_always _ _ _ (λ f a r g called. search rules)) in
-    let found = search_found c.args.process c.args.rows.now c.in-Ok.place c.index-rows-place.result c.requires c.in-Ok.ensures.bound by_process in
+    let found =
+    search_found c.args.process c.args.rows.now c.in-Ok.place c.index-rows-place.result c.requires c.in-Ok.ensures.bound by_process in
     search (rules, found)
 
 pub returns-in-Err : goal.returns-in-Err

@@ -21,5 +21,6 @@ returns-in_default c =
           rw c.in_ok-id.ensures
           (above_passed entry_cmp c.args.last w.in-Some.last (c.in_ok-id.id, c.in_ok-id.rest.now) w.in-Some.is
           (rw (← w.in-Some.last-is) (ap is_lt (sym w.cmp.ensures) ∙ sym w.if-not-is_lt.ensures)))
-      | in_default-via-in_default w ↦ rw c.in_ok-id.ensures (above_first entry_cmp c.args.last (c.in_ok-id.id, c.in_ok-id.rest.now) w.in_default.is)
+      | in_default-via-in_default w ↦
+          rw c.in_ok-id.ensures (above_first entry_cmp c.args.last (c.in_ok-id.id, c.in_ok-id.rest.now) w.in_default.is)
     ]

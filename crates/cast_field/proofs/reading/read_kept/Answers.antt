@@ -9,7 +9,8 @@ unfolding kept_at
 from_entries-requires c =
     let size : number_at w16 0 2048 c.args.bytes.now ≡ Ok (c.in_ok-count.count, c.in_ok-count.rest.now) = c.in_ok-count.ensures in
     let read : kept_at c.args.bytes.now ≡ Ok (c.in_ok-entries.entries.items, c.in_ok-entries.rest.now) = rw size c.in_ok-entries.ensures in
-    (kept_takes c.args.bytes.now (c.in_ok-entries.entries.items, c.in_ok-entries.rest.now) (λ i. omega (arith, c.type_inv.bytes i)) read).holds.sorted
+    (kept_takes c.args.bytes.now (c.in_ok-entries.entries.items, c.in_ok-entries.rest.now) (λ i. omega (arith, c.type_inv.bytes i))
+    read).holds.sorted
 
 pub returns : goal.returns
 unfolding kept_at

@@ -9,6 +9,8 @@ unfolding payload_at
 from_bytes-requires c =
     let size : number_at w16 0 16384 c.args.bytes.now ≡ Ok (c.in_ok-len.len, c.in_ok-len.rest.now) = c.in_ok-len.ensures in
     let read : payload_at c.args.bytes.now ≡ Ok (c.in_ok-payload.payload.now, c.in_ok-payload.rest.now) = rw size c.in_ok-payload.ensures in
-    let few = (payload_takes c.args.bytes.now (c.in_ok-payload.payload.now, c.in_ok-payload.rest.now) (λ i. omega (arith, c.type_inv.bytes i)) read).holds in
+    let few =
+    (payload_takes c.args.bytes.now (c.in_ok-payload.payload.now, c.in_ok-payload.rest.now) (λ i. omega (arith, c.type_inv.bytes i))
+    read).holds in
     let same : c.in_ok-payload-2.payload ≡ c.in_ok-payload.payload.now = c.in_ok-payload-2.ensures in
     subst (λ (p : List ℕ). length p ≤ 16384) (sym same) few

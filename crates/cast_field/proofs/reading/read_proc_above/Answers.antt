@@ -21,5 +21,6 @@ returns-in_default c =
           rw c.in_ok-proc.ensures
           (above_passed proc_cmp c.args.last w.in-Some.last (c.in_ok-proc.proc, c.in_ok-proc.rest.now) w.in-Some.is
           (rw (← w.in-Some.last-is) (ap is_lt (sym w.cmp.ensures) ∙ sym w.if-not-is_lt.ensures)))
-      | in_default-via-in_default w ↦ rw c.in_ok-proc.ensures (above_first proc_cmp c.args.last (c.in_ok-proc.proc, c.in_ok-proc.rest.now) w.in_default.is)
+      | in_default-via-in_default w ↦
+          rw c.in_ok-proc.ensures (above_first proc_cmp c.args.last (c.in_ok-proc.proc, c.in_ok-proc.rest.now) w.in_default.is)
     ]

@@ -8,7 +8,8 @@ unfolding times_at
 from_clocks-requires c =
     let size : byte_at 1 32 c.args.bytes.now ≡ Ok (c.in_ok-count.count, c.in_ok-count.rest.now) = c.in_ok-count.ensures in
     let read : times_at c.args.bytes.now ≡ Ok (c.in_ok-clocks.clocks.items, c.in_ok-clocks.rest.now) = rw size c.in_ok-clocks.ensures in
-    (times_takes c.args.bytes.now (c.in_ok-clocks.clocks.items, c.in_ok-clocks.rest.now) (λ i. omega (arith, c.type_inv.bytes i)) read).holds.sorted
+    (times_takes c.args.bytes.now (c.in_ok-clocks.clocks.items, c.in_ok-clocks.rest.now) (λ i. omega (arith, c.type_inv.bytes i))
+    read).holds.sorted
 
 pub returns : goal.returns
 unfolding times_at

@@ -8,4 +8,5 @@ pub returns : goal.returns
 unfolding spelled_members byte
 returns c =
     rw (c.in_ok-put_holder.ensures, c.in_ok-put_procs.ensures, c.in_ok-put_u8.ensures.ok, c.list-list.ensures.value, c.holder.ensures.value)
-    (three c.args.out.now.items (byte (length c.args.members.now.list)) (flat_map spelled_proc c.args.members.now.list) (spelled_holder c.args.members.now.list c.args.members.now.holder))
+    (three c.args.out.now.items (byte (length c.args.members.now.list)) (flat_map spelled_proc c.args.members.now.list)
+    (spelled_holder c.args.members.now.list c.args.members.now.holder))

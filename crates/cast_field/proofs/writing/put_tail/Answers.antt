@@ -8,4 +8,5 @@ pub returns : goal.returns
 unfolding spelled_tail short word
 returns c =
     rw (c.in_ok-put_entries.ensures, c.in_ok-put_u16.ensures.ok, c.in_ok-put_u32.ensures.ok, c.ids-ids.ensures.value, c.start.ensures.value)
-    (three c.args.out.now.items (word c.args.tail.now.start) (short (length c.args.tail.now.ids)) (flat_map spelled_entry c.args.tail.now.ids))
+    (three c.args.out.now.items (word c.args.tail.now.start) (short (length c.args.tail.now.ids))
+    (flat_map spelled_entry c.args.tail.now.ids))

@@ -13,7 +13,8 @@ use Rattle.cast_flush.proofs.reports.keeps.Goals as goal
 kept : (ks report : KeptList) (e : Entry) → ks ≡ report → list_any (λ k. entry_eq k.0 e) ks ≡ list_any (λ k. entry_eq k.0 e) report
 kept ks report e is = ap (λ (l : KeptList). list_any (λ k. entry_eq k.0 e) l) is
 
-rises : (ks report : KeptList) → ks ≡ report → is_sorted entry_cmp report && nat_le (length report) 2048 ≡ true → is_sorted entry_cmp ks ≡ true
+rises : (ks report : KeptList) → ks ≡ report → is_sorted entry_cmp report && nat_le (length report) 2048 ≡ true →
+    is_sorted entry_cmp ks ≡ true
 rises ks report is valid = ap (is_sorted entry_cmp) is ∙ (and_parts (is_sorted entry_cmp report) (nat_le (length report) 2048) valid).0
 
 pub returns-in-Ok : goal.returns-in-Ok
@@ -22,7 +23,8 @@ returns-in-Ok c =
     let report = c.args.report.now.kept in
     let by_id = c.in-Ok.ensures.position (λ (k : Entry × Bool). k.0) (answers_always _ _ _ (λ f a r g called. search rules)) in
     sym (sym (kept ks report c.args.id c.entries.ensures.value)
-    ∙ search_keeps c.args.id ks c.in-Ok.field-0 (c.args.id, true) (rises ks report c.entries.ensures.value c.entries.ensures.valid) c.in-Ok.ensures.bound by_id)
+    ∙ search_keeps c.args.id ks c.in-Ok.field-0 (c.args.id, true) (rises ks report c.entries.ensures.value c.entries.ensures.valid)
+    c.in-Ok.ensures.bound by_id)
 
 pub returns-in-Err : goal.returns-in-Err
 returns-in-Err c =

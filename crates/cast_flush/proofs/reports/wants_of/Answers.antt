@@ -9,7 +9,9 @@ use Rattle.cast_flush.proofs.reports.wants_of.Goals as goal
 pub returns : goal.returns
 returns c =
     let part : List Entry = take c.min.result c.args.wanting.now in
-    let rest = at_drop_all (λ (es : List Entry). c.loop-id.wants.items ++ filter_map (want_of c.args.reports.now) es) part c.loop-id.id-index c.loop-id-test.false in
+    let rest =
+    at_drop_all (λ (es : List Entry). c.loop-id.wants.items ++ filter_map (want_of c.args.reports.now) es)
+    part c.loop-id.id-index c.loop-id-test.false in
     c.from_vec.ensures
     ∙ sym (append-nil c.loop-id.wants.items)
     ∙ sym rest

@@ -8,4 +8,5 @@ pub returns-clause-found : goal.returns-clause-found
 returns-clause-found c = is_found c.args.bytes.now c.read_all.result (λ i. omega (arith, c.type_inv.bytes i)) c.read_all.ensures
 
 pub returns-clause-only : goal.returns-clause-only
-returns-clause-only c = λ d s f is e. subst (λ r. Gives c.read_all.result r) (ap site_frame_of e ∙ spelled_is_read d s f is) c.read_all.ensures
+returns-clause-only c =
+    λ d s f is e. subst (λ r. Gives c.read_all.result r) (ap site_frame_of e ∙ spelled_is_read d s f is) c.read_all.ensures

@@ -6,5 +6,12 @@ use Rattle.cast_frame.proofs.writing.put_flushed.Goals as goal
 pub returns : goal.returns
 unfolding spelled_fields short word
 returns c =
-    rw (c.in_ok-put_kept.ensures, c.in_ok-put_tail.ensures, c.in_ok-put_counts.ensures, c.in_ok-put_u32.ensures.ok, c.in_ok-put_u16.ensures.ok)
-    (five c.args.out.now.items (short c.args.group.0) (word c.args.view) (spelled_counts c.args.counts.now) (spelled_tail c.args.tail.now) (spelled_kept c.args.kept.now))
+    rw (
+      c.in_ok-put_kept.ensures,
+      c.in_ok-put_tail.ensures,
+      c.in_ok-put_counts.ensures,
+      c.in_ok-put_u32.ensures.ok,
+      c.in_ok-put_u16.ensures.ok,
+    )
+    (five c.args.out.now.items (short c.args.group.0) (word c.args.view) (spelled_counts c.args.counts.now) (spelled_tail c.args.tail.now)
+    (spelled_kept c.args.kept.now))

@@ -32,6 +32,7 @@ returns-else-is_outdated-clause-made c =
     let x = record_at r.groups i in
     let told = send_in r c.args.from (frame.Out x.name x.here.number) in
     let unused : is_used records r i c.args.from m ≡ false = sym (c.is_used.ensures lent.outs.now r.part) ∙ c.if-is_used.false in
-    let current : is_outdated records r i c.args.from m ≡ false = sym (c.is_outdated.ensures lent.outs.now r.part) ∙ c.if-is_outdated.false in
+    let current : is_outdated records r i c.args.from m ≡ false =
+    sym (c.is_outdated.ensures lent.outs.now r.part) ∙ c.if-is_outdated.false in
     sym (ap (λ b. if b then told else r) current)
     ∙ sym (ap (λ b. if b then use_data records r c.args.from m else if is_outdated records r i c.args.from m then told else r) unused)

@@ -13,7 +13,8 @@ pub returns-then-is_received-clause-made : goal.returns-then-is_received-clause-
 returns-then-is_received-clause-made c =
     let r = records_in c.args.domain.now c.args.lent.now in
     let m = c.args.message.now in
-    let new : Records = if may_take records r m.body then want_no_more records (acknowledge records (receive_in r m) c.args.from m.id) m.id else r in
+    let new : Records =
+    if may_take records r m.body then want_no_more records (acknowledge records (receive_in r m) c.args.from m.id) m.id else r in
     let received : is_received_in r.acks m.id ≡ true = sym c.is_received.ensures.value ∙ c.if-is_received.true in
     c.in_ok-send.ensures r.part ∙ sym (ap (λ b. if b then send_in r c.args.from (frame.Ack m.id) else new) received)
 

@@ -11,5 +11,6 @@ use Rattle.cast_handlers.proofs.flushes.had.Given as goal
 -- what is had so far with what the members sent that are left is all
 abbrev pub invariant-loop-member : goal.invariant-loop-member
 invariant-loop-member l =
-    l.had.items ++ map (λ p. (p, last_received_in l.fn.domain.acks (source l.fn.group.name l.fn.group.here.number p))) (filter (is_at l.fn.domain.site) (drop l.member-index l.member-items))
+    l.had.items ++ map (λ p. (p, last_received_in l.fn.domain.acks (source l.fn.group.name l.fn.group.here.number p)))
+    (filter (is_at l.fn.domain.site) (drop l.member-index l.member-items))
     ≡ had_of (records_of l.fn.domain no_part no_outs) l.fn.group

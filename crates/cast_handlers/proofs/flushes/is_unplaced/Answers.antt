@@ -15,7 +15,8 @@ returns-then-is_abcast_among c =
     let x = c.args.group.now in
     let e = c.args.name in
     let known = is_among entry_eq e (whole_kept (log_of c.args.domain.now.orders x.name) c.args.holder) in
-    let abcast : list_any (λ m. is_atomic (kind_of m.body) && entry_eq (entry_of m.id) e) (filter (is_kept_of x) (messages c.args.kept.now)) ≡ true =
+    let abcast : list_any (λ m. is_atomic (kind_of m.body) && entry_eq (entry_of m.id) e) (filter (is_kept_of x) (messages c.args.kept.now))
+    ≡ true =
     sym (abcast_among x c.args.kept.now e) ∙ sym c.is_abcast_among.ensures ∙ c.if-is_abcast_among.true in
     ap not c.knows.ensures ∙ sym (ap (λ b. b && not known) abcast)
 
@@ -24,6 +25,7 @@ returns-else-is_abcast_among c =
     let x = c.args.group.now in
     let e = c.args.name in
     let known = is_among entry_eq e (whole_kept (log_of c.args.domain.now.orders x.name) c.args.holder) in
-    let none : list_any (λ m. is_atomic (kind_of m.body) && entry_eq (entry_of m.id) e) (filter (is_kept_of x) (messages c.args.kept.now)) ≡ false =
+    let none : list_any (λ m. is_atomic (kind_of m.body) && entry_eq (entry_of m.id) e) (filter (is_kept_of x) (messages c.args.kept.now))
+    ≡ false =
     sym (abcast_among x c.args.kept.now e) ∙ sym c.is_abcast_among.ensures ∙ c.if-is_abcast_among.false in
     c.if-is_abcast_among.false ∙ sym (ap (λ b. b && not known) none)

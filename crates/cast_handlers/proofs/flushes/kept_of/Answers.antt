@@ -14,7 +14,8 @@ pub from_entries-requires : goal.from_entries-requires
 from_entries-requires c =
     let x = c.args.group.now in
     let names : List Entry = map (λ m. entry_of m.id) (filter (is_kept_of x) (messages c.args.kept.now)) in
-    let mark : Entry → Bool = is_unplaced (filter (is_kept_of x) (messages c.args.kept.now)) (whole_kept (log_of c.args.domain.now.orders x.name) c.args.holder) in
+    let mark : Entry → Bool =
+    is_unplaced (filter (is_kept_of x) (messages c.args.kept.now)) (whole_kept (log_of c.args.domain.now.orders x.name) c.args.holder) in
     let f : Entry → Marked = λ e. (e, mark e) in
     let is : c.in_ok-marked.marked.items ≡ map f (take 2048 (set_of entry_cmp names)) =
     c.in_ok-marked.ensures ∙ ap (map f) (c.as_slice.ensures.value ∙ c.truncate.ensures.items ∙ ap (take 2048) c.in_ok-names.ensures) in
@@ -24,7 +25,10 @@ pub returns : goal.returns
 returns c =
     let x = c.args.group.now in
     let names : List Entry = map (λ m. entry_of m.id) (filter (is_kept_of x) (messages c.args.kept.now)) in
-    let f : Entry → Marked = λ e. (e, is_unplaced (filter (is_kept_of x) (messages c.args.kept.now)) (whole_kept (log_of c.args.domain.now.orders x.name) c.args.holder) e) in
+    let f : Entry → Marked = λ e. (
+      e,
+      is_unplaced (filter (is_kept_of x) (messages c.args.kept.now)) (whole_kept (log_of c.args.domain.now.orders x.name) c.args.holder) e,
+    ) in
     c.from_entries.ensures
     ∙ c.in_ok-marked.ensures
     ∙ ap (map f) (c.as_slice.ensures.value ∙ c.truncate.ensures.items ∙ ap (take 2048) c.in_ok-names.ensures)

@@ -9,4 +9,7 @@ use Rattle.cast_handlers.proofs.flushes.mark_names.Given as goal
 abbrev pub invariant-loop-name : goal.invariant-loop-name
 invariant-loop-name l =
     l.marked.items
-    ≡ map (λ e. (e, is_unplaced (filter (is_kept_of l.fn.group) (messages l.fn.kept)) (whole_kept (log_of l.fn.domain.orders l.fn.group.name) l.holder) e)) (take l.name-index l.names)
+    ≡ map (λ e. (
+      e,
+      is_unplaced (filter (is_kept_of l.fn.group) (messages l.fn.kept)) (whole_kept (log_of l.fn.domain.orders l.fn.group.name) l.holder) e,
+    )) (take l.name-index l.names)

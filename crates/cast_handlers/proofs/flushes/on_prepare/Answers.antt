@@ -16,14 +16,16 @@ returns-then-not-is_asked-clause-made c =
     let r = records_in c.args.domain.now c.args.lent.now in
     let x = record_at r.groups c.args.place in
     let told : Records = send_in (freeze_in r c.args.place) c.args.from (flushed_frame x.name c.args.view (report_at r x)) in
-    let unasked : (is_from_home records r c.args.from && answers_prepare x.here c.args.view) ≡ false = sym (c.is_asked.ensures c.args.lent.now.outs.now r.part) ∙ c.if-not-is_asked.true in
+    let unasked : (is_from_home records r c.args.from && answers_prepare x.here c.args.view) ≡ false =
+    sym (c.is_asked.ensures c.args.lent.now.outs.now r.part) ∙ c.if-not-is_asked.true in
     sym (ap (λ b. if b then told else r) unasked)
 
 pub freeze-requires-clause-answered : goal.freeze-requires-clause-answered
 freeze-requires-clause-answered c =
     let r = records_in c.args.domain.now c.args.lent.now in
     let x = record_at r.groups c.args.place in
-    let asked : (is_from_home records r c.args.from && answers_prepare x.here c.args.view) ≡ true = sym (c.is_asked.ensures c.args.lent.now.outs.now r.part) ∙ c.if-not-is_asked.false in
+    let asked : (is_from_home records r c.args.from && answers_prepare x.here c.args.view) ≡ true =
+    sym (c.is_asked.ensures c.args.lent.now.outs.now r.part) ∙ c.if-not-is_asked.false in
     (and_parts (is_from_home records r c.args.from) (answers_prepare x.here c.args.view) asked).1
 
 pub returns-clause-made : goal.returns-clause-made
@@ -35,8 +37,10 @@ returns-clause-made c =
     let view = c.args.view in
     let x = record_at r.groups c.args.place in
     let told : Records = send_in (freeze_in r c.args.place) from (flushed_frame x.name view (report_at r x)) in
-    let asked : (is_from_home records r from && answers_prepare x.here view) ≡ true = sym (c.is_asked.ensures lent.outs.now r.part) ∙ c.if-not-is_asked.false in
+    let asked : (is_from_home records r from && answers_prepare x.here view) ≡ true =
+    sym (c.is_asked.ensures lent.outs.now r.part) ∙ c.if-not-is_asked.false in
     seen_as d c.freeze.new.domain c.in_ok-freeze.ensures.same lent.shared.now c.send.new.outs
     ∙ c.in_ok-send.ensures r.part
-    ∙ (λ j. send_in (c.in_ok-freeze.ensures.made lent.outs.now r.part j) from (flushed_frame (c.record.ensures j).name view (c.in_ok-report.ensures j)))
+    ∙ (λ j. send_in (c.in_ok-freeze.ensures.made lent.outs.now r.part j)
+    from (flushed_frame (c.record.ensures j).name view (c.in_ok-report.ensures j)))
     ∙ sym (ap (λ b. if b then told else r) asked)

@@ -18,12 +18,14 @@ pub returns : goal.returns
 returns c =
     let r = records_in c.args.domain.now c.args.lent.now in
     let x = c.record-record.result.now in
-    let holder : ◌≡◌ {A = Option Proc} c.holder_here-holder.result (holder_in r x.name) = c.holder_here-holder.ensures c.args.lent.now.outs.now r.part in
+    let holder : ◌≡◌ {A = Option Proc} c.holder_here-holder.result (holder_in r x.name) =
+    c.holder_here-holder.ensures c.args.lent.now.outs.now r.part in
     let tail : ◌≡◌ {A = Tail} c.tail_from-tail.result (tail_in (log_of r.orders x.name) (holder_in r x.name)) =
     c.tail_from-tail.ensures
     ∙ (λ j. record { start = min MAX_POSITION (c.in_ok-start.ensures j).0; ids = (c.in_ok-start.ensures j).1 })
     ∙ ap (tail_in (log_of r.orders x.name)) holder in
-    let kept : ◌≡◌ {A = KeptList} c.in_ok-kept.kept (kept_list (filter (is_kept_of x) (messages r.part.kept)) (whole_kept (log_of r.orders x.name) (holder_in r x.name))) =
+    let kept : ◌≡◌ {A = KeptList} c.in_ok-kept.kept
+    (kept_list (filter (is_kept_of x) (messages r.part.kept)) (whole_kept (log_of r.orders x.name) (holder_in r x.name))) =
     c.in_ok-kept.ensures
     ∙ (λ j. kept_list (filter (is_kept_of x) (messages (c.messages.ensures.value j))) (whole_kept (log_of r.orders x.name) (holder j))) in
     let had : c.as_slice.result.now ≡ had_of r x = c.as_slice.ensures.value ∙ c.in_ok-had.ensures in

@@ -19,4 +19,5 @@ returns-in_ok-send-in-Some-clause-made c =
     let other : (site_eq from r.site && not (site_eq r.site r.config.home)) ≡ false = sym c.is_own_want.ensures ∙ c.if-is_own_want.false in
     c.in_ok-send-in-Some.ensures (part_of d.config.domain c.args.lent.now.shared.now)
     ∙ sym (ap (λ o. option_map_or (λ m. send_in r from (frame.Forward m)) o r) found)
-    ∙ sym (ap (λ b. if b then r else option_map_or (λ m. send_in r from (frame.Forward m)) (forwardable records r c.args.place c.args.id) r) other)
+    ∙ sym (ap (λ b. if b then r else option_map_or (λ m. send_in r from (frame.Forward m)) (forwardable records r c.args.place c.args.id) r)
+    other)

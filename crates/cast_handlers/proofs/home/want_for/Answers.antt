@@ -5,4 +5,6 @@ use Rattle.cast_handlers.proofs.home.want_for.Goals as goal
 
 pub returns : goal.returns
 returns c o part =
-    c.copied.ensures ∙ c.want_of.ensures ∙ ap (find (λ x. entry_eq x.1 (entry_of c.args.id))) (c.as_slice.ensures ∙ c.in_ok-wants.ensures o part)
+    c.copied.ensures
+    ∙ c.want_of.ensures
+    ∙ ap (find (λ x. entry_eq x.1 (entry_of c.args.id))) (c.as_slice.ensures ∙ c.in_ok-wants.ensures o part)

@@ -31,7 +31,8 @@ returns-in_ok-push-clause-made c =
     (λ j. is_joining_by (standing_of r.delay (sym own j) (sym name j)) number)
     ∙ ap (λ v. is_joining_by v number) (sym c.standing.ensures.value) ∙ sym c.is_joining_by.ensures ∙ c.if-is_joining_by.true in
     c.in_ok-push.ensures.made
-    ∙ ap (λ x. tell records x k (push.Denied c.record.result.now.name GroupFull)) (seen_as d c.tell.new.self c.in_ok-tell.ensures.kept lent.shared.now lent.outs.now ∙ c.in_ok-tell.ensures.made lent.outs.now r.part)
+    ∙ ap (λ x. tell records x k (push.Denied c.record.result.now.name GroupFull))
+    (seen_as d c.tell.new.self c.in_ok-tell.ensures.kept lent.shared.now lent.outs.now ∙ c.in_ok-tell.ensures.made lent.outs.now r.part)
     ∙ (λ j. tell records (tell_in r (own j) (fact.Standing (name j) Outside)) k (push.Denied (name j) GroupFull))
     ∙ sym (ap (λ b. denied b (tell records (note_outside_in r k g) k (push.Denied g GroupFull)) r) joins)
 

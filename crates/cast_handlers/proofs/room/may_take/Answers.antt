@@ -10,7 +10,8 @@ use Rattle.cast_handlers.proofs.room.may_take.Goals as goal
 pub returns-in-Order : goal.returns-in-Order
 returns-in-Order c =
     let r = records_in c.args.domain.now c.args.lent.now in
-    c.has_order_room.ensures ∙ sym (ap (λ k. if is_order k then may_order records r else may_receive records r) (sym c.kind.ensures ∙ c.in-Order.is))
+    c.has_order_room.ensures
+    ∙ sym (ap (λ k. if is_order k then may_order records r else may_receive records r) (sym c.kind.ensures ∙ c.in-Order.is))
 
 pub returns-in-Causal : goal.returns-in-Causal
 returns-in-Causal c =

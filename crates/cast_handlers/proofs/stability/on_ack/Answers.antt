@@ -12,14 +12,16 @@ use Rattle.cast_handlers.proofs.stability.on_ack.Goals as goal
 pub returns-then-not-is_used_ack-clause-made : goal.returns-then-not-is_used_ack-clause-made
 returns-then-not-is_used_ack-clause-made c =
     let r = records_in c.args.domain.now c.args.lent.now in
-    let unused : is_used_ack records r c.args.place c.args.from c.args.id ≡ false = sym (c.is_used_ack.ensures c.args.lent.now.outs.now r.part) ∙ c.if-not-is_used_ack.true in
+    let unused : is_used_ack records r c.args.place c.args.from c.args.id ≡ false =
+    sym (c.is_used_ack.ensures c.args.lent.now.outs.now r.part) ∙ c.if-not-is_used_ack.true in
     rw unused
 
 pub returns-then-id-before-clause-made : goal.returns-then-id-before-clause-made
 returns-then-id-before-clause-made c =
     let r = records_in c.args.domain.now c.args.lent.now in
     let u = c.args.id in
-    let used : is_used_ack records r c.args.place c.args.from u ≡ true = sym (c.is_used_ack.ensures c.args.lent.now.outs.now r.part) ∙ c.if-not-is_used_ack.false in
+    let used : is_used_ack records r c.args.place c.args.from u ≡ true =
+    sym (c.is_used_ack.ensures c.args.lent.now.outs.now r.part) ∙ c.if-not-is_used_ack.false in
     let before : c.stable_upto-before.result ≡ upto_in r.acks u = c.stable_upto-before.ensures.value in
     let known : nat_le u.count (upto_in r.acks u) ≡ true = ap (nat_le u.count) (sym before) ∙ grind (arith, nat_tests) in
     let part = part_of c.take_ack.new.domain.config.domain c.take_ack.new.lent.shared.now in
@@ -31,7 +33,8 @@ pub returns-clause-made : goal.returns-clause-made
 returns-clause-made c =
     let r = records_in c.args.domain.now c.args.lent.now in
     let u = c.args.id in
-    let used : is_used_ack records r c.args.place c.args.from u ≡ true = sym (c.is_used_ack.ensures c.args.lent.now.outs.now r.part) ∙ c.if-not-is_used_ack.false in
+    let used : is_used_ack records r c.args.place c.args.from u ≡ true =
+    sym (c.is_used_ack.ensures c.args.lent.now.outs.now r.part) ∙ c.if-not-is_used_ack.false in
     let before : c.stable_upto-before.result ≡ upto_in r.acks u = c.stable_upto-before.ensures.value in
     let beyond : nat_le u.count (upto_in r.acks u) ≡ false = ap (nat_le u.count) (sym before) ∙ grind (arith, nat_tests) in
     let part = part_of c.take_ack.new.domain.config.domain c.take_ack.new.lent.shared.now in

@@ -9,4 +9,5 @@ use Rattle.cast_handlers.proofs.stability.tell_sites.Given as goal
 -- what is left to tell leads to the same records
 abbrev pub invariant-loop-site : goal.invariant-loop-site
 invariant-loop-site l =
-    (part : Part) → fold (tell_stable records l.id l.count) (records_of l.domain part l.outs) (drop l.site-index l.sites) ≡ fold (tell_stable records l.id l.count) (records_of l.domain part l.fn.outs) l.sites
+    (part : Part) → fold (tell_stable records l.id l.count) (records_of l.domain part l.outs) (drop l.site-index l.sites)
+    ≡ fold (tell_stable records l.id l.count) (records_of l.domain part l.fn.outs) l.sites

@@ -14,8 +14,10 @@ pub returns-in_ok-send-in-Again-clause-made : goal.returns-in_ok-send-in-Again-c
 returns-in_ok-send-in-Again-clause-made c =
     let r = records_in c.args.domain.now c.args.lent.now in
     let home : site_eq c.args.from r.config.home ≡ true = sym c.is_from_home.ensures ∙ c.if-not-is_from_home.false in
-    let verdict : verdict_of (record_at r.groups c.args.place).here c.args.view ≡ Again = ap (λ y. verdict_of y.here c.args.view) (sym c.record.ensures) ∙ sym c.verdict.ensures ∙ c.in-Again.is in
-    installed_by records r c.args.place c.args.from c.args.view c.args.members.now c.args.request c.args.cut.now c.args.tail.now Again _ home verdict
+    let verdict : verdict_of (record_at r.groups c.args.place).here c.args.view ≡ Again =
+    ap (λ y. verdict_of y.here c.args.view) (sym c.record.ensures) ∙ sym c.verdict.ensures ∙ c.in-Again.is in
+    installed_by records r c.args.place c.args.from c.args.view c.args.members.now c.args.request c.args.cut.now c.args.tail.now Again _
+    home verdict
     (c.in_ok-send-in-Again.ensures r.part ∙ ap (λ y. send_in r c.args.from (frame.Installed y.name c.args.view)) c.record-in-Again.ensures)
 
 pub returns-in_ok-install_view-in-Skips-clause-made :
@@ -23,8 +25,10 @@ pub returns-in_ok-install_view-in-Skips-clause-made :
 returns-in_ok-install_view-in-Skips-clause-made c =
     let r = records_in c.args.domain.now c.args.lent.now in
     let home : site_eq c.args.from r.config.home ≡ true = sym c.is_from_home.ensures ∙ c.if-not-is_from_home.false in
-    let verdict : verdict_of (record_at r.groups c.args.place).here c.args.view ≡ Skips = ap (λ y. verdict_of y.here c.args.view) (sym c.record.ensures) ∙ sym c.verdict.ensures ∙ c.in-Skips.is in
-    installed_by records r c.args.place c.args.from c.args.view c.args.members.now c.args.request c.args.cut.now c.args.tail.now Skips _ home verdict
+    let verdict : verdict_of (record_at r.groups c.args.place).here c.args.view ≡ Skips =
+    ap (λ y. verdict_of y.here c.args.view) (sym c.record.ensures) ∙ sym c.verdict.ensures ∙ c.in-Skips.is in
+    installed_by records r c.args.place c.args.from c.args.view c.args.members.now c.args.request c.args.cut.now c.args.tail.now Skips _
+    home verdict
     (c.in_ok-install_view-in-Skips.ensures.made c.args.cut.now)
 
 pub returns-in_ok-install_view-in-Completes-clause-made :
@@ -32,8 +36,10 @@ pub returns-in_ok-install_view-in-Completes-clause-made :
 returns-in_ok-install_view-in-Completes-clause-made c =
     let r = records_in c.args.domain.now c.args.lent.now in
     let home : site_eq c.args.from r.config.home ≡ true = sym c.is_from_home.ensures ∙ c.if-not-is_from_home.false in
-    let verdict : verdict_of (record_at r.groups c.args.place).here c.args.view ≡ Completes = ap (λ y. verdict_of y.here c.args.view) (sym c.record.ensures) ∙ sym c.verdict.ensures ∙ c.in-Completes.is in
-    installed_by records r c.args.place c.args.from c.args.view c.args.members.now c.args.request c.args.cut.now c.args.tail.now Completes _ home verdict
+    let verdict : verdict_of (record_at r.groups c.args.place).here c.args.view ≡ Completes =
+    ap (λ y. verdict_of y.here c.args.view) (sym c.record.ensures) ∙ sym c.verdict.ensures ∙ c.in-Completes.is in
+    installed_by records r c.args.place c.args.from c.args.view c.args.members.now c.args.request c.args.cut.now c.args.tail.now Completes _
+    home verdict
     (c.in_ok-install_view-in-Completes.ensures.made c.args.cut.now)
 
 pub returns-in_ok-pend-in-Pends-clause-made : goal.returns-in_ok-pend-in-Pends-clause-made
@@ -42,7 +48,9 @@ returns-in_ok-pend-in-Pends-clause-made c =
     let lent = c.args.lent.now in
     let r = records_in d lent in
     let home : site_eq c.args.from r.config.home ≡ true = sym c.is_from_home.ensures ∙ c.if-not-is_from_home.false in
-    let verdict : verdict_of (record_at r.groups c.args.place).here c.args.view ≡ Pends = ap (λ y. verdict_of y.here c.args.view) (sym c.record.ensures) ∙ sym c.verdict.ensures ∙ c.in-Pends.is in
-    installed_by records r c.args.place c.args.from c.args.view c.args.members.now c.args.request c.args.cut.now c.args.tail.now Pends _ home verdict
+    let verdict : verdict_of (record_at r.groups c.args.place).here c.args.view ≡ Pends =
+    ap (λ y. verdict_of y.here c.args.view) (sym c.record.ensures) ∙ sym c.verdict.ensures ∙ c.in-Pends.is in
+    installed_by records r c.args.place c.args.from c.args.view c.args.members.now c.args.request c.args.cut.now c.args.tail.now Pends _
+    home verdict
     (seen_as d _ c.in_ok-pend-in-Pends.ensures.same lent.shared.now lent.outs.now
     ∙ c.in_ok-pend-in-Pends.ensures.made lent.outs.now r.part)

@@ -11,5 +11,8 @@ use Rattle.cast_index.proofs.index.are_more_behind.Goals as goal
 pub returns-in-Some : goal.returns-in-Some
 returns-in-Some c not_so =
     let keys = c.args.entries.now.keys in
-    let greatest = subst (λ o. IfSome o (λ (e : Bor Entry). (q : Entry) → IsTrue (list_any (is_at (entry_cmp q)) keys) → is_lt (entry_cmp e.now q) ≡ false)) c.in-Some.is c.last.ensures.greatest in
+    let greatest =
+    subst
+    (λ o. IfSome o (λ (e : Bor Entry). (q : Entry) → IsTrue (list_any (is_at (entry_cmp q)) keys) → is_lt (entry_cmp e.now q) ≡ false))
+    c.in-Some.is c.last.ensures.greatest in
     none_behind keys c.args.source c.in-Some.last.now (search (rules, not_so)) greatest

@@ -17,4 +17,5 @@ returns-in_err-entry-clause-none c =
     let keys = c.args.entries.now.keys in
     if_none ((u : Uid) (k : Key) → has keys u k ≡ true → is_from c.args.lowest (record { id = u; number = k.0 }) ≡ false)
     (none_found keys (is_from c.args.lowest)
-    (none_kept (is_from c.args.lowest) keys (sym (kept_from c.args.lowest keys) ∙ sym (c.range.ensures.between tt) ∙ c.in_err-entry.ensures.steps.0))) c.from_residual.result
+    (none_kept (is_from c.args.lowest)
+    keys (sym (kept_from c.args.lowest keys) ∙ sym (c.range.ensures.between tt) ∙ c.in_err-entry.ensures.steps.0))) c.from_residual.result

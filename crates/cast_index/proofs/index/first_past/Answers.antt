@@ -10,7 +10,8 @@ use Rattle.cast_index.proofs.index.first_past.Goals as goal
 pub returns-in-Some-clause-some : goal.returns-in-Some-clause-some
 returns-in-Some-clause-some c =
     let keys = c.args.entries.now.keys in
-    if_some (λ (e : Bor Entry). IsFirstEntry keys (is_from c.in-Some.lowest) e.now) (λ e. IsFirstEntry keys (λ x. is_behind (Some c.args.source) x.id) e.now)
+    if_some (λ (e : Bor Entry). IsFirstEntry keys (is_from c.in-Some.lowest) e.now)
+    (λ e. IsFirstEntry keys (λ x. is_behind (Some c.args.source) x.id) e.now)
     (λ e first. first_behind keys c.args.source e.now (subst (λ l. IsFirstEntry keys (is_from l) e.now) c.in-Some.ensures first))
     c.first_from.result c.first_from.ensures.some
 
@@ -19,12 +20,15 @@ returns-in-Some-clause-none c =
     let keys = c.args.entries.now.keys in
     none_as ((u : Uid) (k : Key) → has keys u k ≡ true → is_from c.in-Some.lowest (record { id = u; number = k.0 }) ≡ false)
     ((u : Uid) (k : Key) → has keys u k ≡ true → is_behind (Some c.args.source) u ≡ false)
-    (λ none u k there. sym (from_lowest c.args.source (record { id = u; number = k.0 })) ∙ ap (λ l. is_from l (record { id = u; number = k.0 })) (sym c.in-Some.ensures) ∙ none u k there)
+    (λ none u k there. sym (from_lowest c.args.source (record { id = u; number = k.0 }))
+    ∙ ap (λ l. is_from l (record { id = u; number = k.0 })) (sym c.in-Some.ensures)
+    ∙ none u k there)
     c.first_from.result c.first_from.ensures.none
 
 pub returns-in-None-clause-some : goal.returns-in-None-clause-some
 returns-in-None-clause-some c =
-    if_found c.args.entries.now.keys c.found_past.ensures.rising (λ e. is_behind (Some c.args.source) e.id) c.found_past.result c.found_past.ensures.value
+    if_found c.args.entries.now.keys c.found_past.ensures.rising (λ e. is_behind (Some c.args.source) e.id)
+    c.found_past.result c.found_past.ensures.value
 
 pub returns-in-None-clause-none : goal.returns-in-None-clause-none
 returns-in-None-clause-none c =

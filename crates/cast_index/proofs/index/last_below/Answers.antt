@@ -17,4 +17,5 @@ returns-in_err-entry-clause-none c =
     let keys = c.args.entries.now.keys in
     if_none ((u : Uid) (k : Key) → has keys u k ≡ true → is_below c.args.bound (record { id = u; number = k.0 }) ≡ false)
     (none_found keys (is_below c.args.bound)
-    (none_kept (is_below c.args.bound) keys (sym (kept_below c.args.bound keys) ∙ sym (c.range.ensures.between tt) ∙ c.in_err-entry.ensures.steps.0))) c.from_residual.result
+    (none_kept (is_below c.args.bound)
+    keys (sym (kept_below c.args.bound keys) ∙ sym (c.range.ensures.between tt) ∙ c.in_err-entry.ensures.steps.0))) c.from_residual.result

@@ -19,7 +19,9 @@ loop-config-preserved c =
     let i = c.loop-config.config-index in
     let items = c.as_slice-config-items.result.now in
     let outs = c.args.outs.now in
-    let more = picked_more (given_of outs) c.loop-config.given items i c.config-item.result c.loop-config.domains.items c.loop-config-test.true c.config-item.is c.take_of.result c.take_of.ensures.first in
+    let more =
+    picked_more (given_of outs) c.loop-config.given items i c.config-item.result c.loop-config.domains.items c.loop-config-test.true
+    c.config-item.is c.take_of.result c.take_of.ensures.first in
     let same : c.match-take_of.given ≡ c.loop-config.given ++ map (given_of outs) (option_to_list c.take_of.result) =
     elim c.match-take_of.branch [
       | in-Some+in_ok-given_by+in_ok-push w ↦
@@ -33,7 +35,8 @@ loop-config-preserved c =
           ∙ sym (ap (λ o. c.loop-config.given ++ map (given_of outs) (option_to_list o)) w.in_default.is)
     ] in
     ap (λ front. front ++ map (given_of outs) (pick_domains (drop (i + 1) items) c.take_of.new.domains.items)) same
-    ∙ ap (λ rest. (c.loop-config.given ++ map (given_of outs) (option_to_list c.take_of.result)) ++ map (given_of outs) (pick_domains (drop (i + 1) items) rest)) c.take_of.ensures.others
+    ∙ ap (λ rest. (c.loop-config.given ++ map (given_of outs) (option_to_list c.take_of.result))
+    ++ map (given_of outs) (pick_domains (drop (i + 1) items) rest)) c.take_of.ensures.others
     ∙ sym more
     ∙ c.loop-config.invariant
 

@@ -14,5 +14,6 @@ loop-rest-preserved c =
     let first : IsFirst c.loop-rest.rest (Some c.in-Some.len) = rw c.as_slice.ensures at (rw c.in-Some.is at c.first_len.ensures) in (
       rw (c.in_ok-push.ensures.ok, c.in_ok-split_to.ensures.rest, c.in_ok-split_to.ensures.front, c.advance.ensures)
           (one_more c.args.bytes c.loop-rest.rest c.loop-rest.frames c.in-Some.len c.loop-rest.invariant.0 first),
-      rw (c.in_ok-split_to.ensures.rest, c.advance.ensures) (led_further c.args.bytes c.loop-rest.rest c.in-Some.len c.loop-rest.invariant.1 first),
+      rw (c.in_ok-split_to.ensures.rest, c.advance.ensures)
+          (led_further c.args.bytes c.loop-rest.rest c.in-Some.len c.loop-rest.invariant.1 first),
     )

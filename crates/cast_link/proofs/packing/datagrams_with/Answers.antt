@@ -9,9 +9,12 @@ loop-rest-preserved c =
     let own = c.split_at.result.0.now in
     let others = c.split_at.result.1.now in
     let are : rest ≡ own ++ others =
-    sym (take-append-drop c.fitting_count.result rest) ∙ (ap (λ l. l ++ drop c.fitting_count.result rest) (sym c.split_at.ensures.front) ∙ ap (λ l. own ++ l) (sym c.split_at.ensures.back)) in
+    sym (take-append-drop c.fitting_count.result rest)
+    ∙ (ap (λ l. l ++ drop c.fitting_count.result rest) (sym c.split_at.ensures.front)
+    ∙ ap (λ l. own ++ l) (sym c.split_at.ensures.back)) in
     rw c.in_ok-push.ensures.items
-    (one_more c.args.most c.loop-rest.datagrams.items rest c.args.frames.now own others c.in_ok-datagram_with.field-0 c.loop-rest.invariant are c.in_ok-datagram_with.ensures)
+    (one_more c.args.most c.loop-rest.datagrams.items rest c.args.frames.now own others c.in_ok-datagram_with.field-0 c.loop-rest.invariant
+    are c.in_ok-datagram_with.ensures)
 
 pub returns-clause-carried : goal.returns-clause-carried
 returns-clause-carried c =
@@ -21,4 +24,5 @@ returns-clause-carried c =
 pub returns-clause-few : goal.returns-clause-few
 returns-clause-few c =
     let none : length c.loop-rest.rest.now ≡ 0 = search rules in
-    few_carried c.args.most c.loop-rest.datagrams.items c.args.frames.now (all_carried c.args.most c.loop-rest.datagrams.items c.loop-rest.rest.now c.args.frames.now c.loop-rest.invariant none)
+    few_carried c.args.most c.loop-rest.datagrams.items c.args.frames.now
+    (all_carried c.args.most c.loop-rest.datagrams.items c.loop-rest.rest.now c.args.frames.now c.loop-rest.invariant none)

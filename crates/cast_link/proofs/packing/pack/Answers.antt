@@ -15,7 +15,8 @@ loop-alloc-preserved c =
     let rest = c.loop-alloc.rest.items in
     let datagrams = c.in_ok-datagrams_with.field-0.items in
     let own = c.deref.ensures.value ∙ c.in_ok-own.ensures.own in
-    let carried : Carry c.args.most datagrams (to_site site rest) = subst (λ l. Carry c.args.most datagrams l) own c.in_ok-datagrams_with.ensures.carried in
+    let carried : Carry c.args.most datagrams (to_site site rest) =
+    subst (λ l. Carry c.args.most datagrams l) own c.in_ok-datagrams_with.ensures.carried in
     record {
       packed =
           rw (c.in_ok-add_all.ensures, c.in_ok-own.ensures.others)

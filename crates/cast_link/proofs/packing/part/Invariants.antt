@@ -8,5 +8,6 @@ use Rattle.cast_link.proofs.packing.part.Given as goal
 abbrev pub invariant-loop-to : goal.invariant-loop-to
 invariant-loop-to l = record {
   own : l.own.items ++ to_site l.site (into_iter_items l.to-iterator) ≡ to_site l.site l.fn.frames.items;
-  others : l.others.items ++ filter (λ f. not (site_eq f.0 l.site)) (into_iter_items l.to-iterator) ≡ filter (λ f. not (site_eq f.0 l.site)) l.fn.frames.items;
+  others : l.others.items ++ filter (λ f. not (site_eq f.0 l.site)) (into_iter_items l.to-iterator)
+      ≡ filter (λ f. not (site_eq f.0 l.site)) l.fn.frames.items;
 }

@@ -1,4 +1,5 @@
-use Rattle.cast_order.proofs.Hands.{new_hand_fits, hold_fits, hand_over_fits, tell_fits, follow_fits, place_fits, note_fits, settled_rules, hand_of_change, learnt_each, change_rises, place_rises}
+use Rattle.cast_order.proofs.Hands.{new_hand_fits, hold_fits, hand_over_fits, tell_fits, follow_fits, place_fits}
+use Rattle.cast_order.proofs.Hands.{note_fits, settled_rules, hand_of_change, learnt_each, change_rises, place_rises}
 use Rattle.cast_order.proofs.laws.hands_keep_their_meaning.Goals as goal
 
 pub returns-clause-new : goal.returns-clause-new

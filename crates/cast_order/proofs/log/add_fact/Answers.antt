@@ -7,5 +7,6 @@ use Rattle.cast_order.proofs.log.add_fact.Goals as goal
 pub returns-in_ok-insert : goal.returns-in_ok-insert
 returns-in_ok-insert c =
     let facts = c.args.facts.now.entries in
-    let taken : c.insert.new.self.entries ≡ put nat_cmp c.args.place c.args.id facts = c.in_ok-insert.ensures.entries ∙ insert_puts nat_cmp c.args.place c.args.id facts in
+    let taken : c.insert.new.self.entries ≡ put nat_cmp c.args.place c.args.id facts =
+    c.in_ok-insert.ensures.entries ∙ insert_puts nat_cmp c.args.place c.args.id facts in
     search (rules, taken)

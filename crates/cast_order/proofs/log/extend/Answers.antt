@@ -21,4 +21,5 @@ loop-place-preserved c =
 
 pub returns-in_default : goal.returns-in_default
 returns-in_default c =
-    no_more c.args.facts.now.entries c.loop-place.window.items _ (MAX_POSITION + 1 - c.loop-place.place) c.loop-place.place (sym c.id_at.ensures ∙ c.in_default.is) c.loop-place.invariant.rest
+    no_more c.args.facts.now.entries c.loop-place.window.items _ (MAX_POSITION + 1 - c.loop-place.place)
+    c.loop-place.place (sym c.id_at.ensures ∙ c.in_default.is) c.loop-place.invariant.rest

@@ -7,5 +7,6 @@ use Rattle.cast_order.proofs.log.extend.Given as goal
 abbrev pub invariant-loop-place : goal.invariant-loop-place
 invariant-loop-place l = record {
   here : l.place ≡ l.base + length l.window.items + 1;
-  rest : l.window.items ++ order_from (MAX_POSITION + 1 - l.place) l.place l.facts.entries ≡ l.fn.window.items ++ order_from (MAX_POSITION - (l.base + length l.fn.window.items)) (l.base + length l.fn.window.items + 1) l.facts.entries;
+  rest : l.window.items ++ order_from (MAX_POSITION + 1 - l.place) l.place l.facts.entries ≡ l.fn.window.items
+      ++ order_from (MAX_POSITION - (l.base + length l.fn.window.items)) (l.base + length l.fn.window.items + 1) l.facts.entries;
 }

@@ -7,4 +7,5 @@ use Rattle.cast_print.proofs.log.print_sent.Given as goal
 -- what is written, and what is left
 abbrev pub invariant-loop-receiver : goal.invariant-loop-receiver
 invariant-loop-receiver l =
-    string_bytes l.text ++ flat_map (frame_line l.domain l.site) (drop l.receiver-index l.sent) ≡ string_bytes l.initial.text ++ flat_map (frame_line l.domain l.site) l.sent
+    string_bytes l.text ++ flat_map (frame_line l.domain l.site) (drop l.receiver-index l.sent)
+    ≡ string_bytes l.initial.text ++ flat_map (frame_line l.domain l.site) l.sent

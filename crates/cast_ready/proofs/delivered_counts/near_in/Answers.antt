@@ -9,4 +9,5 @@ use Rattle.cast_ready.proofs.delivered_counts.near_in.Goals as goal
 pub returns-then-is_eq : goal.returns-then-is_eq
 returns-then-is_eq c =
     ap (λ (o : Option ℕ). unwrap_or o 0)
-    (sym (found_here source_cmp source_total c.args.source c.args.counts.now c.args.place _ c.requires c.if-place-counts.true (ap is_eq (sym c.cmp.ensures) ∙ sym c.is_eq.ensures ∙ c.if-is_eq.true)))
+    (sym (found_here source_cmp source_total c.args.source c.args.counts.now c.args.place _ c.requires c.if-place-counts.true
+    (ap is_eq (sym c.cmp.ensures) ∙ sym c.is_eq.ensures ∙ c.if-is_eq.true)))

@@ -13,9 +13,12 @@ pub returns-in-Ok-clause-ok : goal.returns-in-Ok-clause-ok
 returns-in-Ok-clause-ok c =
     let es = c.args.counts.now.items in
     let by_source = c.in-Ok.ensures.position (λ (e : Source × ℕ). e.0) (answers_always _ _ _ (λ f a r g called. search rules)) in
-    let searched = subst (λ l. IsBinarySearchResult (λ (e : Source × ℕ). source_cmp e.0 c.args.source) l (Ok c.in-Ok.place)) c.deref.ensures.value by_source in
+    let searched =
+    subst (λ l. IsBinarySearchResult (λ (e : Source × ℕ). source_cmp e.0 c.args.source) l (Ok c.in-Ok.place))
+    c.deref.ensures.value by_source in
     let within : c.in-Ok.place < length es = search rules in
-    let is = put_found source_cmp source_total c.args.source c.args.count es c.in-Ok.place c.index_mut.result.now c.requires within searched in
+    let is =
+    put_found source_cmp source_total c.args.source c.args.count es c.in-Ok.place c.index_mut.result.now c.requires within searched in
     (λ i. set es c.in-Ok.place ((c.index_mut.ensures.value i).0, c.args.count)) ∙ sym is
 
 -- it was not, and stands between those below it and those above
@@ -23,7 +26,9 @@ pub returns-in_ok-insert-in-Err-clause-ok : goal.returns-in_ok-insert-in-Err-cla
 returns-in_ok-insert-in-Err-clause-ok c =
     let es = c.args.counts.now.items in
     let by_source = c.in-Err.ensures.position (λ (e : Source × ℕ). e.0) (answers_always _ _ _ (λ f a r g called. search rules)) in
-    let searched = subst (λ l. IsBinarySearchResult (λ (e : Source × ℕ). source_cmp e.0 c.args.source) l (Err c.in-Err.place)) c.deref.ensures.value by_source in
+    let searched =
+    subst (λ l. IsBinarySearchResult (λ (e : Source × ℕ). source_cmp e.0 c.args.source) l (Err c.in-Err.place))
+    c.deref.ensures.value by_source in
     let within : c.in-Err.place ≤ length es = search rules in
     let items : c.insert.new.self.items ≡ insert es c.in-Err.place (c.args.source, c.args.count) = search rules in
     items ∙ sym (put_absent source_cmp source_total c.args.source c.args.count es c.in-Err.place c.requires within searched)

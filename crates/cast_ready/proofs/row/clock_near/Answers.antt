@@ -27,7 +27,10 @@ returns-then-is_eq c =
     let value = c.clocks-clocks.ensures.value in
     let up = rising clocks c.args.times.now value c.clocks-clocks.ensures.valid in
     let tie : is_eq (group_cmp (get_or clocks place read).0 c.args.group) ≡ true =
-    ap (λ e. is_eq (group_cmp e.0 c.args.group)) (get_or_default clocks place read tested within) ∙ ap is_eq (sym c.cmp.ensures) ∙ sym c.is_eq.ensures ∙ c.if-is_eq.true in
+    ap (λ e. is_eq (group_cmp e.0 c.args.group)) (get_or_default clocks place read tested within)
+    ∙ ap is_eq (sym c.cmp.ensures)
+    ∙ sym c.is_eq.ensures
+    ∙ c.if-is_eq.true in
     sym (found_here group_cmp group_total c.args.group clocks place read up within tie) ∙ ap (find group_cmp c.args.group) value
 
 pub returns-in-Ok : goal.returns-in-Ok
@@ -35,7 +38,8 @@ returns-in-Ok c =
     let clocks = c.clocks-clocks.result.now in
     let value = c.clocks-clocks.ensures.value in
     let by_group = c.in-Ok.ensures.position (λ (e : GroupNo × Clock). e.0) (answers_always _ _ _ (λ f a r g called. search rules)) in
-    sym (search_found group_cmp group_total c.args.group clocks c.in-Ok.found c.index-clocks-found.result (rising clocks c.args.times.now value c.clocks-clocks.ensures.valid) c.in-Ok.ensures.bound by_group)
+    sym (search_found group_cmp group_total c.args.group clocks c.in-Ok.found c.index-clocks-found.result
+    (rising clocks c.args.times.now value c.clocks-clocks.ensures.valid) c.in-Ok.ensures.bound by_group)
     ∙ ap (find group_cmp c.args.group) value
 
 pub returns-in-Err : goal.returns-in-Err
@@ -43,5 +47,6 @@ returns-in-Err c =
     let clocks = c.clocks-clocks.result.now in
     let value = c.clocks-clocks.ensures.value in
     let by_group = c.in-Err.ensures.position (λ (e : GroupNo × Clock). e.0) (answers_always _ _ _ (λ f a r g called. search rules)) in
-    sym (search_absent group_cmp group_total c.args.group clocks c.in-Err.next (rising clocks c.args.times.now value c.clocks-clocks.ensures.valid) by_group)
+    sym (search_absent group_cmp group_total c.args.group clocks c.in-Err.next
+    (rising clocks c.args.times.now value c.clocks-clocks.ensures.valid) by_group)
     ∙ ap (find group_cmp c.args.group) value

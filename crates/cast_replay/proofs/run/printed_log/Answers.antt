@@ -17,7 +17,8 @@ returns g c =
           log = log;
           replayed =
               subst (λ events. IsReplay script.config events log) c.as_slice.ensures
-              (c.in_ok-log.ensures.replayed (has_distinct script.config c.in_ok-script.ensures.valid) (has_rising script.config c.in_ok-script.ensures.valid));
+              (c.in_ok-log.ensures.replayed (has_distinct script.config c.in_ok-script.ensures.valid)
+              (has_rising script.config c.in_ok-script.ensures.valid));
           printed = c.in_ok-print.ensures;
         },
       );

@@ -13,9 +13,12 @@ returns-in-Ok-clause-ended g c = (
   c.in-Ok.ensures.ends,
   (
     refl,
-    subst (λ d. IsTold (g.O.Write.contents d) (g.O.Write.contents c.tell.new.writer.device) (string_bytes c.in-Ok.text) (HasFailedOrStalled c.tell.new.writer)) c.begin.ensures.device
-        (subst (λ text. IsTold (g.O.Write.contents c.begin.new.self.device) (g.O.Write.contents c.tell.new.writer.device) text (HasFailedOrStalled c.tell.new.writer)) c.as_str.ensures.value (simp append-nil at c.tell.ensures)),
-    told_nothing g.E.Write.contents c.args.err.now.device c.begin-2.new.self.device (HasFailedOrStalled c.begin-2.new.self) c.begin-2.ensures.device,
+    subst (λ d. IsTold (g.O.Write.contents d) (g.O.Write.contents c.tell.new.writer.device) (string_bytes c.in-Ok.text)
+        (HasFailedOrStalled c.tell.new.writer)) c.begin.ensures.device
+        (subst (λ text. IsTold (g.O.Write.contents c.begin.new.self.device) (g.O.Write.contents c.tell.new.writer.device)
+        text (HasFailedOrStalled c.tell.new.writer)) c.as_str.ensures.value (simp append-nil at c.tell.ensures)),
+    told_nothing g.E.Write.contents c.args.err.now.device c.begin-2.new.self.device (HasFailedOrStalled c.begin-2.new.self)
+        c.begin-2.ensures.device,
   ),
 )
 
@@ -25,8 +28,10 @@ returns-in-Err-clause-ended g c = (
   c.in-Err.ensures.ends,
   (
     c.complain.ensures.status,
-    told_nothing g.O.Write.contents c.args.out.now.device c.begin.new.self.device (HasFailedOrStalled c.begin.new.self) c.begin.ensures.device,
-    subst (λ d. IsTold (g.E.Write.contents d) (g.E.Write.contents c.complain.new.err.device) (fault_text c.args.name.now c.in-Err.fault) (HasFailedOrStalled c.complain.new.err)) c.begin-2.ensures.device
+    told_nothing g.O.Write.contents c.args.out.now.device c.begin.new.self.device (HasFailedOrStalled c.begin.new.self)
+        c.begin.ensures.device,
+    subst (λ d. IsTold (g.E.Write.contents d) (g.E.Write.contents c.complain.new.err.device) (fault_text c.args.name.now c.in-Err.fault)
+        (HasFailedOrStalled c.complain.new.err)) c.begin-2.ensures.device
         c.complain.ensures.told,
   ),
 )

@@ -11,6 +11,8 @@ use Rattle.cast_rest.proofs.flushes.add_missing.Given as goal
 abbrev pub invariant-loop-before : goal.invariant-loop-before
 invariant-loop-before l = record {
   few : length l.missing.items ≤ 64;
-  all : take 64 (l.missing.items ++ left (λ e. is_awaited_of (records_of l.fn.domain no_part no_outs) l.fn.group e && not (is_received_of (records_of l.fn.domain no_part no_outs) l.fn.group e)) l.proc l.before l.last)
-      ≡ take 64 (l.fn.missing.items ++ filter (λ e. is_awaited_of (records_of l.fn.domain no_part no_outs) l.fn.group e && not (is_received_of (records_of l.fn.domain no_part no_outs) l.fn.group e)) (first_of (l.proc, l.last)));
+  all : take 64 (l.missing.items ++ left (λ e. is_awaited_of (records_of l.fn.domain no_part no_outs) l.fn.group e
+      && not (is_received_of (records_of l.fn.domain no_part no_outs) l.fn.group e)) l.proc l.before l.last)
+      ≡ take 64 (l.fn.missing.items ++ filter (λ e. is_awaited_of (records_of l.fn.domain no_part no_outs) l.fn.group e
+      && not (is_received_of (records_of l.fn.domain no_part no_outs) l.fn.group e)) (first_of (l.proc, l.last)));
 }

@@ -10,4 +10,5 @@ returns-clause-made c = λ cut.
     let d = c.args.domain.now in
     let r = records_in d c.args.lent.now in
     c.in_ok-install_view.ensures.made cut
-    ∙ ap (λ (n : ℕ). install records false r c.args.place d.config.home (n + 1) c.args.members.now c.args.request cut) (c.number-next.ensures ∙ ap (λ x. x.here.number) c.record.ensures)
+    ∙ ap (λ (n : ℕ). install records false r c.args.place d.config.home (n + 1) c.args.members.now c.args.request cut)
+    (c.number-next.ensures ∙ ap (λ x. x.here.number) c.record.ensures)

@@ -26,7 +26,8 @@ returns-clause-made c =
     let wants : Records = fold (want_own records i) r (missing_of r x p.cut) in
     let step : Option Pending → Records = λ o. elim o [ Some q ↦ complete_or_want records resting_records r i q | None ↦ r ] in
     c.let_go.ensures.made
-    ∙ ap (let_go records resting_records) (c.in_ok-complete.ensures.made p.cut ∙ ap (λ (m : Membership). complete records r i (record { members = m; request = p.request; cut = p.cut })) c.in_ok-members.ensures)
+    ∙ ap (let_go records resting_records) (c.in_ok-complete.ensures.made p.cut
+    ∙ ap (λ (m : Membership). complete records r i (record { members = m; request = p.request; cut = p.cut })) c.in_ok-members.ensures)
     ∙ sym (ap (λ b. if b then let_go records resting_records (complete records r i p) else wants) cut)
     ∙ sym (ap step waits)
 

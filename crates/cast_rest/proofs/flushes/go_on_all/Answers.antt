@@ -23,7 +23,8 @@ loop-place-preserved c =
           ap (λ x. fold (go_on records resting_records) x (range_with_len (i + 1) (n - (i + 1)))) c.in_ok-gone_on.ensures.made
           ∙ fold_more (go_on records resting_records) r i n within ∙ c.loop-place.invariant.left;
       told =
-          more_changes goes_on (go_on records resting_records) r _ c.loop-place.changed c.in_ok-gone_on.gone_on i n within c.in_ok-gone_on.ensures.told c.in_ok-gone_on.ensures.made
+          more_changes goes_on (go_on records resting_records)
+          r _ c.loop-place.changed c.in_ok-gone_on.gone_on i n within c.in_ok-gone_on.ensures.told c.in_ok-gone_on.ensures.made
           ∙ c.loop-place.invariant.told;
       still = λ e.
           let parts = or_parts c.loop-place.changed c.in_ok-gone_on.gone_on e in

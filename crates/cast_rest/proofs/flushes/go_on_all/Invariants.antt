@@ -14,7 +14,10 @@ abbrev pub invariant-loop-place : goal.invariant-loop-place
 invariant-loop-place l = record {
   stays : KeepsBeside l.fn.domain l.fn.lent l.domain l.lent;
   clear : AreNotFree (records_in l.fn.domain l.fn.lent) → AreNotFree (records_in l.domain l.lent);
-  left : fold (go_on records resting_records) (records_in l.domain l.lent) (range_with_len l.place (length l.fn.domain.groups.items - l.place)) ≡ go_on_all records resting_records (records_in l.fn.domain l.fn.lent);
-  told : (l.changed || changes_over goes_on (go_on records resting_records) (records_in l.domain l.lent) (range_with_len l.place (length l.fn.domain.groups.items - l.place))) ≡ goes_on_some (records_in l.fn.domain l.fn.lent);
+  left : fold (go_on records resting_records) (records_in l.domain l.lent)
+      (range_with_len l.place (length l.fn.domain.groups.items - l.place))
+      ≡ go_on_all records resting_records (records_in l.fn.domain l.fn.lent);
+  told : (l.changed || changes_over goes_on (go_on records resting_records) (records_in l.domain l.lent)
+      (range_with_len l.place (length l.fn.domain.groups.items - l.place))) ≡ goes_on_some (records_in l.fn.domain l.fn.lent);
   still : l.changed ≡ false → records_in l.domain l.lent ≡ records_in l.fn.domain l.fn.lent;
 }

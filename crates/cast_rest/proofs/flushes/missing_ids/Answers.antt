@@ -14,7 +14,8 @@ loop-proc-init c =
     let x = record_at c.args.domain.now.groups.items c.args.place in
     record {
       few = omega (arith, ap length c.new-missing.ensures.items);
-      all = λ j. take 64 (c.new-missing.ensures.items j ++ filter (λ e. is_awaited_of r x e && not (is_received_of r x e)) (covered_entries (c.entries-proc-items.ensures.value j)));
+      all = λ j. take 64 (c.new-missing.ensures.items j
+          ++ filter (λ e. is_awaited_of r x e && not (is_received_of r x e)) (covered_entries (c.entries-proc-items.ensures.value j)));
     }
 
 pub add_missing-requires : goal.add_missing-requires
@@ -27,7 +28,8 @@ loop-proc-preserved c =
     record {
       few = taken_few 64 _ c.add_missing.new.missing.items c.in_ok-add_missing.ensures;
       all =
-          missing_more (λ y e. is_awaited_of r y e && not (is_received_of r y e)) c.record-record.result.now x c.record-record.ensures c.loop-proc.missing.items c.add_missing.new.missing.items c.entries-proc-items.result.now c.loop-proc.proc-index _
+          missing_more (λ y e. is_awaited_of r y e && not (is_received_of r y e)) c.record-record.result.now x c.record-record.ensures
+          c.loop-proc.missing.items c.add_missing.new.missing.items c.entries-proc-items.result.now c.loop-proc.proc-index _
           c.loop-proc-test.true c.in_ok-add_missing.ensures
           ∙ c.loop-proc.invariant.all;
     }
@@ -36,5 +38,6 @@ pub returns : goal.returns
 returns c =
     let r = records_of c.args.domain.now no_part no_outs in
     let x = record_at c.args.domain.now.groups.items c.args.place in
-    missing_end (λ e. is_awaited_of r x e && not (is_received_of r x e)) c.loop-proc.missing.items c.entries-proc-items.result.now c.loop-proc.proc-index c.loop-proc-test.false c.loop-proc.invariant.few
+    missing_end (λ e. is_awaited_of r x e && not (is_received_of r x e))
+    c.loop-proc.missing.items c.entries-proc-items.result.now c.loop-proc.proc-index c.loop-proc-test.false c.loop-proc.invariant.few
     ∙ c.loop-proc.invariant.all

@@ -11,6 +11,9 @@ use Rattle.cast_rest.proofs.flushes.missing_ids.Given as goal
 abbrev pub invariant-loop-proc : goal.invariant-loop-proc
 invariant-loop-proc l = record {
   few : length l.missing.items ≤ 64;
-  all : take 64 (l.missing.items ++ filter (λ e. is_awaited_of (records_of l.fn.domain no_part no_outs) (record_at l.fn.domain.groups.items l.fn.place) e && not (is_received_of (records_of l.fn.domain no_part no_outs) (record_at l.fn.domain.groups.items l.fn.place) e)) (covered_entries (drop l.proc-index l.proc-items)))
+  all : take 64 (l.missing.items
+      ++ filter (λ e. is_awaited_of (records_of l.fn.domain no_part no_outs) (record_at l.fn.domain.groups.items l.fn.place) e
+      && not (is_received_of (records_of l.fn.domain no_part no_outs) (record_at l.fn.domain.groups.items l.fn.place) e))
+      (covered_entries (drop l.proc-index l.proc-items)))
       ≡ missing_of (records_of l.fn.domain no_part no_outs) (record_at l.fn.domain.groups.items l.fn.place) l.fn.cut;
 }

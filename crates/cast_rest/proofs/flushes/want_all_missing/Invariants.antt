@@ -11,7 +11,9 @@ use Rattle.cast_rest.proofs.flushes.want_all_missing.Given as goal
 abbrev pub invariant-loop-name : goal.invariant-loop-name
 invariant-loop-name l = record {
   back : GivesBack l.domain.config.domain l.fn.lent l.lent;
-  left : fold (want_own records l.place) (records_in l.domain l.lent) (drop l.name-index l.missing) ≡ fold (want_own records l.place) (records_in l.domain l.fn.lent) l.missing;
-  told : (l.changed || list_any (wants_own_more (records_in l.domain l.lent) l.place) (drop l.name-index l.missing)) ≡ list_any (wants_own_more (records_in l.domain l.fn.lent) l.place) l.missing;
+  left : fold (want_own records l.place) (records_in l.domain l.lent) (drop l.name-index l.missing)
+      ≡ fold (want_own records l.place) (records_in l.domain l.fn.lent) l.missing;
+  told : (l.changed || list_any (wants_own_more (records_in l.domain l.lent) l.place) (drop l.name-index l.missing))
+      ≡ list_any (wants_own_more (records_in l.domain l.fn.lent) l.place) l.missing;
   still : l.changed ≡ false → records_in l.domain l.lent ≡ records_in l.domain l.fn.lent;
 }

@@ -22,7 +22,8 @@ loop-place-preserved c =
           ap (λ x. fold (lead_group records) x (range_with_len (i + 1) (n - (i + 1)))) c.in_ok-led.ensures.made
           ∙ fold_more (lead_group records) r i n within ∙ c.loop-place.invariant.left;
       told =
-          more_changes leads_in (lead_group records) r _ c.loop-place.changed c.in_ok-led.led i n within c.in_ok-led.ensures.told c.in_ok-led.ensures.made
+          more_changes leads_in (lead_group records)
+          r _ c.loop-place.changed c.in_ok-led.led i n within c.in_ok-led.ensures.told c.in_ok-led.ensures.made
           ∙ c.loop-place.invariant.told;
       still = λ e.
           let parts = or_parts c.loop-place.changed c.in_ok-led.led e in

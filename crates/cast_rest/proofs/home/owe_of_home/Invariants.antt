@@ -9,5 +9,6 @@ use Rattle.cast_rest.proofs.home.owe_of_home.Given as goal
 abbrev pub invariant-loop-site : goal.invariant-loop-site
 invariant-loop-site l = record {
   back : GivesBack l.domain.config.domain l.fn.lent l.lent;
-  left : fold (owe_of_home records l.kind l.place) (records_in l.domain l.lent) (drop l.site-index l.sites) ≡ fold (owe_of_home records l.kind l.place) (records_in l.domain l.fn.lent) l.sites;
+  left : fold (owe_of_home records l.kind l.place) (records_in l.domain l.lent) (drop l.site-index l.sites)
+      ≡ fold (owe_of_home records l.kind l.place) (records_in l.domain l.fn.lent) l.sites;
 }

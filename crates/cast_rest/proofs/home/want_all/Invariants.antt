@@ -11,7 +11,9 @@ use Rattle.cast_rest.proofs.home.want_all.Given as goal
 abbrev pub invariant-loop-wanted : goal.invariant-loop-wanted
 invariant-loop-wanted l = record {
   back : GivesBack l.domain.config.domain l.fn.lent l.lent;
-  left : fold (want records l.place) (records_in l.domain l.lent) (drop l.wanted-index l.wants) ≡ fold (want records l.place) (records_in l.domain l.fn.lent) l.wants;
-  told : (l.changed || list_any (wants_more (records_in l.domain l.lent) l.place) (drop l.wanted-index l.wants)) ≡ list_any (wants_more (records_in l.domain l.fn.lent) l.place) l.wants;
+  left : fold (want records l.place) (records_in l.domain l.lent) (drop l.wanted-index l.wants)
+      ≡ fold (want records l.place) (records_in l.domain l.fn.lent) l.wants;
+  told : (l.changed || list_any (wants_more (records_in l.domain l.lent) l.place) (drop l.wanted-index l.wants))
+      ≡ list_any (wants_more (records_in l.domain l.fn.lent) l.place) l.wants;
   still : l.changed ≡ false → records_in l.domain l.lent ≡ records_in l.domain l.fn.lent;
 }

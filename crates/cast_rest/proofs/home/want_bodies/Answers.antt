@@ -12,11 +12,13 @@ returns-clause-made c =
     let d = c.args.domain.now in
     let lent = c.args.lent.now in
     c.in_ok-changed.ensures.made
-    ∙ ap (fold (want records c.args.place) (records_in d lent)) (c.as_slice.ensures ∙ c.in_ok-wants.ensures lent.outs.now (part_of d.config.domain lent.shared.now))
+    ∙ ap (fold (want records c.args.place) (records_in d lent))
+    (c.as_slice.ensures ∙ c.in_ok-wants.ensures lent.outs.now (part_of d.config.domain lent.shared.now))
 
 pub returns-clause-told : goal.returns-clause-told
 returns-clause-told c =
     let d = c.args.domain.now in
     let lent = c.args.lent.now in
     c.in_ok-changed.ensures.told
-    ∙ ap (list_any (wants_more (records_in d lent) c.args.place)) (c.as_slice.ensures ∙ c.in_ok-wants.ensures lent.outs.now (part_of d.config.domain lent.shared.now))
+    ∙ ap (list_any (wants_more (records_in d lent) c.args.place))
+    (c.as_slice.ensures ∙ c.in_ok-wants.ensures lent.outs.now (part_of d.config.domain lent.shared.now))

@@ -14,12 +14,14 @@ loop-hand-preserved c =
     let i = c.loop-hand.hand-index in
     let is = c.hands-hand-items.ensures in
     one_gathered r hands c.loop-hand.holders.items c.add_holder.new.holders.items i c.hand-item.result
-    (subst (λ hs. i < length hs) is c.loop-hand-test.true) (c.hand-item.is ∙ ap (λ hs. get_or hs i c.hand-item.result) is) c.in_ok-add_holder.ensures
+    (subst (λ hs. i < length hs) is c.loop-hand-test.true) (c.hand-item.is ∙ ap (λ hs. get_or hs i c.hand-item.result) is)
+    c.in_ok-add_holder.ensures
     ∙ c.loop-hand.invariant
 
 pub returns : goal.returns
 returns c =
     let r = records_of c.args.domain.now no_part no_outs in
     let hands = (log_of c.args.domain.now.orders c.args.group).hands in
-    let past : length hands ≤ c.loop-hand.hand-index = subst (λ hs. length hs ≤ c.loop-hand.hand-index) c.hands-hand-items.ensures c.loop-hand-test.false in
+    let past : length hands ≤ c.loop-hand.hand-index =
+    subst (λ hs. length hs ≤ c.loop-hand.hand-index) c.hands-hand-items.ensures c.loop-hand-test.false in
     sym (all_gathered r hands c.loop-hand.holders.items c.loop-hand.hand-index past) ∙ c.loop-hand.invariant

@@ -20,8 +20,10 @@ returns-clause-made c =
     λ i. record r {
       orders = (
           made
-          ∙ ap (λ n. change_log u.group (pass_ids p n) r.orders) (c.delivered_prefix-passed.ensures.value ∙ ap (passed_in r.delay p u.group u.view) c.next-ids.ensures)
-          ∙ sym (ap (λ b. if b then told_in u.group p (entry_of u) r.orders else change_log u.group (pass_ids p (passed_in r.delay p u.group u.view (next_in (log_of r.orders u.group) p))) r.orders) other)) i;
+          ∙ ap (λ n. change_log u.group (pass_ids p n) r.orders)
+          (c.delivered_prefix-passed.ensures.value ∙ ap (passed_in r.delay p u.group u.view) c.next-ids.ensures)
+          ∙ sym (ap (λ b. if b then told_in u.group p (entry_of u) r.orders else change_log u.group
+          (pass_ids p (passed_in r.delay p u.group u.view (next_in (log_of r.orders u.group) p))) r.orders) other)) i;
     })
     c.pass.ensures
 
@@ -35,5 +37,8 @@ returns-then-sets_order-clause-made c =
     let r = records_of d part o in
     let sets : sets_order_in r u.group p ≡ true = sym (c.sets_order.ensures o part) ∙ c.if-sets_order.true in
     made o part
-    ∙ sym (ap (λ b. record r { orders = if b then told_in u.group p (entry_of u) r.orders else change_log u.group (pass_ids p (passed_in r.delay p u.group u.view (next_in (log_of r.orders u.group) p))) r.orders }) sets))
+    ∙ sym (ap (λ b. record r {
+      orders = if b then told_in u.group p (entry_of u) r.orders
+          else change_log u.group (pass_ids p (passed_in r.delay p u.group u.view (next_in (log_of r.orders u.group) p))) r.orders;
+    }) sets))
     c.tell_delivery.ensures.made

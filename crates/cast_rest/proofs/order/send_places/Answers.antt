@@ -19,16 +19,24 @@ returns-clause-made c =
     let own : c.process-holder.result ≡ p = c.process-holder.ensures in
     let i = c.args.place in
     let name : c.record.result.now.name ≡ (record_at r.groups i).name = ap (λ x. x.name) c.record.ensures in
-    let view : c.number-view.result ≡ (record_at r.groups i).here.number = c.number-view.ensures ∙ ap (λ x. x.here.number) c.record-2.ensures in
+    let view : c.number-view.result ≡ (record_at r.groups i).here.number =
+    c.number-view.ensures ∙ ap (λ x. x.here.number) c.record-2.ensures in
     let time : c.args.time ≡ with_bump (time_of r.delay p) (record_at r.groups i).name p = c.requires.raised in
-    let count : c.count-count.result ≡ count_in (with_bump (time_of r.delay p) (record_at r.groups i).name p) (record_at r.groups i).name p = c.count-count.ensures ∙ λ j. count_in (time j) (name j) (own j) in
+    let count : c.count-count.result ≡ count_in (with_bump (time_of r.delay p) (record_at r.groups i).name p)
+    (record_at r.groups i).name p = c.count-count.ensures ∙ λ j. count_in (time j) (name j) (own j) in
     let made : Message = record {
-      id = record { group = c.record.result.now.name; view = c.number-view.result; proc = c.process-holder.result; count = c.count-count.result };
+      id = record {
+        group = c.record.result.now.name;
+        view = c.number-view.result;
+        proc = c.process-holder.result;
+        count = c.count-count.result;
+      };
       times = c.args.stamp;
       body = body.Order c.args.places;
     } in
     let noted : records_in c.note_sent.new.self lent ≡ note_sent_by r c.process-holder.result made =
-    seen_as d c.note_sent.new.self c.in_ok-note_sent.ensures.same lent.shared.now lent.outs.now ∙ c.in_ok-note_sent.ensures.made lent.outs.now r.part in
+    seen_as d c.note_sent.new.self c.in_ok-note_sent.ensures.same lent.shared.now lent.outs.now
+    ∙ c.in_ok-note_sent.ensures.made lent.outs.now r.part in
     c.in_ok-send_message.ensures.made
     ∙ (λ j. send_message records (noted j) made)
     ∙ (λ j. send_message records (note_sent_by r (own j) (record {

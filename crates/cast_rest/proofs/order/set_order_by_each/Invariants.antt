@@ -15,7 +15,9 @@ invariant-loop-serial l = record {
   stays : KeepsBeside l.fn.domain l.fn.lent l.domain l.lent;
   clear : AreNotFree (records_in l.fn.domain l.fn.lent) → AreNotFree (records_in l.domain l.lent);
   len : vec_len l.domain.groups ≡ vec_len l.fn.domain.groups;
-  left : fold (λ t k. set_order_by records resting_records t l.place k) (records_in l.domain l.lent) (drop l.serial-index l.holders) ≡ fold (λ t k. set_order_by records resting_records t l.place k) (records_in l.fn.domain l.fn.lent) l.holders;
-  told : (l.changed || orders_each (records_in l.domain l.lent) l.place (drop l.serial-index l.holders)) ≡ orders_each (records_in l.fn.domain l.fn.lent) l.place l.holders;
+  left : fold (λ t k. set_order_by records resting_records t l.place k) (records_in l.domain l.lent) (drop l.serial-index l.holders)
+      ≡ fold (λ t k. set_order_by records resting_records t l.place k) (records_in l.fn.domain l.fn.lent) l.holders;
+  told : (l.changed || orders_each (records_in l.domain l.lent) l.place (drop l.serial-index l.holders))
+      ≡ orders_each (records_in l.fn.domain l.fn.lent) l.place l.holders;
   still : l.changed ≡ false → records_in l.domain l.lent ≡ records_in l.fn.domain l.fn.lent;
 }

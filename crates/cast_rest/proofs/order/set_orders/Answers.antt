@@ -25,7 +25,8 @@ loop-place-preserved c =
           ap (λ x. fold (set_order records resting_records) x (range_with_len (i + 1) (n - (i + 1)))) c.in_ok-set.ensures.made
           ∙ fold_more (set_order records resting_records) r i n within ∙ c.loop-place.invariant.left;
       told =
-          more_changes orders_at (set_order records resting_records) r _ c.loop-place.changed c.in_ok-set.set i n within c.in_ok-set.ensures.told c.in_ok-set.ensures.made
+          more_changes orders_at (set_order records resting_records)
+          r _ c.loop-place.changed c.in_ok-set.set i n within c.in_ok-set.ensures.told c.in_ok-set.ensures.made
           ∙ c.loop-place.invariant.told;
       still = λ e.
           let parts = or_parts c.loop-place.changed c.in_ok-set.set e in

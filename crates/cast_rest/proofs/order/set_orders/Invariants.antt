@@ -15,7 +15,10 @@ invariant-loop-place l = record {
   stays : KeepsBeside l.fn.domain l.fn.lent l.domain l.lent;
   clear : AreNotFree (records_in l.fn.domain l.fn.lent) → AreNotFree (records_in l.domain l.lent);
   len : vec_len l.domain.groups ≡ vec_len l.fn.domain.groups;
-  left : fold (set_order records resting_records) (records_in l.domain l.lent) (range_with_len l.place (length l.fn.domain.groups.items - l.place)) ≡ set_orders records resting_records (records_in l.fn.domain l.fn.lent);
-  told : (l.changed || changes_over orders_at (set_order records resting_records) (records_in l.domain l.lent) (range_with_len l.place (length l.fn.domain.groups.items - l.place))) ≡ orders_some (records_in l.fn.domain l.fn.lent);
+  left : fold (set_order records resting_records) (records_in l.domain l.lent)
+      (range_with_len l.place (length l.fn.domain.groups.items - l.place))
+      ≡ set_orders records resting_records (records_in l.fn.domain l.fn.lent);
+  told : (l.changed || changes_over orders_at (set_order records resting_records) (records_in l.domain l.lent)
+      (range_with_len l.place (length l.fn.domain.groups.items - l.place))) ≡ orders_some (records_in l.fn.domain l.fn.lent);
   still : l.changed ≡ false → records_in l.domain l.lent ≡ records_in l.fn.domain l.fn.lent;
 }

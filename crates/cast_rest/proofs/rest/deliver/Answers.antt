@@ -16,7 +16,8 @@ returns-clause-made c =
     let shared = c.args.lent.now.shared.now in
     let after = c.take_delivery.new.outs in
     let kept = keeps_then _ _ _ c.in_ok-take_delivery.ensures.same c.in_ok-note_weight.ensures.same in
-    let taken : records_of c.take_delivery.new.domain r.part after ≡ take_delivery_in r p key v.id = c.in_ok-take_delivery.ensures.made r.part in
+    let taken : records_of c.take_delivery.new.domain r.part after ≡ take_delivery_in r p key v.id =
+    c.in_ok-take_delivery.ensures.made r.part in
     let noted : records_of c.note_weight.new.domain r.part after ≡ note_weight_in v.weight (take_delivery_in r p key v.id) p v.id =
     c.in_ok-note_weight.ensures.made after r.part ∙ (λ j. note_weight_in v.weight (taken j) p v.id) in
     c.in_ok-push_delivery.ensures.made

@@ -22,11 +22,17 @@ loop-turn-preserved c =
     record {
       stays = beside_then c.loop-turn.invariant.stays c.in_ok-deliver_first.ensures.stays;
       clear = λ none. c.in_ok-deliver_first.ensures.none (c.loop-turn.invariant.clear none);
-      left = λ none. ap (iterate (n - (i + 1)) first) (c.in_ok-deliver_first.ensures.made (c.loop-turn.invariant.clear none)) ∙ turn_more first r i n within ∙ c.loop-turn.invariant.left none;
-      told = λ _. elim c.loop-turn.changed as (λ b. c.loop-turn.changed ≡ b → has_ready (records_in c.args.domain.now c.args.lent.now) c.args.serial ≡ true) [
-        | true ↦ λ e. c.loop-turn.invariant.told e
-        | false ↦ λ e. subst (λ x. has_ready x c.args.serial ≡ true) (c.loop-turn.invariant.still e) (sym c.in_ok-deliver_first.ensures.told ∙ c.if-not-branch.false)
-      ] refl;
+      left = λ none. ap (iterate (n - (i + 1)) first) (c.in_ok-deliver_first.ensures.made (c.loop-turn.invariant.clear none))
+          ∙ turn_more first r i n within
+          ∙ c.loop-turn.invariant.left none;
+      told = λ _.
+          elim c.loop-turn.changed
+          as (λ b. c.loop-turn.changed ≡ b → has_ready (records_in c.args.domain.now c.args.lent.now) c.args.serial ≡ true) [
+            | true ↦ λ e. c.loop-turn.invariant.told e
+            | false ↦ λ e.
+                subst (λ x. has_ready x c.args.serial ≡ true) (c.loop-turn.invariant.still e)
+                (sym c.in_ok-deliver_first.ensures.told ∙ c.if-not-branch.false)
+          ] refl;
       none = λ e. absurd (true≢false e);
       still = λ e. absurd (true≢false e);
     }
@@ -44,9 +50,12 @@ returns-then-not-branch-clause-made c none =
 -- it tells whether something was ready at first: it delivered, or nothing was
 pub returns-then-not-branch-clause-told : goal.returns-then-not-branch-clause-told
 returns-then-not-branch-clause-told c =
-    elim c.loop-turn.changed as (λ b. c.loop-turn.changed ≡ b → b ≡ has_ready (records_in c.args.domain.now c.args.lent.now) c.args.serial) [
+    elim c.loop-turn.changed
+    as (λ b. c.loop-turn.changed ≡ b → b ≡ has_ready (records_in c.args.domain.now c.args.lent.now) c.args.serial) [
       | true ↦ λ e. sym (c.loop-turn.invariant.told e)
-      | false ↦ λ e. sym (subst (λ x. has_ready x c.args.serial ≡ false) (c.loop-turn.invariant.still e) (sym c.in_ok-deliver_first.ensures.told ∙ c.if-not-branch.true))
+      | false ↦ λ e.
+          sym (subst (λ x. has_ready x c.args.serial ≡ false) (c.loop-turn.invariant.still e)
+          (sym c.in_ok-deliver_first.ensures.told ∙ c.if-not-branch.true))
     ] refl
 
 pub returns-clause-told : goal.returns-clause-told

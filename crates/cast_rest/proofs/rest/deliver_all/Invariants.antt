@@ -14,7 +14,10 @@ abbrev pub invariant-loop-turn : goal.invariant-loop-turn
 invariant-loop-turn l = record {
   stays : KeepsBeside l.fn.domain l.fn.lent l.domain l.lent;
   clear : AreNotFree (records_in l.fn.domain l.fn.lent) → AreNotFree (records_in l.domain l.lent);
-  left : AreNotFree (records_in l.fn.domain l.fn.lent) → iterate (length (part_of l.fn.domain.config.domain l.fn.lent.shared.now).kept - l._turn) (deliver_first records resting_records l.serial) (records_in l.domain l.lent) ≡ deliver_all records resting_records (records_in l.fn.domain l.fn.lent) l.serial;
+  left : AreNotFree (records_in l.fn.domain l.fn.lent) →
+      iterate (length (part_of l.fn.domain.config.domain l.fn.lent.shared.now).kept - l._turn)
+      (deliver_first records resting_records l.serial) (records_in l.domain l.lent)
+      ≡ deliver_all records resting_records (records_in l.fn.domain l.fn.lent) l.serial;
   told : l.changed ≡ true → has_ready (records_in l.fn.domain l.fn.lent) l.serial ≡ true;
   none : l.changed ≡ false → l._turn ≡ 0;
   still : l.changed ≡ false → records_in l.domain l.lent ≡ records_in l.fn.domain l.fn.lent;

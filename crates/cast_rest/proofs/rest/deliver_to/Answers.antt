@@ -14,13 +14,19 @@ pub returns-clause-made : goal.returns-clause-made
 returns-clause-made c =
     let after = records_in c.deliver_all.new.domain c.deliver_all.new.lent in
     subst (λ (q : Queue).
-    OnOk c.deliver_all.result (AreNotFree (records_in (record (c.args.domain.now) { delay = q }) c.args.lent.now) → after ≡ deliver_all records resting_records (records_in (record (c.args.domain.now) { delay = q }) c.args.lent.now) c.args.serial)) c.look.ensures c.deliver_all.ensures.made
+    OnOk c.deliver_all.result (AreNotFree (records_in (record (c.args.domain.now) { delay = q }) c.args.lent.now) →
+    after ≡ deliver_all records resting_records (records_in (record (c.args.domain.now) { delay = q }) c.args.lent.now) c.args.serial))
+    c.look.ensures c.deliver_all.ensures.made
 
 pub returns-clause-told : goal.returns-clause-told
 returns-clause-told c =
-    subst (λ (q : Queue). IfOk c.deliver_all.result (λ changed. changed ≡ has_ready (records_in (record (c.args.domain.now) { delay = q }) c.args.lent.now) c.args.serial)) c.look.ensures c.deliver_all.ensures.told
+    subst (λ (q : Queue). IfOk c.deliver_all.result
+    (λ changed. changed ≡ has_ready (records_in (record (c.args.domain.now) { delay = q }) c.args.lent.now) c.args.serial))
+    c.look.ensures c.deliver_all.ensures.told
 
 pub returns-clause-none : goal.returns-clause-none
 returns-clause-none c =
     let after = records_in c.deliver_all.new.domain c.deliver_all.new.lent in
-    subst (λ (q : Queue). OnOk c.deliver_all.result (AreNotFree (records_in (record (c.args.domain.now) { delay = q }) c.args.lent.now) → AreNotFree after)) c.look.ensures c.deliver_all.ensures.none
+    subst (λ (q : Queue).
+    OnOk c.deliver_all.result (AreNotFree (records_in (record (c.args.domain.now) { delay = q }) c.args.lent.now) → AreNotFree after))
+    c.look.ensures c.deliver_all.ensures.none

@@ -17,7 +17,8 @@ returns-clause-made c none =
     c.in_ok-led.ensures.made
     ∙ ap (lead records)
     (c.in_ok-gone_on.ensures.made
-    ∙ ap (go_on_all records resting_records) (c.in_ok-ordered.ensures.made ∙ ap (set_orders records resting_records) (c.in_ok-settled.ensures.made none)))
+    ∙ ap (go_on_all records resting_records)
+    (c.in_ok-ordered.ensures.made ∙ ap (set_orders records resting_records) (c.in_ok-settled.ensures.made none)))
 
 pub returns-clause-still : goal.returns-clause-still
 returns-clause-still c e =
@@ -44,4 +45,5 @@ returns-clause-told c none =
 pub returns-clause-none : goal.returns-clause-none
 returns-clause-none c none =
     subst AreNotFree (sym c.in_ok-led.ensures.made)
-    (none_lead (records_in c.go_on_all.new.domain c.go_on_all.new.lent) (c.in_ok-gone_on.ensures.none (c.in_ok-ordered.ensures.none (c.in_ok-settled.ensures.none none))))
+    (none_lead (records_in c.go_on_all.new.domain c.go_on_all.new.lent)
+    (c.in_ok-gone_on.ensures.none (c.in_ok-ordered.ensures.none (c.in_ok-settled.ensures.none none))))

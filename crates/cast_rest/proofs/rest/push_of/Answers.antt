@@ -10,9 +10,11 @@ returns c =
     let id = c.args.message.now.id in
     elim c.match-message.branch [
       | in-Causal+in_ok-copy-in-Causal w ↦
-          ap (λ kind. Some (push.Deliver id kind.0 kind.1)) (w.kind-is ∙ ap (λ payload. (kinds.Causal, payload)) w.in_ok-copy-in-Causal.ensures)
+          ap (λ kind. Some (push.Deliver id kind.0 kind.1))
+          (w.kind-is ∙ ap (λ payload. (kinds.Causal, payload)) w.in_ok-copy-in-Causal.ensures)
           ∙ sym (ap (told_of id) w.in-Causal.is)
       | in-Atomic+in_ok-copy-in-Atomic w ↦
-          ap (λ kind. Some (push.Deliver id kind.0 kind.1)) (w.kind-is ∙ ap (λ payload. (kinds.Atomic, payload)) w.in_ok-copy-in-Atomic.ensures)
+          ap (λ kind. Some (push.Deliver id kind.0 kind.1))
+          (w.kind-is ∙ ap (λ payload. (kinds.Atomic, payload)) w.in_ok-copy-in-Atomic.ensures)
           ∙ sym (ap (told_of id) w.in-Atomic.is)
     ]

@@ -13,6 +13,8 @@ abbrev pub invariant-loop-turn : goal.invariant-loop-turn
 invariant-loop-turn l = record {
   stays : KeepsBeside l.fn.domain l.fn.lent l.domain l.lent;
   clear : AreNotFree (records_in l.fn.domain l.fn.lent) → AreNotFree (records_in l.domain l.lent);
-  dismissed : AreNotFree (records_in l.fn.domain l.fn.lent) → AreDismissed (records_in l.fn.domain l.fn.lent) → AreDismissed (records_in l.domain l.lent);
-  led : AreNotFree (records_in l.fn.domain l.fn.lent) → (s : State) → Fits (records_in l.fn.domain l.fn.lent) s → IsLawful s → Led Stands pass (records_in l.domain l.lent) s;
+  dismissed : AreNotFree (records_in l.fn.domain l.fn.lent) → AreDismissed (records_in l.fn.domain l.fn.lent) →
+      AreDismissed (records_in l.domain l.lent);
+  led : AreNotFree (records_in l.fn.domain l.fn.lent) → (s : State) → Fits (records_in l.fn.domain l.fn.lent) s → IsLawful s →
+      Led Stands pass (records_in l.domain l.lent) s;
 }

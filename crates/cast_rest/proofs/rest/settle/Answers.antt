@@ -8,8 +8,10 @@ use Rattle.cast_domain.proofs.Unready.{none_deliver, none_delivers}
 use Rattle.cast_rest.proofs.rest.settle.Goals as goal
 use Rattle.cast_rest.proofs.rest.settle.Goals.{Then-is_settled}
 
-none : (c : Then-is_settled) → c.is_settled.result ≡ true → (p : Proc) → ready_key_in (records_in c.args.domain.now c.args.lent.now) p ≡ None
-none c settled p = c.is_settled.ensures p (not_from_true c.is_settled.result settled) (turns_in (records_in c.args.domain.now c.args.lent.now) p)
+none : (c : Then-is_settled) → c.is_settled.result ≡ true → (p : Proc) →
+    ready_key_in (records_in c.args.domain.now c.args.lent.now) p ≡ None
+none c settled p =
+    c.is_settled.ensures p (not_from_true c.is_settled.result settled) (turns_in (records_in c.args.domain.now c.args.lent.now) p)
 
 pub returns-then-is_settled-clause-made : goal.returns-then-is_settled-clause-made
 returns-then-is_settled-clause-made c _ =

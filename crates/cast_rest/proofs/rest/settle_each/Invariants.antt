@@ -9,7 +9,8 @@ abbrev pub invariant-loop-place : goal.invariant-loop-place
 invariant-loop-place l = record {
   stays : KeepsBeside l.fn.domain l.fn.lent l.domain l.lent;
   clear : AreNotFree (records_in l.fn.domain l.fn.lent) → AreNotFree (records_in l.domain l.lent);
-  round : AreNotFree (records_in l.fn.domain l.fn.lent) → IsRound (records_in l.fn.domain l.fn.lent) (records_in l.domain l.lent) l.changed l.place;
+  round : AreNotFree (records_in l.fn.domain l.fn.lent) →
+      IsRound (records_in l.fn.domain l.fn.lent) (records_in l.domain l.lent) l.changed l.place;
   still : l.changed ≡ false → records_in l.domain l.lent ≡ records_in l.fn.domain l.fn.lent;
 }
 

@@ -22,7 +22,8 @@ returns-then-saturating_add-lt-MAX_UNSETTLED c =
     let m : ℕ = settled_at r p x in
     let few = length_filter (λ e. delivered_in r.delay p (uid_in x.name x.here.number e)) (known_past m l) in
     let past = length-drop (m - l.base) l.window in
-    let waiting : c.waiting_past.result ≡ waiting_past l p m = c.waiting_past.ensures ∙ ap (waiting_past l p) c.settled_to-settled.ensures in
+    let waiting : c.waiting_past.result ≡ waiting_past l p m =
+    c.waiting_past.ensures ∙ ap (waiting_past l p) c.settled_to-settled.ensures in
     let known = c.saturating_sub-known.ensures in
     let all = c.length.ensures in
     let sum = c.saturating_add.ensures in

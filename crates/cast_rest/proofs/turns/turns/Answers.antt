@@ -13,7 +13,8 @@ loop-record-preserved c =
     let i = c.loop-record.record-index in
     let items = c.as_slice-record-items.result.now in
     let x = c.record-item.result in
-    let more : take i items ++ x ∷ [] ≡ take (i + 1) items = ap (λ y. take i items ++ y ∷ []) c.record-item.is ∙ sym (take_more items i x c.loop-record-test.true) in
+    let more : take i items ++ x ∷ [] ≡ take (i + 1) items =
+    ap (λ y. take i items ++ y ∷ []) c.record-item.is ∙ sym (take_more items i x c.loop-record-test.true) in
     c.in_ok-push.ensures.items
     ∙ (λ j. c.loop-record.invariant j ++ (x.name, c.turn.ensures j) ∷ [])
     ∙ sym (map-append f (take i items) (x ∷ []))

@@ -9,6 +9,7 @@ returns-in-Some c = end_empty c.args.lines.now c.in-Some.last.now (sym c.in-Some
 pub returns-in_default : goal.returns-in_default
 returns-in_default c =
     elim c.in_default.branch [
-      | in_default-via-in-Some+else-is_empty w ↦ end_full c.args.lines.now w.in-Some.last.now (sym w.in-Some.ensures.value) (sym w.if-is_empty.ensures)
+      | in_default-via-in-Some+else-is_empty w ↦
+          end_full c.args.lines.now w.in-Some.last.now (sym w.in-Some.ensures.value) (sym w.if-is_empty.ensures)
       | in_default-via-in_default w ↦ end_none c.args.lines.now (sym w.in_default.ensures.value)
     ]

@@ -11,7 +11,8 @@ exact c =
     let lines : texts c.in_ok-lines.lines.items ≡ parts_at 10 c.args.text.now = c.in_ok-lines.ensures in
     let end : c.end_of.result ≡ end_after 1 (parts_at 10 c.args.text.now) = rw (c.deref-3.ensures.value, lines) at c.end_of.ensures in
     let found : map numbered_line c.in_ok-used.used.items ≡ used_of (texts c.deref.result.now) = c.in_ok-used.ensures in
-    let used : map numbered_line c.deref-2.result.now ≡ used_of (parts_at 10 c.args.text.now) = rw c.deref-2.ensures.value (rw (c.deref.ensures.value, lines) at found) in
+    let used : map numbered_line c.deref-2.result.now ≡ used_of (parts_at 10 c.args.text.now) =
+    rw c.deref-2.ensures.value (rw (c.deref.ensures.value, lines) at found) in
     let given : GivesAt c.parse_lines.result (site_on c.end_of.result (map numbered_line c.deref-2.result.now)) = c.parse_lines.ensures in
     rw (end, used) at given
 

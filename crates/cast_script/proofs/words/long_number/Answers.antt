@@ -5,7 +5,8 @@ use Rattle.cast_script.proofs.words.long_number.Goals as goal
 
 pub returns-then-not-is_plain : goal.returns-then-not-is_plain
 returns-then-not-is_plain c =
-    sym (number_not c.args.word.now (odd_no_number c.args.word.now (rw c.as_bytes.ensures.value at (c.is_plain.ensures.other c.if-not-is_plain.true))))
+    sym (number_not c.args.word.now
+    (odd_no_number c.args.word.now (rw c.as_bytes.ensures.value at (c.is_plain.ensures.other c.if-not-is_plain.true))))
 
 pub returns-in-Ok : goal.returns-in-Ok
 returns-in-Ok c =

@@ -18,7 +18,8 @@ pub loop-frame-smaller : goal.loop-frame-smaller
 loop-frame-smaller g c =
     let request = c.in-Request.request in
     let stands : client_of (drop c.loop-frame.done c.args.bytes.now) ≡ Ok (read.Frame (client.Request request) c.in-Ok-Frame.len) =
-    at_rest c.args.bytes.now c.loop-frame.done (Ok (read.Frame (client.Request request) c.in-Ok-Frame.len)) (cc (c.in-Ok-Frame.ensures.exact)) in
+    at_rest c.args.bytes.now c.loop-frame.done (Ok (read.Frame (client.Request request) c.in-Ok-Frame.len))
+    (cc (c.in-Ok-Frame.ensures.exact)) in
     let fits = frame_fits c.in-Ok-Frame.len request c.loop-frame.invariant stands in
     omega (arith, fits.some, fits.within)
 
@@ -26,8 +27,10 @@ pub loop-frame-preserved : goal.loop-frame-preserved
 loop-frame-preserved g c =
     let request = c.in-Request.request in
     let stands : client_of (drop c.loop-frame.done c.args.bytes.now) ≡ Ok (read.Frame (client.Request request) c.in-Ok-Frame.len) =
-    at_rest c.args.bytes.now c.loop-frame.done (Ok (read.Frame (client.Request request) c.in-Ok-Frame.len)) (cc (c.in-Ok-Frame.ensures.exact)) in
-    handed_further (g.S.Sink.taken c.take.new.self) c.in-Ok-Frame.len request c.loop-frame.invariant stands (granted c.take.result c.if-is_err.ensures.value c.take.ensures.ok)
+    at_rest c.args.bytes.now c.loop-frame.done (Ok (read.Frame (client.Request request) c.in-Ok-Frame.len))
+    (cc (c.in-Ok-Frame.ensures.exact)) in
+    handed_further (g.S.Sink.taken c.take.new.self) c.in-Ok-Frame.len request c.loop-frame.invariant stands
+    (granted c.take.result c.if-is_err.ensures.value c.take.ensures.ok)
 
 pub returns-in-Push : goal.returns-in-Push
 returns-in-Push g c =
@@ -36,7 +39,8 @@ returns-in-Push g c =
     let stands : client_of (drop done bytes) ≡ Ok (read.Frame (client.Push c.in-Push.field-0) c.in-Ok-Frame.len) =
     at_rest bytes done (Ok (read.Frame (client.Push c.in-Push.field-0) c.in-Ok-Frame.len)) (cc (c.in-Ok-Frame.ensures.exact)) in
     stops_there (g.S.Sink.taken c.end_bad.new.sink) c.end_bad.result c.loop-frame.invariant
-    (stops_bad (drop done bytes) WrongType c.end_bad.result (λ other. by_what_stands (drop done bytes) (Ok (read.Frame (client.Push c.in-Push.field-0) c.in-Ok-Frame.len)) stands) c.end_bad.ensures)
+    (stops_bad (drop done bytes) WrongType c.end_bad.result (λ other.
+    by_what_stands (drop done bytes) (Ok (read.Frame (client.Push c.in-Push.field-0) c.in-Ok-Frame.len)) stands) c.end_bad.ensures)
 
 pub returns-in-Err : goal.returns-in-Err
 returns-in-Err g c =
@@ -44,4 +48,5 @@ returns-in-Err g c =
     let done = c.loop-frame.done in
     let end = c.end_bad-in-Err.result in
     stops_there (g.S.Sink.taken c.end_bad-in-Err.new.sink) end c.loop-frame.invariant
-    (stops_bad (drop done bytes) c.in-Err.fault end (λ other. by_what_stands (drop done bytes) (Err c.in-Err.fault) (at_rest bytes done (Err c.in-Err.fault) (c.in-Err.ensures.exact other))) c.end_bad-in-Err.ensures)
+    (stops_bad (drop done bytes) c.in-Err.fault end (λ other. by_what_stands (drop done bytes) (Err c.in-Err.fault)
+    (at_rest bytes done (Err c.in-Err.fault) (c.in-Err.ensures.exact other))) c.end_bad-in-Err.ensures)

@@ -7,10 +7,14 @@ pump_turns-requires g c = record { cut = no_bytes_are_cut (bytes_of c.new-ahead.
 
 pub returns-in-Some-clause-pumped : goal.returns-in-Some-clause-pumped
 returns-in-Some-clause-pumped g c =
-    let start = begun (g.R.Read.remaining c.args.reader.now.device) (g.S.Sink.taken c.args.sink.now) (bytes_of c.new-ahead.result) c.new-ahead.ensures in
+    let start =
+    begun (g.R.Read.remaining c.args.reader.now.device) (g.S.Sink.taken c.args.sink.now) (bytes_of c.new-ahead.result)
+    c.new-ahead.ensures in
     rw c.in-Some.is at (c.pump_turns.ensures.pumped _ _ start)
 
 pub returns-clause-pumped : goal.returns-clause-pumped
 returns-clause-pumped g c =
-    let start = begun (g.R.Read.remaining c.args.reader.now.device) (g.S.Sink.taken c.args.sink.now) (bytes_of c.new-ahead.result) c.new-ahead.ensures in
+    let start =
+    begun (g.R.Read.remaining c.args.reader.now.device) (g.S.Sink.taken c.args.sink.now) (bytes_of c.new-ahead.result)
+    c.new-ahead.ensures in
     ends_at_last_turn (rw c.in-None.is at (c.pump_turns.ensures.pumped _ _ start))

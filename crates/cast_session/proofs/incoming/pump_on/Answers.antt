@@ -3,7 +3,8 @@ use Rattle.cast_session.proofs.Pumping.{begun}
 use Rattle.cast_session.proofs.incoming.pump_on.Goals as goal
 
 pub loop-init : goal.loop-init
-loop-init g c = begun (g.R.Read.remaining c.args.reader.now.device) (g.S.Sink.taken c.args.sink.now) (bytes_of c.new-ahead.result) c.new-ahead.ensures
+loop-init g c =
+    begun (g.R.Read.remaining c.args.reader.now.device) (g.S.Sink.taken c.args.sink.now) (bytes_of c.new-ahead.result) c.new-ahead.ensures
 
 pub pump_turns-requires : goal.pump_turns-requires
 pump_turns-requires g c = record { cut = c.loop.invariant.cut }

@@ -1,6 +1,7 @@
 use Rattle.cast_session.specs.Ahead.{bytes_of}
 use Rattle.cast_session.proofs.Calls.{called_again}
-use Rattle.cast_session.proofs.Pumping.{cut_fits, with_room, went_on, ends_in_them, ends_at_end, ends_at_read_fault, ends_without_room, granted}
+use Rattle.cast_session.proofs.Pumping.{cut_fits, with_room, went_on, ends_in_them, ends_at_end}
+use Rattle.cast_session.proofs.Pumping.{ends_at_read_fault, ends_without_room, granted}
 use Rattle.cast_session.proofs.incoming.pump_turns.Goals as goal
 
 pub loop-turn-init : goal.loop-turn-init
@@ -41,7 +42,8 @@ loop-turn-preserved g c =
       rw c.drop_front.ensures hands.2,
       λ before old start.
           let pumping = with_room (bytes_of c.make_room.new.self) (c.loop-turn.invariant.2 before old start) c.make_room.ensures.same in
-          went_on (g.S.Sink.taken c.hand_on.new.sink) c.in-Ok.count (bytes_of c.drop_front.new.self) pumping c.fill.ensures.filled hands c.drop_front.ensures,
+          went_on (g.S.Sink.taken c.hand_on.new.sink) c.in-Ok.count (bytes_of c.drop_front.new.self)
+          pumping c.fill.ensures.filled hands c.drop_front.ensures,
     )
 
 pub returns-clause-pumped : goal.returns-clause-pumped

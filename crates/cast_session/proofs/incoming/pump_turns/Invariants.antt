@@ -9,4 +9,5 @@ abbrev pub invariant-loop-turn : goal.invariant-loop-turn
 invariant-loop-turn g l =
     CalledWell l.reader l._turn
     × IsCut (bytes_of l.ahead)
-    × GoesOn (g.R.Read.remaining l.fn.reader.device) (g.R.Read.remaining l.reader.device) (g.S.Sink.taken l.fn.sink) (g.S.Sink.taken l.sink) (bytes_of l.fn.ahead) (bytes_of l.ahead) None
+    × GoesOn (g.R.Read.remaining l.fn.reader.device) (g.R.Read.remaining l.reader.device) (g.S.Sink.taken l.fn.sink) (g.S.Sink.taken l.sink)
+    (bytes_of l.fn.ahead) (bytes_of l.ahead) None

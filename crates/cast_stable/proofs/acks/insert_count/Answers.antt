@@ -19,7 +19,8 @@ returns-in-Some-clause-ok g c =
     on_ok_weaker c.insert.result
     (λ (made : run ≡ insert_count was c.args.count).
     (c.get_mut.follows.holds run).0 ∙ set_puts R g.met.K.Ord.total key was run es c.get_mut.ensures.ordered found
-    ∙ ap (λ (r : Run). put R key r es) (made ∙ ap (λ o. insert_count (unwrap_or o no_counts) c.args.count) (sym found ∙ lookup_finds R key es)))
+    ∙ ap (λ (r : Run). put R key r es)
+    (made ∙ ap (λ o. insert_count (unwrap_or o no_counts) c.args.count) (sym found ∙ lookup_finds R key es)))
     c.insert.ensures.ok
 
 pub returns-in-Some-clause-err : goal.returns-in-Some-clause-err
@@ -40,8 +41,10 @@ returns-in_ok-insert-in-None-2-clause-ok g c =
     let es = c.args.runs.now.entries in
     let run : Run = c.insert-in-None.new.self in
     let none : lookup (is_at (R key)) es ≡ None = sym c.in-None.ensures.value in
-    let made : run ≡ insert_count no_counts c.args.count = c.in_ok-insert-in-None.ensures.ok ∙ ap (λ r. insert_count r c.args.count) c.new-run.ensures in
+    let made : run ≡ insert_count no_counts c.args.count =
+    c.in_ok-insert-in-None.ensures.ok ∙ ap (λ r. insert_count r c.args.count) c.new-run.ensures in
     let stands : c.insert-in-None-2.new.self.entries ≡ insert_entry R es key run =
     c.in_ok-insert-in-None-2.ensures.entries ∙ ap (λ m. insert_entry R m.entries key run) c.get_mut.follows.holds-at-none in
     stands ∙ insert_puts R key run es
-    ∙ ap (λ (r : Run). put R key r es) (made ∙ ap (λ o. insert_count (unwrap_or o no_counts) c.args.count) (sym none ∙ lookup_finds R key es))
+    ∙ ap (λ (r : Run). put R key r es)
+    (made ∙ ap (λ o. insert_count (unwrap_or o no_counts) c.args.count) (sym none ∙ lookup_finds R key es))

@@ -10,7 +10,8 @@ use Rattle.cast_step.proofs.domain.let_go_after.Goals as goal
 none_freed : (e : Event) (r : Records) → frees_nothing e ≡ true → AreFreedBy e r → AreNotFree r
 none_freed e r is by = subst (λ b. AreFreed b (source_freed e) r) is by
 
-no_others_freed : (e : Event) (r : Records) (source : Source) → frees_nothing e ≡ false → source_freed e ≡ Some source → AreFreedBy e r → AreNotFreeBut source r
+no_others_freed : (e : Event) (r : Records) (source : Source) → frees_nothing e ≡ false → source_freed e ≡ Some source → AreFreedBy e r →
+    AreNotFreeBut source r
 no_others_freed e r source is from by =
     subst (λ o. AreFreed false o r) from (subst (λ b. AreFreed b (source_freed e) r) is by)
 

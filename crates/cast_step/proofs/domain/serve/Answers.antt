@@ -33,13 +33,18 @@ use Rattle.cast_domain.proofs.Trimmed.{fits_trim_all}
 use Rattle.cast_step.proofs.domain.serve.Goals as goal
 
 -- what is shared in the end, and what was added, is what the last call left
-ended : (s : State) (e : Event) (answer : Taken) (new : Domain) (d : DomainNo) (before after : Outs) (last : Lent) {later : Shared} → later ≡ last.shared.now → after ≡ outs_then before last.outs.now → IsStepOf s e answer new (part_of d last.shared.now) before (outs_then before last.outs.now) → IsStepOf s e answer new (part_of d later) before after
+ended : (s : State) (e : Event) (answer : Taken) (new : Domain) (d : DomainNo) (before after : Outs) (last : Lent) {later : Shared} →
+    later ≡ last.shared.now → after ≡ outs_then before last.outs.now →
+    IsStepOf s e answer new (part_of d last.shared.now) before (outs_then before last.outs.now) →
+    IsStepOf s e answer new (part_of d later) before after
 ended s e answer new d before after last left added step =
-    subst (λ h. IsStepOf s e answer new (part_of d h) before after) (sym left) (subst (λ o. IsStepOf s e answer new (part_of d last.shared.now) before o) (sym added) step)
+    subst (λ h. IsStepOf s e answer new (part_of d h) before after) (sym left)
+    (subst (λ o. IsStepOf s e answer new (part_of d last.shared.now) before o) (sym added) step)
 
 pub returns-clause-steps : goal.returns-clause-steps
 returns-clause-steps c s means =
-    ended s c.args.event.now _ c.trim_orders.new.domain c.args.domain.now.config.domain c.args.outs.now c.append.new.self c.rest.new.lent (search rules) (search rules) (
+    ended s c.args.event.now _ c.trim_orders.new.domain c.args.domain.now.config.domain c.args.outs.now c.append.new.self c.rest.new.lent
+    (search rules) (search rules) (
     let here = c.args.domain.now in
     let part = part_of here.config.domain c.args.shared.now in
     let e = c.args.event.now in
@@ -49,14 +54,18 @@ returns-clause-steps c s means =
     let typed = c.in_ok-taken.ensures.typed in
     let lawful = lawful_before s means.lawful in
     let acted_records = records_in c.act.new.domain c.act.new.lent in
-    let made : acted_records ≡ acted_in r e = c.in_ok-taken.ensures.made ∙ ap (λ o. acted_in (records_of here part o) e) c.new-step.ensures in
-    let acts : Fits acted_records (act_of_event b e) = subst (λ x. Fits x (act_of_event b e)) (sym made) (fits_acted r b e means.fits lawful typed) in
+    let made : acted_records ≡ acted_in r e =
+    c.in_ok-taken.ensures.made ∙ ap (λ o. acted_in (records_of here part o) e) c.new-step.ensures in
+    let acts : Fits acted_records (act_of_event b e) =
+    subst (λ x. Fits x (act_of_event b e)) (sym made) (fits_acted r b e means.fits lawful typed) in
     let acts_lawful : IsLawful (act_of_event b e) = lawful_acted b e lawful (unborn r b means.fits) typed in
-    let acts_dismissed : AreDismissed acted_records = subst AreDismissed (sym made) (dismissed_acted r b e means.fits typed means.dismissed) in
+    let acts_dismissed : AreDismissed acted_records =
+    subst AreDismissed (sym made) (dismissed_acted r b e means.fits typed means.dismissed) in
     let acts_freed : AreFreedBy e acted_records = subst (AreFreedBy e) (sym made) (freed_acted r e means.freed) in
     let left : Records = records_in c.let_go_after.new.domain c.let_go_after.new.lent in
     let lets_go = c.let_go_after.ensures.made acts_freed in
-    let after : Fits left (let_go (act_of_event b e)) = subst (λ x. Fits x (let_go (act_of_event b e))) (sym lets_go) (fits_let_go acted_records (act_of_event b e) acts acts_lawful) in
+    let after : Fits left (let_go (act_of_event b e)) =
+    subst (λ x. Fits x (let_go (act_of_event b e))) (sym lets_go) (fits_let_go acted_records (act_of_event b e) acts acts_lawful) in
     let after_dismissed : AreDismissed left = subst AreDismissed (sym lets_go) (dismissed_let_go acted_records acts_dismissed) in
     let after_freed : AreNotFree left = c.let_go_after.ensures.none acts_freed in
     let after_lawful = lawful_let_go (act_of_event b e) acts_lawful in
@@ -64,18 +73,23 @@ returns-clause-steps c s means =
     let t = rested.0 in
     let fits = rested.2 in
     let lent = c.rest.new.lent in
-    let same : c.rest.new.domain.config.domain ≡ here.config.domain = ap (λ (k : DomainConfig). k.domain) (c.in_ok-rest.ensures.stays.same.config ∙ c.let_go_after.ensures.stays.same.config ∙ c.in_ok-taken.ensures.same.1) in
+    let same : c.rest.new.domain.config.domain ≡ here.config.domain =
+    ap (λ (k : DomainConfig). k.domain)
+    (c.in_ok-rest.ensures.stays.same.config ∙ c.let_go_after.ensures.stays.same.config ∙ c.in_ok-taken.ensures.same.1) in
     let last_lawful = lawful_rests (let_go (act_of_event b e)) t after_lawful rested.1 in
     let rested_records = records_of c.rest.new.domain (part_of c.rest.new.domain.config.domain lent.shared.now) lent.outs.now in
     let trimmed : Fits (records_of c.trim_orders.new.domain (part_of c.rest.new.domain.config.domain lent.shared.now) lent.outs.now) t =
     subst (λ x. Fits x t) (sym (c.trim_orders.ensures.made lent.outs.now (part_of c.rest.new.domain.config.domain lent.shared.now)))
-    (subst (λ kept. Fits (trim_all_in kept rested_records) t) (sym c.messages-kept.ensures.value) (fits_trim_all rested_records t fits last_lawful)) in
+    (subst (λ kept. Fits (trim_all_in kept rested_records) t) (sym c.messages-kept.ensures.value)
+    (fits_trim_all rested_records t fits last_lawful)) in
     let still : AreDismissed (records_of c.trim_orders.new.domain (part_of c.rest.new.domain.config.domain lent.shared.now) no_outs) =
     subst AreDismissed (sym (c.trim_orders.ensures.made no_outs (part_of c.rest.new.domain.config.domain lent.shared.now)))
-    (dismissed_trim_all c.messages-kept.result (records_of c.rest.new.domain (part_of c.rest.new.domain.config.domain lent.shared.now) no_outs) (c.in_ok-rest.ensures.dismissed after_freed after_dismissed)) in
+    (dismissed_trim_all c.messages-kept.result (records_of c.rest.new.domain (part_of c.rest.new.domain.config.domain lent.shared.now)
+    no_outs) (c.in_ok-rest.ensures.dismissed after_freed after_dismissed)) in
     let still_freed : AreNotFree (records_of c.trim_orders.new.domain (part_of c.rest.new.domain.config.domain lent.shared.now) no_outs) =
     subst AreNotFree (sym (c.trim_orders.ensures.made no_outs (part_of c.rest.new.domain.config.domain lent.shared.now)))
-    (freed_trim_all c.messages-kept.result (records_of c.rest.new.domain (part_of c.rest.new.domain.config.domain lent.shared.now) no_outs) (c.in_ok-rest.ensures.none after_freed)) in
+    (freed_trim_all c.messages-kept.result (records_of c.rest.new.domain (part_of c.rest.new.domain.config.domain lent.shared.now) no_outs)
+    (c.in_ok-rest.ensures.none after_freed)) in
     let fits_last : Fits (records_of c.trim_orders.new.domain (part_of here.config.domain lent.shared.now) lent.outs.now) t =
     subst (λ d. Fits (records_of c.trim_orders.new.domain (part_of d lent.shared.now) lent.outs.now) t) same trimmed in
     record {
@@ -90,5 +104,9 @@ returns-clause-steps c s means =
         dismissed = still;
         freed = subst (λ d. AreNotFree (records_of c.trim_orders.new.domain (part_of d lent.shared.now) no_outs)) same still_freed;
       };
-      outs = λ j. record before { frames = before.frames ++ fits.frames j; delivered = before.delivered ++ fits.delivered j; pushed = before.pushed ++ fits.pushed j };
+      outs = λ j. record before {
+        frames = before.frames ++ fits.frames j;
+        delivered = before.delivered ++ fits.delivered j;
+        pushed = before.pushed ++ fits.pushed j;
+      };
     })

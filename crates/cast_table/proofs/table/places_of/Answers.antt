@@ -5,6 +5,7 @@ use Rattle.cast_table.proofs.table.places_of.Goals as goal
 
 pub loop-place-preserved : goal.loop-place-preserved
 loop-place-preserved c = λ n.
-    let more = named_more n c.deref-domain-items.result.now c.loop-place.place c.domain-item.result c.loop-place-test.true c.domain-item.is in
+    let more =
+    named_more n c.deref-domain-items.result.now c.loop-place.place c.domain-item.result c.loop-place-test.true c.domain-item.is in
     let number = c.number.ensures in
     grind (arith, common_steps, c.loop-place.invariant n)

@@ -7,5 +7,6 @@ use Rattle.cast_table.proofs.table.turns.Given as goal
 -- the domains so far have taken their turns, and no room is lost
 abbrev pub invariant-loop-domain : goal.invariant-loop-domain
 invariant-loop-domain l =
-    Turned l.event l.fn.domains.items l.domain-items l.domain-index (lending l.fn.shared l.fn.outs l.fn.halted.items) (lending l.shared l.outs l.halted.items)
+    Turned l.event l.fn.domains.items l.domain-items l.domain-index (lending l.fn.shared l.fn.outs l.fn.halted.items)
+    (lending l.shared l.outs l.halted.items)
     × (vec_capacity l.fn.halted ≤ vec_capacity l.halted)

@@ -11,7 +11,8 @@ returns-in-Some-clause-kept c =
     let key = c.args.key.now in
     let dues = c.args.dues.now.entries in
     let some = sym (looked_up key dues) ∙ sym c.in-Some.ensures.value in
-    keeps_taken c.args.domain c.args.moments.now.entries c.take.new.moments.entries c.in-Some.due key c.take.ensures (due_of dues) (due_of c.remove.new.self.entries) c.requires some (moved key None dues c.remove.new.self.entries c.remove.ensures.updates.0)
+    keeps_taken c.args.domain c.args.moments.now.entries c.take.new.moments.entries c.in-Some.due key c.take.ensures (due_of dues)
+    (due_of c.remove.new.self.entries) c.requires some (moved key None dues c.remove.new.self.entries c.remove.ensures.updates.0)
 
 pub returns-in-Some-clause-paid : goal.returns-in-Some-clause-paid
 returns-in-Some-clause-paid c = moved c.args.key.now None c.args.dues.now.entries c.remove.new.self.entries c.remove.ensures.updates.0

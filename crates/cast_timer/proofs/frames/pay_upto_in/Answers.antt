@@ -13,7 +13,8 @@ loop-due-preserved c =
     let dues = c.loop-due.dues.entries in
     let new = c.pay_in.new.dues.entries in
     record {
-      kept = keeps_both c.args.domain c.args.moments.now.entries c.loop-due.moments.entries c.pay_in.new.moments.entries (due_of dues) (due_of new) c.loop-due.invariant.kept c.pay_in.ensures.kept;
+      kept = keeps_both c.args.domain c.args.moments.now.entries c.loop-due.moments.entries c.pay_in.new.moments.entries (due_of dues)
+          (due_of new) c.loop-due.invariant.kept c.pay_in.ensures.kept;
       paid = λ q.
           ap (λ (m : Option ℕ). cond (is_upto key q) None m) (c.pay_in.ensures.paid q)
           ∙ paid_among (is_upto key) c.in-Some.due (due_of dues) c.in-Some.ensures.some.0 q

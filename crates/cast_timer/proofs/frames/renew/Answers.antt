@@ -16,7 +16,8 @@ use Rattle.cast_timer.proofs.Rows.{on_ok_both, on_err_both}
 use Rattle.cast_timer.proofs.frames.renew.Goals as goal
 
 -- the moment that is read, written again
-unwritten : (dues new : List (OwedKey × ℕ)) (key : OwedKey) (t : ℕ) → due_of dues key ≡ Some t → new ≡ set_value (is_at (keys.cmp-value.it key)) dues t → new ≡ dues
+unwritten : (dues new : List (OwedKey × ℕ)) (key : OwedKey) (t : ℕ) → due_of dues key ≡ Some t →
+    new ≡ set_value (is_at (keys.cmp-value.it key)) dues t → new ≡ dues
 unwritten dues new key t some is = is ∙ set_value_same (is_at (keys.cmp-value.it key)) dues t (looked_up key dues ∙ some)
 
 pub returns-then-due-frame-clause-kept : goal.returns-then-due-frame-clause-kept
@@ -54,7 +55,8 @@ returns-else-due-frame-clause-kept c =
     let new_rows = c.move_to.new.moments.entries in
     either_way c.move_to.result
     (on_ok_both c.move_to.result
-    (λ gone same. keeps_moved c.args.domain old_rows new_rows key t after gone (due_of dues) (due_of new) c.requires some (false_from_ne_true (t == after) (λ equal. absurd (c.if-due-frame.false (eqb-true t after equal))))
+    (λ gone same. keeps_moved c.args.domain old_rows new_rows key t after gone (due_of dues) (due_of new)
+    c.requires some (false_from_ne_true (t == after) (λ equal. absurd (c.if-due-frame.false (eqb-true t after equal))))
     (λ q. is q ∙ ap (λ n. cond (key_eq key q) (Some n) (due_of dues q)) same ∙ moved_one (due_of dues) key t after some q))
     c.move_to.ensures.moved c.move_to.ensures.ok)
     (on_err_both c.move_to.result
@@ -71,7 +73,9 @@ returns-else-due-frame-clause-ok c =
     let some = sym (looked_up key dues) ∙ sym c.in-Some.ensures.value in
     let is = moved key (Some w) dues new ((c.get_mut.follows.holds w).3 (ap is_some (sym c.in-Some.ensures.value))).0 in
     on_ok_weaker c.move_to.result
-    (λ (same : w ≡ c.args.frame.due) q. is q ∙ ap (λ n. cond (key_eq key q) (Some n) (due_of dues q)) same ∙ moved_one (due_of dues) key c.in-Some.due.now c.args.frame.due some q)
+    (λ (same : w ≡ c.args.frame.due) q. is q
+    ∙ ap (λ n. cond (key_eq key q) (Some n) (due_of dues q)) same
+    ∙ moved_one (due_of dues) key c.in-Some.due.now c.args.frame.due some q)
     c.move_to.ensures.ok
 
 pub returns-in-None-clause-ok : goal.returns-in-None-clause-ok

@@ -16,13 +16,15 @@ drop_due-requires c =
     let old = c.args.moments.now.entries in
     let new = c.insert.new.self.entries in
     let s = Some c.in_ok-keys.keys in
-    shaped_moved p old new s (row_moved p s old new c.in_ok-insert.ensures.updates.0) c.insert.ensures.ordered c.in_ok-keys.ensures.rising c.requires.kept.shaped
+    shaped_moved p old new s (row_moved p s old new c.in_ok-insert.ensures.updates.0)
+    c.insert.ensures.ordered c.in_ok-keys.ensures.rising c.requires.kept.shaped
 
 pub returns-clause-ok : goal.returns-clause-ok
 returns-clause-ok c q =
     let now = c.args.now in
     let due = c.args.due in
-    ap (λ (es : List (OwedKey × ℕ)). due_of es q) c.renew_dues.ensures ∙ lookup-map_values (renewed_due now due) (key_eq q) c.args.dues.now.entries
+    ap (λ (es : List (OwedKey × ℕ)). due_of es q) c.renew_dues.ensures
+    ∙ lookup-map_values (renewed_due now due) (key_eq q) c.args.dues.now.entries
 
 pub returns-clause-kept : goal.returns-clause-kept
 returns-clause-kept c =
@@ -34,9 +36,11 @@ returns-clause-kept c =
     let new = c.insert.new.self.entries in
     let dues = c.args.dues.now.entries in
     let keys = c.in_ok-keys.keys in
-    keeps_at_once d old new c.drop_due.new.moments.entries (due_of dues) (due_of c.renew_dues.new.dues.entries) keys.keys now due c.requires.later c.requires.kept c.drop_due.ensures.shaped
+    keeps_at_once d old new c.drop_due.new.moments.entries (due_of dues) (due_of c.renew_dues.new.dues.entries)
+    keys.keys now due c.requires.later c.requires.kept c.drop_due.ensures.shaped
     (c.drop_due.ensures.filled (filled_moved p old new (Some keys) (row_moved p (Some keys) old new c.in_ok-insert.ensures.updates.0)
-    (some_due now due (due_of dues) (owed_in old d) (index_of d old (due_of dues) c.requires.kept) keys.keys c.requires.some c.in_ok-keys.ensures.keys) c.requires.kept.filled))
+    (some_due now due (due_of dues) (owed_in old d) (index_of d old (due_of dues) c.requires.kept)
+    keys.keys c.requires.some c.in_ok-keys.ensures.keys) c.requires.kept.filled))
     (held_moved p old new (Some keys) (row_moved p (Some keys) old new c.in_ok-insert.ensures.updates.0))
     c.drop_due.ensures.dropped
     (λ q. ap (λ (es : List (OwedKey × ℕ)). due_of es q) c.renew_dues.ensures ∙ lookup-map_values (renewed_due now due) (key_eq q) dues)

@@ -10,7 +10,14 @@ use Rattle.cast_timer.proofs.frames.renew_each.Goals as goal
 
 -- what stands past the end of the keys
 none : OwedKey
-none = record { kind = Ask; group = record { 0 = 0 }; proc = record { site = record { 0 = 0 }; serial = 0 }; count = 0; site = record { 0 = 0 }; side = Site }
+none = record {
+  kind = Ask;
+  group = record { 0 = 0 };
+  proc = record { site = record { 0 = 0 }; serial = 0 };
+  count = 0;
+  site = record { 0 = 0 };
+  side = Site;
+}
 
 pub loop-key-preserved : goal.loop-key-preserved
 unfolding none
@@ -20,7 +27,8 @@ loop-key-preserved c =
     let keys = c.args.keys.now in
     let i = c.loop-key.key-index in
     record {
-      kept = keeps_both c.args.domain c.args.moments.now.entries c.loop-key.moments.entries c.renew.new.moments.entries (due_of dues) (due_of new) c.loop-key.invariant.kept c.renew.ensures.kept;
+      kept = keeps_both c.args.domain c.args.moments.now.entries c.loop-key.moments.entries c.renew.new.moments.entries (due_of dues)
+          (due_of new) c.loop-key.invariant.kept c.renew.ensures.kept;
       moved = λ q.
           c.in_ok-renew.ensures.ok q
           ∙ ap (λ m. moved_to c.args.due (key_eq (get_or keys i none) q) m) (c.loop-key.invariant.moved q)

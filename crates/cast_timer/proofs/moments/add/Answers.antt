@@ -24,4 +24,5 @@ returns-in_ok-insert-in-Some-clause-ok c =
     let written = c.get_mut.follows.holds w in
     let at = sym c.in-Some.ensures.value in
     holds_with c.args.moment c.args.key c.args.moments.now.entries (c.get_mut.follows.lender w).entries
-    (changes_written c.args.moment c.args.moments.now.entries (c.get_mut.follows.lender w).entries c.in-Some.keys.now w c.args.key true at (written.3 (ap is_some at)).0 written.4 c.insert.ensures.ordered c.in_ok-insert-in-Some.ensures.updates.0)
+    (changes_written c.args.moment c.args.moments.now.entries (c.get_mut.follows.lender w).entries c.in-Some.keys.now w c.args.key true at
+    (written.3 (ap is_some at)).0 written.4 c.insert.ensures.ordered c.in_ok-insert-in-Some.ensures.updates.0)

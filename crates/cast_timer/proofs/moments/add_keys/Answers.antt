@@ -22,4 +22,5 @@ returns-in-None c =
     ∙ c.loop-key.invariant
     ∙ ap (λ (ks : List OwedKey). c.args.keys.now.items ++ ks)
     (c.into_iter-key-iterator.ensures.into_iter_gives.0
-    ∙ ap (λ (o : Option (BTreeSet OwedKey)). option_map_or (λ s. s.keys) o []) (c.in-Some.ensures.value ∙ looked_at c.args.moment.now c.args.moments.now.entries))
+    ∙ ap (λ (o : Option (BTreeSet OwedKey)). option_map_or (λ s. s.keys) o [])
+    (c.in-Some.ensures.value ∙ looked_at c.args.moment.now c.args.moments.now.entries))

@@ -31,7 +31,17 @@ returns-then-due-now c =
     let all = length (due_at c.args.now (owed_in rows d)) in
     let rest = ap (λ n. length (keys_between (n + 1) c.args.now (owed_in rows d))) c.if-due-now.true in
     let none = ap (λ (ks : List OwedKey). length ks) (past_now c.args.now (owed_in rows d)) in
-    sym (false_from_ne_true (nat_lt c.args.limit all) (λ lt. absurd (omega (arith, ltb-true c.args.limit all lt, counts, rest, none, c.loop-due.invariant.counted, c.count_at-count.ensures, c.if-left-count.false))))
+    sym (false_from_ne_true (nat_lt c.args.limit all) (λ lt. absurd (omega (
+      arith,
+      ltb-true c.args.limit all
+          lt,
+      counts,
+      rest,
+      none,
+      c.loop-due.invariant.counted,
+      c.count_at-count.ensures,
+      c.if-left-count.false,
+    ))))
 
 pub returns-in_default : goal.returns-in_default
 returns-in_default c =
@@ -39,4 +49,5 @@ returns-in_default c =
     let d = c.args.domain in
     let all = length (due_at c.args.now (owed_in rows d)) in
     let none = ap (λ (ks : List OwedKey). length ks) (none_due rows d c.requires c.loop-due.from c.args.now c.in_default.ensures.none) in
-    sym (false_from_ne_true (nat_lt c.args.limit all) (λ lt. absurd (omega (arith, ltb-true c.args.limit all lt, none, c.loop-due.invariant.counted))))
+    sym (false_from_ne_true (nat_lt c.args.limit all)
+    (λ lt. absurd (omega (arith, ltb-true c.args.limit all lt, none, c.loop-due.invariant.counted))))

@@ -8,7 +8,8 @@ use Rattle.cast_timer.proofs.moments.are_more_due.Given as goal
 abbrev pub invariant-loop-due : goal.invariant-loop-due
 invariant-loop-due l = record {
   within : l.from ≤ l.now;
-  counted : l.left + length (due_at l.now (owed_in l.moments.entries l.domain)) ≡ l.limit + length (keys_between l.from l.now (owed_in l.moments.entries l.domain));
+  counted : l.left + length (due_at l.now (owed_in l.moments.entries l.domain))
+      ≡ l.limit + length (keys_between l.from l.now (owed_in l.moments.entries l.domain));
 }
 
 abbrev pub decreases-loop-due : goal.decreases-loop-due

@@ -11,7 +11,8 @@ invariant-loop-due l = record {
   within : l.from ≤ l.now;
   shaped : IsShaped l.moments.entries;
   filled : IsFilled l.fn.moments.entries → IsFilled l.moments.entries;
-  held : (p : Moment) (k : OwedKey) → is_held l.moments.entries p k ≡ cond (is_past l.domain l.from p) false (is_held l.fn.moments.entries p k);
+  held : (p : Moment) (k : OwedKey) →
+      is_held l.moments.entries p k ≡ cond (is_past l.domain l.from p) false (is_held l.fn.moments.entries p k);
 }
 
 abbrev pub decreases-loop-due : goal.decreases-loop-due

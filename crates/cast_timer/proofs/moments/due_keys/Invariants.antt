@@ -8,7 +8,8 @@ use Rattle.cast_timer.proofs.moments.due_keys.Given as goal
 abbrev pub invariant-loop-due : goal.invariant-loop-due
 invariant-loop-due l = record {
   within : l.from ≤ l.now;
-  given : l.keys.items ++ keys_between l.from l.now (owed_in l.moments.entries l.domain) ≡ due_at l.now (owed_in l.moments.entries l.domain);
+  given : l.keys.items ++ keys_between l.from l.now (owed_in l.moments.entries l.domain)
+      ≡ due_at l.now (owed_in l.moments.entries l.domain);
 }
 
 abbrev pub decreases-loop-due : goal.decreases-loop-due

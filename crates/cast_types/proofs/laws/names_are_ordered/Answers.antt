@@ -1,4 +1,5 @@
-use Rattle.cast_types.proofs.Orders.{domain_total, domain_exact, site_total, site_exact, group_total, group_exact, proc_total, proc_exact, entry_total, entry_exact, uid_total, uid_exact}
+use Rattle.cast_types.proofs.Orders.{domain_total, domain_exact, site_total, site_exact, group_total, group_exact}
+use Rattle.cast_types.proofs.Orders.{proc_total, proc_exact, entry_total, entry_exact, uid_total, uid_exact}
 use Rattle.cast_types.proofs.laws.names_are_ordered.Goals as goal
 
 pub returns : goal.returns

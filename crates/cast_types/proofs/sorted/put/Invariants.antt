@@ -7,7 +7,8 @@ abbrev pub invariant-loop-at : goal.invariant-loop-at
 invariant-loop-at g l = record {
   same : l.entries.items ≡ l.fn.entries.items;
   in_range : l.at ≤ length l.entries.items;
-  behind : take l.at l.entries.items ++ put g.K.Ord.cmp l.key l.value (drop l.at l.entries.items) ≡ put g.K.Ord.cmp l.key l.value l.entries.items;
+  behind : take l.at l.entries.items ++ put g.K.Ord.cmp l.key l.value (drop l.at l.entries.items)
+      ≡ put g.K.Ord.cmp l.key l.value l.entries.items;
 }
 
 abbrev pub decreases-loop-at : goal.decreases-loop-at

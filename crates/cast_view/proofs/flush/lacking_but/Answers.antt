@@ -12,8 +12,10 @@ pub returns-in-Some : goal.returns-in-Some
 returns-in-Some c m phase is reckoned =
     let old : Lacking = c.in-Some.lacking in
     let new : Lacking = c.without.result in
-    let was : old.ids.items ≡ lacking_in old.group old.view old.members.items phase = subst (λ l. AreReckoned l phase) c.in-Some.is reckoned in
+    let was : old.ids.items ≡ lacking_in old.group old.view old.members.items phase =
+    subst (λ l. AreReckoned l phase) c.in-Some.is reckoned in
     c.without.ensures.ids
     ∙ (λ i. filter (λ e. not (uid_eq (sym is i) (uid_in old.group old.view e))) (was i))
     ∙ lacking_but old.group old.view m old.members.items phase
-    ∙ sym (λ i. lacking_in (c.without.ensures.group i) (c.without.ensures.view i) (c.without.ensures.members i).items (phase_with_body m phase))
+    ∙ sym
+    (λ i. lacking_in (c.without.ensures.group i) (c.without.ensures.view i) (c.without.ensures.members i).items (phase_with_body m phase))

@@ -25,7 +25,8 @@ returns-clause-fits c =
 
 pub invariant_of-self-2 : goal.invariant_of-self-2
 invariant_of-self-2 c =
-    rw c.in_ok-put_all.ensures.ok (is_time-put_all c.in_ok-news.news.items c.self.inside.clocks.items c.self.invariant c.in_ok-news.ensures.valid)
+    rw c.in_ok-put_all.ensures.ok
+    (is_time-put_all c.in_ok-news.news.items c.self.inside.clocks.items c.self.invariant c.in_ok-news.ensures.valid)
 
 pub returns-clause-ok : goal.returns-clause-ok
 returns-clause-ok c =

@@ -18,9 +18,12 @@ loop-place-preserved c =
     let adds = c.in_ok-judge.ensures.adds in
     let lt : c.loop-place.place < length offered = search rules in
     let at : m ≡ get_or offered c.loop-place.place m = search rules in
-    let below = ltb-true m.key.0 c.args.above (all_each (λ (o : Offered). nat_lt (key_of o) c.args.above) offered c.requires.above m (c.loop-place.place, lt, sym at)) in
+    let below =
+    ltb-true m.key.0 c.args.above
+    (all_each (λ (o : Offered). nat_lt (key_of o) c.args.above) offered c.requires.above m (c.loop-place.place, lt, sym at)) in
     record {
-      each = first_more c.args.gates.now c.args.row.now m.key old new adds offered c.loop-place.place m lt at c.in_ok-judge.ensures.known c.loop-place.invariant.each;
+      each = first_more c.args.gates.now c.args.row.now m.key old new adds offered c.loop-place.place m lt at c.in_ok-judge.ensures.known
+          c.loop-place.invariant.each;
       within = within_more m.key old new adds (omega (arith, below, c.loop-place.invariant.above)) c.loop-place.invariant.within;
       above = omega (arith, c.loop-place.invariant.above, adds.below);
       process = adds.process ∙ c.loop-place.invariant.process;
@@ -32,5 +35,6 @@ returns-clause-known c =
     let all : length offered ≤ c.loop-place.place = search rules in
     record {
       within = c.loop-place.invariant.within;
-      each = λ o there lt. c.loop-place.invariant.each o (subst (λ (xs : List Offered). Contains xs o) (sym (take_all c.loop-place.place offered all)) there);
+      each = λ o there lt. c.loop-place.invariant.each o
+          (subst (λ (xs : List Offered). Contains xs o) (sym (take_all c.loop-place.place offered all)) there);
     }

@@ -25,11 +25,13 @@ returns-in_ok-judge-clause-waking c =
     let mid : Looked = record old { filed = c.remove.new.self } in
     let m = c.in-Some.message.now in
     let under : offered_under c.args.offered.now c.args.key ≡ Some m = search rules in
-    waking_one c.args.gates.now c.args.row.now c.args.offered.now c.requires.rising c.args.id c.args.key old mid (λ k is. is) c.remove.ensures m c.judge.new.self under c.in_ok-judge.ensures.known c.in_ok-judge.ensures.adds
+    waking_one c.args.gates.now c.args.row.now c.args.offered.now c.requires.rising c.args.id c.args.key old mid (λ k is. is)
+    c.remove.ensures m c.judge.new.self under c.in_ok-judge.ensures.known c.in_ok-judge.ensures.adds
 
 pub returns-in_default-clause-waking : goal.returns-in_default-clause-waking
 returns-in_default-clause-waking c =
     let old = c.args.self.now in
     let mid : Looked = record old { filed = c.remove.new.self } in
     let none : offered_under c.args.offered.now c.args.key ≡ None = search rules in
-    waking_none c.args.gates.now c.args.row.now c.args.offered.now c.requires.rising c.args.id c.args.key old mid (λ k is. is) c.remove.ensures none
+    waking_none c.args.gates.now c.args.row.now c.args.offered.now c.requires.rising c.args.id c.args.key old mid (λ k is. is)
+    c.remove.ensures none

@@ -12,5 +12,7 @@ returns-clause-below c =
     let items = c.self.inside.messages.items in
     let rising : rises key_of items ≡ true = search rules in
     let within : c.partition_point.result ≤ length items = search rules in
-    let parted = IsPartitionPoint-from_clause (λ o. nat_lt (key_of o) c.args.number) items c.partition_point.result c.partition_point.ensures.partitioned (rising_parted c.args.number items rising) (λ a r f called. search rules) in
+    let parted =
+    IsPartitionPoint-from_clause (λ o. nat_lt (key_of o) c.args.number) items c.partition_point.result c.partition_point.ensures.partitioned
+    (rising_parted c.args.number items rising) (λ a r f called. search rules) in
     rw (← c.self.view_is) (below_first c.args.number items c.partition_point.result within parted)

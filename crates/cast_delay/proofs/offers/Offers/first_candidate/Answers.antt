@@ -8,5 +8,7 @@ use Rattle.cast_delay.proofs.offers.Offers.first_candidate.Goals as goal
 pub returns : goal.returns
 returns c =
     let rest = between_to_end c.self.inside.messages.items c.args.first (length c.self.inside.messages.items) (omega arith) in
-    let behind = first_behind (λ o. is_causally_ready_row c.args.gates.now c.args.row.now o.id o.times) c.self.inside.messages.items c.args.first (search rules) in
+    let behind =
+    first_behind (λ o. is_causally_ready_row c.args.gates.now c.args.row.now o.id o.times) c.self.inside.messages.items c.args.first
+    (search rules) in
     search (rules, rest, behind)

@@ -3,4 +3,5 @@ use Rattle.cast_delay.proofs.queue.Delay.admit.Goals as goal
 
 pub invariant_of-self : goal.invariant_of-self
 invariant_of-self c =
-    admit_passed c.self.inside.gates c.self.inside.rows c.admit.new.self c.args.process c.self.inside.offered c.self.inside.settled c.self.inside.waits c.admit.result c.admit.ensures.ok c.admit.ensures.err c.self.invariant
+    admit_passed c.self.inside.gates c.self.inside.rows c.admit.new.self c.args.process c.self.inside.offered c.self.inside.settled
+    c.self.inside.waits c.admit.result c.admit.ensures.ok c.admit.ensures.err c.self.invariant

@@ -6,4 +6,5 @@ pub returns-in-None-clause-meaning : goal.returns-in-None-clause-meaning
 returns-in-None-clause-meaning c = passed_is c.args.self.now c.args.process c.args.group c.args.view c.args.ids.now 0 (search rules)
 
 pub returns-in-Some-clause-meaning : goal.returns-in-Some-clause-meaning
-returns-in-Some-clause-meaning c = passed_is c.args.self.now c.args.process c.args.group c.args.view c.args.ids.now c.delivered_prefix.result (search rules)
+returns-in-Some-clause-meaning c =
+    passed_is c.args.self.now c.args.process c.args.group c.args.view c.args.ids.now c.delivered_prefix.result (search rules)

@@ -18,7 +18,8 @@ candidate_looked-requires-clause-rising c =
 pub candidate_looked-requires-clause-none : goal.candidate_looked-requires-clause-none
 candidate_looked-requires-clause-none c =
     let at : row_of c.self.inside.rows c.args.process ≡ Some c.in_ok-row.row.now = search rules in
-    none_settled_ready c.self.inside.gates c.self.inside.rows c.args.process c.in_ok-row.row.now at c.self.inside.offered c.self.inside.settled c.self.invariant.settled
+    none_settled_ready c.self.inside.gates c.self.inside.rows c.args.process c.in_ok-row.row.now at c.self.inside.offered
+    c.self.inside.settled c.self.invariant.settled
 
 pub candidate_looked-requires-clause-known : goal.candidate_looked-requires-clause-known
 candidate_looked-requires-clause-known c =
@@ -29,19 +30,26 @@ candidate_looked-requires-clause-known c =
 pub first_candidate-requires-clause-none : goal.first_candidate-requires-clause-none
 first_candidate-requires-clause-none c =
     let at : row_of c.self.inside.rows c.args.process ≡ Some c.in_ok-row.row.now = search rules in
-    none_settled_ready c.self.inside.gates c.self.inside.rows c.args.process c.in_ok-row.row.now at c.self.inside.offered c.self.inside.settled c.self.invariant.settled
+    none_settled_ready c.self.inside.gates c.self.inside.rows c.args.process c.in_ok-row.row.now at c.self.inside.offered
+    c.self.inside.settled c.self.invariant.settled
 
 -- the first candidate of the row is the one of the process
 looked_is : (c : goal.After-candidate_looked) → option_copied c.candidate_looked.result ≡ candidate_in c.args.self.now c.args.process
 looked_is c =
     let at : row_of c.self.inside.rows c.args.process ≡ Some c.in_ok-row.row.now = search rules in
-    let same = candidate_row (record { gates = c.self.inside.gates; offered = c.self.inside.offered; rows = c.self.inside.rows; reached = c.self.inside.reached }) c.args.process c.in_ok-row.row.now at in
+    let same =
+    candidate_row
+    (record { gates = c.self.inside.gates; offered = c.self.inside.offered; rows = c.self.inside.rows; reached = c.self.inside.reached })
+    c.args.process c.in_ok-row.row.now at in
     search (rules, same)
 
 first_is : (c : goal.After-first_candidate) → option_copied c.first_candidate.result ≡ candidate_in c.args.self.now c.args.process
 first_is c =
     let at : row_of c.self.inside.rows c.args.process ≡ Some c.in_ok-row.row.now = search rules in
-    let same = candidate_row (record { gates = c.self.inside.gates; offered = c.self.inside.offered; rows = c.self.inside.rows; reached = c.self.inside.reached }) c.args.process c.in_ok-row.row.now at in
+    let same =
+    candidate_row
+    (record { gates = c.self.inside.gates; offered = c.self.inside.offered; rows = c.self.inside.rows; reached = c.self.inside.reached })
+    c.args.process c.in_ok-row.row.now at in
     search (rules, same)
 
 pub returns-in-Some-clause-meaning : goal.returns-in-Some-clause-meaning

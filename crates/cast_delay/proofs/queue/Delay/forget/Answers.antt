@@ -6,4 +6,7 @@ pub invariant_of-self : goal.invariant_of-self
 invariant_of-self c =
     let d = c.self.inside in
     rw (c.forget-settled.ensures.first, c.forget-settled.ensures.items)
-    (record { settled = forget_settled d.gates d.rows d.offered c.args.key d.settled c.self.invariant.settled; looked = forget_looked d.gates d.rows d.offered c.args.key d.waits c.self.invariant.looked })
+    (record {
+      settled = forget_settled d.gates d.rows d.offered c.args.key d.settled c.self.invariant.settled;
+      looked = forget_looked d.gates d.rows d.offered c.args.key d.waits c.self.invariant.looked;
+    })

@@ -9,5 +9,6 @@ pub returns-clause-meaning : goal.returns-clause-meaning
 returns-clause-meaning c =
     let q = c.args.self.now in
     let own : counts_in c.args.group c.args.view c.self.inside.reached ≡ counts_in c.args.group c.args.view q.reached = search rules in
-    IfOk-weaker c.counts.result (λ counts. counts.items ≡ counts_in c.args.group c.args.view c.self.inside.reached) (λ counts. SaysReached q c.args.group c.args.view counts.items)
+    IfOk-weaker c.counts.result (λ counts. counts.items ≡ counts_in c.args.group c.args.view c.self.inside.reached)
+    (λ counts. SaysReached q c.args.group c.args.view counts.items)
     (λ counts is. reached_says q c.args.group c.args.view counts.items (is ∙ own)) c.counts.ensures

@@ -7,10 +7,14 @@ pub invariant_of-self : goal.invariant_of-self
 invariant_of-self c =
     let d = c.self.inside in
     rw c.forget.ensures
-    (record { settled = c.self.invariant.settled; looked = rest_looked d.gates d.rows d.offered d.waits c.args.process (λ q l apart is. c.self.invariant.looked q l is) })
+    (record {
+      settled = c.self.invariant.settled;
+      looked = rest_looked d.gates d.rows d.offered d.waits c.args.process (λ q l apart is. c.self.invariant.looked q l is);
+    })
 
 -- what need not be looked at is settled, or was looked at
 pub look-requires-clause-seen : goal.look-requires-clause-seen
 look-requires-clause-seen c =
     let d = c.self.inside in
-    unseen_seen d.gates d.rows d.offered d.settled d.waits c.args.process c.first_unseen_by-first.result c.self.invariant.settled c.first_unseen_by-first.ensures
+    unseen_seen d.gates d.rows d.offered d.settled d.waits c.args.process c.first_unseen_by-first.result c.self.invariant.settled
+    c.first_unseen_by-first.ensures

@@ -17,7 +17,8 @@ next_looked-requires-clause-rising c =
 pub next_looked-requires-clause-none : goal.next_looked-requires-clause-none
 next_looked-requires-clause-none c =
     let at : row_of c.self.inside.rows c.args.process ≡ Some c.in_ok-row.row.now = search rules in
-    none_settled_next c.self.inside.gates c.self.inside.rows c.args.process c.in_ok-row.row.now at c.args.turns.now c.self.inside.offered c.self.inside.settled c.self.invariant.settled
+    none_settled_next c.self.inside.gates c.self.inside.rows c.args.process c.in_ok-row.row.now at c.args.turns.now c.self.inside.offered
+    c.self.inside.settled c.self.invariant.settled
 
 pub next_looked-requires-clause-known : goal.next_looked-requires-clause-known
 next_looked-requires-clause-known c =
@@ -28,19 +29,26 @@ next_looked-requires-clause-known c =
 pub first_ready-requires-clause-none : goal.first_ready-requires-clause-none
 first_ready-requires-clause-none c =
     let at : row_of c.self.inside.rows c.args.process ≡ Some c.in_ok-row.row.now = search rules in
-    none_settled_next c.self.inside.gates c.self.inside.rows c.args.process c.in_ok-row.row.now at c.args.turns.now c.self.inside.offered c.self.inside.settled c.self.invariant.settled
+    none_settled_next c.self.inside.gates c.self.inside.rows c.args.process c.in_ok-row.row.now at c.args.turns.now c.self.inside.offered
+    c.self.inside.settled c.self.invariant.settled
 
 -- the first message that is ready for the row is the one for the process
 looked_is : (c : goal.After-next_looked) → c.next_looked.result ≡ next_key c.args.turns.now c.args.self.now c.args.process
 looked_is c =
     let at : row_of c.self.inside.rows c.args.process ≡ Some c.in_ok-row.row.now = search rules in
-    let same = next_row (record { gates = c.self.inside.gates; offered = c.self.inside.offered; rows = c.self.inside.rows; reached = c.self.inside.reached }) c.args.process c.in_ok-row.row.now at c.args.turns.now in
+    let same =
+    next_row
+    (record { gates = c.self.inside.gates; offered = c.self.inside.offered; rows = c.self.inside.rows; reached = c.self.inside.reached })
+    c.args.process c.in_ok-row.row.now at c.args.turns.now in
     search (rules, same)
 
 first_is : (c : goal.After-first_ready) → c.first_ready.result ≡ next_key c.args.turns.now c.args.self.now c.args.process
 first_is c =
     let at : row_of c.self.inside.rows c.args.process ≡ Some c.in_ok-row.row.now = search rules in
-    let same = next_row (record { gates = c.self.inside.gates; offered = c.self.inside.offered; rows = c.self.inside.rows; reached = c.self.inside.reached }) c.args.process c.in_ok-row.row.now at c.args.turns.now in
+    let same =
+    next_row
+    (record { gates = c.self.inside.gates; offered = c.self.inside.offered; rows = c.self.inside.rows; reached = c.self.inside.reached })
+    c.args.process c.in_ok-row.row.now at c.args.turns.now in
     search (rules, same)
 
 pub returns-in-Some-clause-meaning : goal.returns-in-Some-clause-meaning

@@ -13,4 +13,8 @@ invariant_of-self-2 c =
     let d = c.self.inside in
     let gate = (pending_gate c.args.cut.now (gate_in d.gates c.args.group)) in
     let gates : c.put.new.self ≡ put group_cmp c.args.group gate d.gates = search rules in
-    rw gates (record { settled = gate_settled d.gates c.args.group gate refl d.rows d.offered d.settled c.self.invariant.settled; looked = gate_looked d.gates c.args.group gate refl d.rows d.offered d.waits c.self.invariant.looked })
+    rw gates (record {
+      settled = gate_settled d.gates c.args.group gate refl d.rows d.offered d.settled
+          c.self.invariant.settled;
+      looked = gate_looked d.gates c.args.group gate refl d.rows d.offered d.waits c.self.invariant.looked;
+    })

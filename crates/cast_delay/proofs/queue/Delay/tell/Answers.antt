@@ -12,7 +12,8 @@ pub settled_from-self-inside-requires : goal.settled_from-self-inside-requires
 settled_from-self-inside-requires c =
     let rows : c.tell.new.self ≡ change_row c.args.process (told_row c.args.fact.now) c.self.inside.rows = search rules in
     let first : c.despite_fact-settled.result ≡ despite_fact c.args.fact.now c.self.inside.settled = search rules in
-    rw (rows, first) (tell_settled c.self.inside.gates c.self.inside.rows c.args.process c.args.fact.now c.self.inside.offered c.self.inside.settled c.self.invariant.settled)
+    rw (rows, first) (tell_settled c.self.inside.gates c.self.inside.rows c.args.process c.args.fact.now c.self.inside.offered
+    c.self.inside.settled c.self.invariant.settled)
 
 -- and what was looked at is known
 pub invariant_of-self-2 : goal.invariant_of-self-2

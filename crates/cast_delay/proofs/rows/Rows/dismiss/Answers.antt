@@ -11,8 +11,10 @@ pub invariant_of-self : goal.invariant_of-self
 invariant_of-self c =
     let same : c.deref.result.now ≡ c.dismiss_in.new.rows.items = search rules in (
       λ rising. (
-        ap rise c.dismiss_in.ensures ∙ rising_kept row_cmp (λ r. not (proc_eq r.process c.args.process)) c.self.inside.rows.items (c.self.invariant.0 rising).0,
-        ap (are_of c.self.inside.site) c.dismiss_in.ensures ∙ are_of_left c.self.inside.site (λ r. not (proc_eq r.process c.args.process)) c.self.inside.rows.items (c.self.invariant.0 rising).1,
+        ap rise c.dismiss_in.ensures
+            ∙ rising_kept row_cmp (λ r. not (proc_eq r.process c.args.process)) c.self.inside.rows.items (c.self.invariant.0 rising).0,
+        ap (are_of c.self.inside.site) c.dismiss_in.ensures ∙ are_of_left c.self.inside.site (λ r. not (proc_eq r.process c.args.process))
+            c.self.inside.rows.items (c.self.invariant.0 rising).1,
       ),
       λ kept. c.note_busy-self-inside.ensures kept ∙ ap (busy_places 0) same,
     )

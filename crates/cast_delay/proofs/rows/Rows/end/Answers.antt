@@ -11,7 +11,10 @@ invariant_of-self c =
     let rows = c.self.inside.rows.items in (
       λ rising. (
         ap rise c.end_in.ensures ∙ rise_each (ended_row c.args.group c.args.number) (λ r. refl) rows ∙ (c.self.invariant.0 rising).0,
-        ap (are_of c.self.inside.site) c.end_in.ensures ∙ are_of_each c.self.inside.site (ended_row c.args.group c.args.number) (λ r. refl) rows ∙ (c.self.invariant.0 rising).1,
+        ap (are_of c.self.inside.site) c.end_in.ensures
+            ∙ are_of_each c.self.inside.site (ended_row c.args.group c.args.number) (λ r. refl) rows
+            ∙ (c.self.invariant.0 rising).1,
       ),
-      λ kept. c.self.invariant.1 kept ∙ sym (ap (busy_places 0) c.end_in.ensures ∙ places_each (ended_row c.args.group c.args.number) (λ r. refl) 0 rows),
+      λ kept. c.self.invariant.1 kept
+          ∙ sym (ap (busy_places 0) c.end_in.ensures ∙ places_each (ended_row c.args.group c.args.number) (λ r. refl) 0 rows),
     )

@@ -13,10 +13,16 @@ pub invariant_of-self-2 : goal.invariant_of-self-2
 invariant_of-self-2 c =
     let rows = c.self.inside.rows.items in
     let told : c.match-told.self-inside.rows.items ≡ change_row c.args.process (told_row c.args.fact.now) rows = search rules in
-    let site : are_of c.match-told.self-inside.site c.match-told.self-inside.rows.items ≡ are_of c.self.inside.site c.match-told.self-inside.rows.items = search rules in (
+    let site : are_of c.match-told.self-inside.site c.match-told.self-inside.rows.items
+    ≡ are_of c.self.inside.site c.match-told.self-inside.rows.items = search rules in (
       λ rising. (
-        ap rise told ∙ rise_changed (told_row c.args.fact.now) (told_process c.args.fact.now) c.args.process rows ∙ (c.self.invariant.0 rising).0,
-        site ∙ ap (are_of c.self.inside.site) told ∙ are_of_changed c.self.inside.site (told_row c.args.fact.now) (told_process c.args.fact.now) c.args.process rows ∙ (c.self.invariant.0 rising).1,
+        ap rise told
+            ∙ rise_changed (told_row c.args.fact.now) (told_process c.args.fact.now) c.args.process rows
+            ∙ (c.self.invariant.0 rising).0,
+        site
+            ∙ ap (are_of c.self.inside.site) told
+            ∙ are_of_changed c.self.inside.site (told_row c.args.fact.now) (told_process c.args.fact.now) c.args.process rows
+            ∙ (c.self.invariant.0 rising).1,
       ),
       λ kept. elim c.match-told.branch [
         | in-Ok-Time w ↦

@@ -15,7 +15,8 @@ returns-in_default c =
     let offered = c.args.offered.now in
     let items = c.self.inside.looked.items in
     let p = c.args.process in
-    let todo : AreToWake gates rows offered p c.args.id c.args.key items = subst (λ ls. AreToWake gates rows offered p c.args.id c.args.key ls) (sym c.self.view_is) c.requires in
+    let todo : AreToWake gates rows offered p c.args.id c.args.key items =
+    subst (λ ls. AreToWake gates rows offered p c.args.id c.args.key ls) (sym c.self.view_is) c.requires in
     let none : position (λ (x : Looked). proc_eq x.process p) items ≡ None = search rules in
     rw (← c.self.view_is) (own_none gates rows offered p c.args.id c.args.key items todo (entry_none items p none))
 
@@ -27,7 +28,8 @@ returns-in_default-find c =
     let offered = c.args.offered.now in
     let items = c.self.inside.looked.items in
     let p = c.args.process in
-    let todo : AreToWake gates rows offered p c.args.id c.args.key items = subst (λ ls. AreToWake gates rows offered p c.args.id c.args.key ls) (sym c.self.view_is) c.requires in
+    let todo : AreToWake gates rows offered p c.args.id c.args.key items =
+    subst (λ ls. AreToWake gates rows offered p c.args.id c.args.key ls) (sym c.self.view_is) c.requires in
     let none : row_of rows p ≡ None = search rules in
     rw (← c.self.view_is) (row_none gates rows offered p c.args.id c.args.key items todo none)
 
@@ -38,7 +40,8 @@ wake-requires-clause-rising c =
     let offered = c.args.offered.now in
     let items = c.self.inside.looked.items in
     let p = c.args.process in
-    let todo : AreToWake gates rows offered p c.args.id c.args.key items = subst (λ ls. AreToWake gates rows offered p c.args.id c.args.key ls) (sym c.self.view_is) c.requires in
+    let todo : AreToWake gates rows offered p c.args.id c.args.key items =
+    subst (λ ls. AreToWake gates rows offered p c.args.id c.args.key ls) (sym c.self.view_is) c.requires in
     let l = c.index_mut-looked.result.now in
     let at : position (λ (x : Looked). proc_eq x.process p) items ≡ Some c.in-Some.place = search rules in
     let kept : looked_of items p ≡ Some l = entry_at items p c.in-Some.place at l ∙ ap Some (sym c.index_mut-looked.ensures.value) in
@@ -51,7 +54,8 @@ wake-requires-clause-within c =
     let offered = c.args.offered.now in
     let items = c.self.inside.looked.items in
     let p = c.args.process in
-    let todo : AreToWake gates rows offered p c.args.id c.args.key items = subst (λ ls. AreToWake gates rows offered p c.args.id c.args.key ls) (sym c.self.view_is) c.requires in
+    let todo : AreToWake gates rows offered p c.args.id c.args.key items =
+    subst (λ ls. AreToWake gates rows offered p c.args.id c.args.key ls) (sym c.self.view_is) c.requires in
     let row : row_of rows p ≡ Some c.in-Some-find.row.now = search rules in
     let l = c.index_mut-looked.result.now in
     let at : position (λ (x : Looked). proc_eq x.process p) items ≡ Some c.in-Some.place = search rules in
@@ -65,7 +69,8 @@ wake-requires-clause-waking c =
     let offered = c.args.offered.now in
     let items = c.self.inside.looked.items in
     let p = c.args.process in
-    let todo : AreToWake gates rows offered p c.args.id c.args.key items = subst (λ ls. AreToWake gates rows offered p c.args.id c.args.key ls) (sym c.self.view_is) c.requires in
+    let todo : AreToWake gates rows offered p c.args.id c.args.key items =
+    subst (λ ls. AreToWake gates rows offered p c.args.id c.args.key ls) (sym c.self.view_is) c.requires in
     let row : row_of rows p ≡ Some c.in-Some-find.row.now = search rules in
     let l = c.index_mut-looked.result.now in
     let at : position (λ (x : Looked). proc_eq x.process p) items ≡ Some c.in-Some.place = search rules in
@@ -79,7 +84,8 @@ wake-requires-clause-taken c =
     let offered = c.args.offered.now in
     let items = c.self.inside.looked.items in
     let p = c.args.process in
-    let todo : AreToWake gates rows offered p c.args.id c.args.key items = subst (λ ls. AreToWake gates rows offered p c.args.id c.args.key ls) (sym c.self.view_is) c.requires in
+    let todo : AreToWake gates rows offered p c.args.id c.args.key items =
+    subst (λ ls. AreToWake gates rows offered p c.args.id c.args.key ls) (sym c.self.view_is) c.requires in
     let row : row_of rows p ≡ Some c.in-Some-find.row.now = search rules in
     let l = c.index_mut-looked.result.now in
     let at : position (λ (x : Looked). proc_eq x.process p) items ≡ Some c.in-Some.place = search rules in
@@ -93,12 +99,15 @@ returns-then-not-wake c =
     let offered = c.args.offered.now in
     let items = c.self.inside.looked.items in
     let p = c.args.process in
-    let todo : AreToWake gates rows offered p c.args.id c.args.key items = subst (λ ls. AreToWake gates rows offered p c.args.id c.args.key ls) (sym c.self.view_is) c.requires in
+    let todo : AreToWake gates rows offered p c.args.id c.args.key items =
+    subst (λ ls. AreToWake gates rows offered p c.args.id c.args.key ls) (sym c.self.view_is) c.requires in
     let l = c.index_mut-looked.result.now in
     let v = c.wake.new.self in
     let at : position (λ (x : Looked). proc_eq x.process p) items ≡ Some c.in-Some.place = search rules in
-    let process : v.process ≡ p = c.wake.ensures.process ∙ ap (λ (x : Looked). x.process) c.index_mut-looked.ensures.value ∙ process_at items p c.in-Some.place at l in
-    rw c.forget.ensures (rest_looked gates rows offered (set items c.in-Some.place v) p (λ q m apart is. todo.others q m apart (sym (set_other items p c.in-Some.place at v process q apart) ∙ is)))
+    let process : v.process ≡ p =
+    c.wake.ensures.process ∙ ap (λ (x : Looked). x.process) c.index_mut-looked.ensures.value ∙ process_at items p c.in-Some.place at l in
+    rw c.forget.ensures (rest_looked gates rows offered (set items c.in-Some.place v)
+    p (λ q m apart is. todo.others q m apart (sym (set_other items p c.in-Some.place at v process q apart) ∙ is)))
 
 pub returns-else-not-wake : goal.returns-else-not-wake
 returns-else-not-wake c =
@@ -107,12 +116,15 @@ returns-else-not-wake c =
     let offered = c.args.offered.now in
     let items = c.self.inside.looked.items in
     let p = c.args.process in
-    let todo : AreToWake gates rows offered p c.args.id c.args.key items = subst (λ ls. AreToWake gates rows offered p c.args.id c.args.key ls) (sym c.self.view_is) c.requires in
+    let todo : AreToWake gates rows offered p c.args.id c.args.key items =
+    subst (λ ls. AreToWake gates rows offered p c.args.id c.args.key ls) (sym c.self.view_is) c.requires in
     let row : row_of rows p ≡ Some c.in-Some-find.row.now = search rules in
     let l = c.index_mut-looked.result.now in
     let at : position (λ (x : Looked). proc_eq x.process p) items ≡ Some c.in-Some.place = search rules in
     let kept : looked_of items p ≡ Some l = entry_at items p c.in-Some.place at l ∙ ap Some (sym c.index_mut-looked.ensures.value) in
     let v = c.wake.new.self in
-    let process : v.process ≡ p = c.wake.ensures.process ∙ ap (λ (x : Looked). x.process) c.index_mut-looked.ensures.value ∙ process_at items p c.in-Some.place at l in
+    let process : v.process ≡ p =
+    c.wake.ensures.process ∙ ap (λ (x : Looked). x.process) c.index_mut-looked.ensures.value ∙ process_at items p c.in-Some.place at l in
     let now : AreKnown gates c.in-Some-find.row.now offered v = search rules in
-    set_looked items p c.in-Some.place at v process gates rows offered todo.others (looked_row gates rows offered p c.in-Some-find.row.now v row (todo.own l kept).0 now)
+    set_looked items p c.in-Some.place at v process gates rows offered todo.others
+    (looked_row gates rows offered p c.in-Some-find.row.now v row (todo.own l kept).0 now)

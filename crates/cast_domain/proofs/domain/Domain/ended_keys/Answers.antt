@@ -16,7 +16,9 @@ loop-position-preserved c =
     let ended = c.loop-position.ended.items in
     elim c.if-is_ended.branch [
       | then-is_ended+in_ok-push w ↦
-          keys_found passes kept i r c.at.ensures ended c.loop-position.invariant c.if-is_ended.ended.items (ap (λ (v : Vec Key Global). v.items) w.ended-is ∙ w.in_ok-push.ensures.items) (sym w.if-is_ended.ensures)
+          keys_found passes kept i r c.at.ensures ended c.loop-position.invariant c.if-is_ended.ended.items
+          (ap (λ (v : Vec Key Global). v.items) w.ended-is ∙ w.in_ok-push.ensures.items) (sym w.if-is_ended.ensures)
       | else-is_ended w ↦
-          keys_more passes kept i r c.at.ensures ended c.loop-position.invariant c.if-is_ended.ended.items (ap (λ (v : Vec Key Global). v.items) w.ended-is) (sym w.if-is_ended.ensures)
+          keys_more passes kept i r c.at.ensures ended c.loop-position.invariant c.if-is_ended.ended.items
+          (ap (λ (v : Vec Key Global). v.items) w.ended-is) (sym w.if-is_ended.ensures)
     ]

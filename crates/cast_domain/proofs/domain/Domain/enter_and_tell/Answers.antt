@@ -20,12 +20,18 @@ returns-clause-made c cut =
     let members = c.args.members.now in
     let passed : Records = pass_in r i skips n members c.args.request in
     let made : records_in c.pass_to.new.self lent ≡ passed =
-    seen_as d c.pass_to.new.self c.in_ok-pass_to.ensures.same lent.shared.now lent.outs.now ∙ c.in_ok-pass_to.ensures.made lent.outs.now r.part in
+    seen_as d c.pass_to.new.self c.in_ok-pass_to.ensures.same lent.shared.now lent.outs.now
+    ∙ c.in_ok-pass_to.ensures.made lent.outs.now r.part in
     let name : c.record.result.now.name ≡ (record_at r.groups i).name = ap (λ (x : GroupRecord). x.name) c.record.ensures in
-    let later : c.record-2.result.now.name ≡ (record_at (records_in c.pass_to.new.self lent).groups i).name = ap (λ (x : GroupRecord). x.name) c.record-2.ensures in
-    let out : c.as_slice.result.now ≡ gone_in r i skips members = c.as_slice.ensures.value ∙ c.in_ok-out.ensures ∙ ap (λ g. filter (is_put_out_in g skips members r) (serials_in r)) name in
+    let later : c.record-2.result.now.name ≡ (record_at (records_in c.pass_to.new.self lent).groups i).name =
+    ap (λ (x : GroupRecord). x.name) c.record-2.ensures in
+    let out : c.as_slice.result.now ≡ gone_in r i skips members =
+    c.as_slice.ensures.value ∙ c.in_ok-out.ensures ∙ ap (λ g. filter (is_put_out_in g skips members r) (serials_in r)) name in
     let here : c.as_slice-2.result.now ≡ members_in passed i =
-    c.as_slice-2.ensures.value ∙ c.in_ok-here.ensures ∙ ap (λ g. filter (is_member_in (records_in c.pass_to.new.self lent) g) (serials_in (records_in c.pass_to.new.self lent))) later ∙ ap (λ x. members_in x i) made in
+    c.as_slice-2.ensures.value
+    ∙ c.in_ok-here.ensures
+    ∙ ap (λ g. filter (is_member_in (records_in c.pass_to.new.self lent) g) (serials_in (records_in c.pass_to.new.self lent))) later
+    ∙ ap (λ x. members_in x i) made in
     c.in_ok-tell_view.ensures.made
     ∙ ap (λ x. fold (tell_view records c.record.result.now.name n members) x c.as_slice-2.result.now) c.in_ok-tell_out.ensures.made
     ∙ (λ j. fold (tell_view records (name j) n members) (fold (tell_out records (name j) n) (made j) (out j)) (here j))

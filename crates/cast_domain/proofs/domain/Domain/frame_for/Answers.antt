@@ -11,4 +11,5 @@ returns-in-Some c =
     let key = c.args.key.now in
     IfOk-weaker c.frame_at_key.result _ _ (λ f made.
     let r = records_in c.args.self.now c.args.lent.now in
-    made ∙ ap (λ (p : Option ℕ). option_and_then (λ i. frame_of_kind records r i key key.kind) p) (sym c.in-Some.is ∙ c.place_of.ensures.place)) c.frame_at_key.ensures
+    made ∙ ap (λ (p : Option ℕ). option_and_then (λ i. frame_of_kind records r i key key.kind) p)
+    (sym c.in-Some.is ∙ c.place_of.ensures.place)) c.frame_at_key.ensures

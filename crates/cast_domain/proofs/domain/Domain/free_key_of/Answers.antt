@@ -16,4 +16,5 @@ returns-in_err-id-clause-none c =
 
 pub returns-else-is_free-clause-none : goal.returns-else-is_free-clause-none
 returns-else-is_free-clause-none c =
-    first_not_free c.args.source (records_in c.args.self.now c.args.lent.now) (c.in_ok-id.id, c.in_ok-id.key) c.in_ok-id.ensures.some (sym c.is_free.ensures ∙ c.if-is_free.false)
+    first_not_free c.args.source (records_in c.args.self.now c.args.lent.now) (c.in_ok-id.id, c.in_ok-id.key)
+    c.in_ok-id.ensures.some (sym c.is_free.ensures ∙ c.if-is_free.false)

@@ -10,5 +10,6 @@ abbrev pub invariant-loop-place : goal.invariant-loop-place
 invariant-loop-place l = record {
   stays : KeepsBeside l.fn.self l.fn.lent l.self l.lent;
   len : vec_len l.self.groups ≡ vec_len l.fn.self.groups;
-  left : fold (leave_each records l.serial) (records_in l.self l.lent) (range_with_len l.place (vec_len l.fn.self.groups - l.place)) ≡ leave_all records (records_in l.fn.self l.fn.lent) l.serial;
+  left : fold (leave_each records l.serial) (records_in l.self l.lent) (range_with_len l.place (vec_len l.fn.self.groups - l.place))
+      ≡ leave_all records (records_in l.fn.self l.fn.lent) l.serial;
 }

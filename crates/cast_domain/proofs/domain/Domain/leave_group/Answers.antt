@@ -25,8 +25,10 @@ returns-then-asked-clause-made c =
     let told : records_in c.tell.new.self lent ≡ note_outside_in r k g =
     seen_as d c.tell.new.self c.in_ok-tell.ensures.kept lent.shared.now lent.outs.now
     ∙ c.in_ok-tell.ensures.made lent.outs.now r.part ∙ ap (λ q. tell_in r q (fact.Standing g Outside)) p in
-    let asked : c.request_count-asked.result ≡ (record_at r.groups i).here.asked = c.request_count-asked.ensures ∙ ap (λ (x : GroupRecord). x.here.asked) c.record.ensures in
-    let last : ((record_at r.groups i).here.asked == MAX_NUMBER) ≡ true = eq-eqb (record_at r.groups i).here.asked MAX_NUMBER (sym asked ∙ c.if-asked.true) in
+    let asked : c.request_count-asked.result ≡ (record_at r.groups i).here.asked =
+    c.request_count-asked.ensures ∙ ap (λ (x : GroupRecord). x.here.asked) c.record.ensures in
+    let last : ((record_at r.groups i).here.asked == MAX_NUMBER) ≡ true =
+    eq-eqb (record_at r.groups i).here.asked MAX_NUMBER (sym asked ∙ c.if-asked.true) in
     told ∙ sym (ap (λ b. if b then note_outside_in r k g else request records (note_outside_in r k g) i change.Leave (local_in r k)) last)
 
 pub returns-clause-made : goal.returns-clause-made
@@ -41,8 +43,10 @@ returns-clause-made c =
     let told : records_in c.tell.new.self lent ≡ note_outside_in r k g =
     seen_as d c.tell.new.self c.in_ok-tell.ensures.kept lent.shared.now lent.outs.now
     ∙ c.in_ok-tell.ensures.made lent.outs.now r.part ∙ ap (λ q. tell_in r q (fact.Standing g Outside)) p in
-    let asked : c.request_count-asked.result ≡ (record_at r.groups i).here.asked = c.request_count-asked.ensures ∙ ap (λ (x : GroupRecord). x.here.asked) c.record.ensures in
-    let left : ((record_at r.groups i).here.asked == MAX_NUMBER) ≡ false = ne_eqb (record_at r.groups i).here.asked MAX_NUMBER (λ same. c.if-asked.false (asked ∙ same)) in
+    let asked : c.request_count-asked.result ≡ (record_at r.groups i).here.asked =
+    c.request_count-asked.ensures ∙ ap (λ (x : GroupRecord). x.here.asked) c.record.ensures in
+    let left : ((record_at r.groups i).here.asked == MAX_NUMBER) ≡ false =
+    ne_eqb (record_at r.groups i).here.asked MAX_NUMBER (λ same. c.if-asked.false (asked ∙ same)) in
     c.in_ok-request.ensures.made
     ∙ (λ j. request records (told j) i change.Leave (p j))
     ∙ sym (ap (λ b. if b then note_outside_in r k g else request records (note_outside_in r k g) i change.Leave (local_in r k)) left)

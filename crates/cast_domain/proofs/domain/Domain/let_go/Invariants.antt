@@ -9,7 +9,8 @@ use Rattle.cast_domain.proofs.domain.Domain.let_go.Given as goal
 abbrev pub invariant-loop-key : goal.invariant-loop-key
 invariant-loop-key l = record {
   stays : KeepsBeside l.fn.self l.fn.lent l.self l.lent;
-  left : release.let_go records resting_records (records_in l.self l.lent) ≡ release.let_go records resting_records (records_in l.fn.self l.fn.lent);
+  left : release.let_go records resting_records (records_in l.self l.lent)
+      ≡ release.let_go records resting_records (records_in l.fn.self l.fn.lent);
 }
 
 abbrev pub decreases-loop-key : goal.decreases-loop-key

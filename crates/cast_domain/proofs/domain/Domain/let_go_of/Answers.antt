@@ -18,7 +18,8 @@ loop-key-preserved c =
           ap (release.let_go records resting_records) c.release.ensures.made
           ∙ let_go_first r c.in-Some.key c.in-Some.ensures.some
           ∙ c.loop-key.invariant.left;
-      but = λ none. subst (AreNotFreeBut c.args.source) (sym c.release.ensures.made) (but_released c.args.source r c.in-Some.key (c.loop-key.invariant.but none));
+      but = λ none. subst (AreNotFreeBut c.args.source) (sym c.release.ensures.made)
+          (but_released c.args.source r c.in-Some.key (c.loop-key.invariant.but none));
     }
 
 pub returns-clause-made : goal.returns-clause-made

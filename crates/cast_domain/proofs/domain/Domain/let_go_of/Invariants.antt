@@ -10,7 +10,8 @@ use Rattle.cast_domain.proofs.domain.Domain.let_go_of.Given as goal
 abbrev pub invariant-loop-key : goal.invariant-loop-key
 invariant-loop-key l = record {
   stays : KeepsBeside l.fn.self l.fn.lent l.self l.lent;
-  left : release.let_go records resting_records (records_in l.self l.lent) ≡ release.let_go records resting_records (records_in l.fn.self l.fn.lent);
+  left : release.let_go records resting_records (records_in l.self l.lent)
+      ≡ release.let_go records resting_records (records_in l.fn.self l.fn.lent);
   but : AreNotFreeBut l.fn.source (records_in l.fn.self l.fn.lent) → AreNotFreeBut l.fn.source (records_in l.self l.lent);
 }
 

@@ -15,7 +15,8 @@ returns-clause-begins c rising =
     let here = c.args.site in
     let config = c.args.config in
     let s = opening here config in
-    let all : take c.loop-group.group-index c.as_slice-group-items.result.now ≡ c.as_slice-group-items.result.now = take_all _ _ (omega arith) in
+    let all : take c.loop-group.group-index c.as_slice-group-items.result.now ≡ c.as_slice-group-items.result.now =
+    take_all _ _ (omega arith) in
     let groups : c.loop-group.groups.items ≡ map (record_for s) config.groups =
     c.loop-group.invariant ∙ ap (map (record_for s)) (all ∙ c.as_slice-group-items.ensures) in
     let stands = subst (λ (r : Records). Fits r (before_event s) × AreDismissed r × AreNotFree r) (sym (λ j. record {

@@ -13,15 +13,20 @@ returns-in_ok-hand_over-clause-made c o part =
     let r = records_of d part o in
     let u = c.args.id in
     let q = c.args.places.now in
-    let last : c.saturating_sub-last.result ≡ q.first + length q.ids - 1 = c.saturating_sub-last.ensures ∙ (λ j. c.first.ensures.value j + length (c.ids.ensures.value j) - 1) in
+    let last : c.saturating_sub-last.result ≡ q.first + length q.ids - 1 =
+    c.saturating_sub-last.ensures ∙ (λ j. c.first.ensures.value j + length (c.ids.ensures.value j) - 1) in
     let settled : c.stable_count-settled.result ≡ settled_in r u.group u.view u.proc = c.stable_count-settled.ensures o part in
     let over : is_some q.holder ≡ true = ap is_some (sym c.holder.ensures.value) ∙ sym c.is_some.ensures ∙ c.if-is_some.true in
-    let sent : c.hand_over.new.self ≡ change_log u.group (with_hand u.proc (sent_hand u.count (settled_in r u.group u.view u.proc) q)) d.orders =
+    let sent : c.hand_over.new.self
+    ≡ change_log u.group (with_hand u.proc (sent_hand u.count (settled_in r u.group u.view u.proc) q)) d.orders =
     c.in_ok-hand_over.ensures
     ∙ ap (change_log u.group (with_hand u.proc hand_over)) c.in_ok-note.ensures
-    ∙ logs_twice u.group u.proc hand_over (note_order_sent u.count c.saturating_sub-last.result c.stable_count-settled.result) (λ h. refl) d.orders
+    ∙ logs_twice u.group u.proc hand_over (note_order_sent u.count c.saturating_sub-last.result c.stable_count-settled.result)
+    (λ h. refl) d.orders
     ∙ (λ j. change_log u.group (with_hand u.proc (λ h. hand_over (note_order_sent u.count (last j) (settled j) h))) d.orders)
-    ∙ sym (ap (λ b. change_log u.group (with_hand u.proc (λ h. if b then hand_over (note_order_sent u.count (q.first + length q.ids - 1) (settled_in r u.group u.view u.proc) h) else note_order_sent u.count (q.first + length q.ids - 1) (settled_in r u.group u.view u.proc) h)) d.orders) over) in
+    ∙ sym (ap (λ b. change_log u.group (with_hand u.proc
+    (λ h. if b then hand_over (note_order_sent u.count (q.first + length q.ids - 1) (settled_in r u.group u.view u.proc) h)
+    else note_order_sent u.count (q.first + length q.ids - 1) (settled_in r u.group u.view u.proc) h)) d.orders) over) in
     λ j. record r { orders = sent j }
 
 pub returns-else-is_some-clause-made : goal.returns-else-is_some-clause-made
@@ -30,11 +35,14 @@ returns-else-is_some-clause-made c o part =
     let r = records_of d part o in
     let u = c.args.id in
     let q = c.args.places.now in
-    let last : c.saturating_sub-last.result ≡ q.first + length q.ids - 1 = c.saturating_sub-last.ensures ∙ (λ j. c.first.ensures.value j + length (c.ids.ensures.value j) - 1) in
+    let last : c.saturating_sub-last.result ≡ q.first + length q.ids - 1 =
+    c.saturating_sub-last.ensures ∙ (λ j. c.first.ensures.value j + length (c.ids.ensures.value j) - 1) in
     let settled : c.stable_count-settled.result ≡ settled_in r u.group u.view u.proc = c.stable_count-settled.ensures o part in
     let plain : is_some q.holder ≡ false = ap is_some (sym c.holder.ensures.value) ∙ sym c.is_some.ensures ∙ c.if-is_some.false in
     let sent : c.note.new.self ≡ change_log u.group (with_hand u.proc (sent_hand u.count (settled_in r u.group u.view u.proc) q)) d.orders =
     c.in_ok-note.ensures
     ∙ (λ j. change_log u.group (with_hand u.proc (note_order_sent u.count (last j) (settled j))) d.orders)
-    ∙ sym (ap (λ b. change_log u.group (with_hand u.proc (λ h. if b then hand_over (note_order_sent u.count (q.first + length q.ids - 1) (settled_in r u.group u.view u.proc) h) else note_order_sent u.count (q.first + length q.ids - 1) (settled_in r u.group u.view u.proc) h)) d.orders) plain) in
+    ∙ sym (ap (λ b. change_log u.group (with_hand u.proc
+    (λ h. if b then hand_over (note_order_sent u.count (q.first + length q.ids - 1) (settled_in r u.group u.view u.proc) h)
+    else note_order_sent u.count (q.first + length q.ids - 1) (settled_in r u.group u.view u.proc) h)) d.orders) plain) in
     λ j. record r { orders = sent j }

@@ -10,21 +10,25 @@ pub begin_view-requires : goal.begin_view-requires
 begin_view-requires c =
     let r = records_of c.args.self.now no_part no_outs in
     let same : length c.put_out_all.new.self.groups.items ≡ length r.groups =
-    ap (λ x. length x.groups) (c.in_ok-put_out_all.ensures.made no_outs no_part) ∙ ap length (put_out_all_groups c.record.result.now.name c.args.skips c.args.members.now r) in
+    ap (λ x. length x.groups) (c.in_ok-put_out_all.ensures.made no_outs no_part)
+    ∙ ap length (put_out_all_groups c.record.result.now.name c.args.skips c.args.members.now r) in
     omega arith
 
 pub returns-clause-made : goal.returns-clause-made
 returns-clause-made c o part =
     let r = records_of c.args.self.now part o in
-    let out = c.in_ok-put_out_all.ensures.made o part ∙ ap (λ x. put_out_all_in x.name c.args.skips c.args.members.now r) c.record.ensures in
+    let out =
+    c.in_ok-put_out_all.ensures.made o part ∙ ap (λ x. put_out_all_in x.name c.args.skips c.args.members.now r) c.record.ensures in
     c.in_ok-begin_view.ensures.made o part ∙ ap (λ x. begin_view_in x c.args.place c.args.view c.args.members.now c.args.request) out
 
 pub returns-clause-len : goal.returns-clause-len
 returns-clause-len c =
     let r = records_of c.args.self.now no_part no_outs in
-    let out = c.in_ok-put_out_all.ensures.made no_outs no_part ∙ ap (λ x. put_out_all_in x.name c.args.skips c.args.members.now r) c.record.ensures in
+    let out =
+    c.in_ok-put_out_all.ensures.made no_outs no_part ∙ ap (λ x. put_out_all_in x.name c.args.skips c.args.members.now r) c.record.ensures in
     let same : length c.begin_view.new.self.groups.items ≡ length r.groups =
     ap (λ x. length x.groups)
-    (c.in_ok-begin_view.ensures.made no_outs no_part ∙ ap (λ x. begin_view_in x c.args.place c.args.view c.args.members.now c.args.request) out)
+    (c.in_ok-begin_view.ensures.made no_outs no_part
+    ∙ ap (λ x. begin_view_in x c.args.place c.args.view c.args.members.now c.args.request) out)
     ∙ pass_length r c.args.place c.args.skips c.args.view c.args.members.now c.args.request in
     omega arith

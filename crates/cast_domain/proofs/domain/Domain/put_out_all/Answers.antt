@@ -24,11 +24,13 @@ loop-place-preserved c =
             remain = λ o part.
                 let first = records_of c.args.self.now part o in
                 subst (RemainAs first) (sym (w.in_ok-put_out_if.ensures.made o part))
-                (remain_put_out first.site (names_of first.delay.rows) (gone_of first) g skips members (records_of c.loop-place.self part o) (c.loop-place.invariant.remain o part) p.serial);
+                (remain_put_out first.site (names_of first.delay.rows) (gone_of first) g skips members (records_of c.loop-place.self part o)
+                (c.loop-place.invariant.remain o part) p.serial);
             left = λ o part.
                 let first = records_of c.args.self.now part o in
                 ap (λ x. fold (put_out_if_in g skips members) x (drop (i + 1) (serials_in first))) (w.in_ok-put_out_if.ensures.made o part)
-                ∙ round_next (put_out_if_in g skips members) first (records_of c.loop-place.self part o) (c.loop-place.invariant.remain o part) i p (sym w.in-Some.ensures)
+                ∙ round_next (put_out_if_in g skips members) first (records_of c.loop-place.self part o)
+                (c.loop-place.invariant.remain o part) i p (sym w.in-Some.ensures)
                 ∙ c.loop-place.invariant.left o part;
           })
       | in_default w ↦
@@ -36,7 +38,8 @@ loop-place-preserved c =
             same = c.loop-place.invariant.same;
             remain = c.loop-place.invariant.remain;
             left = λ o part.
-                round_past (put_out_if_in g skips members) (records_of c.args.self.now part o) (records_of c.loop-place.self part o) (c.loop-place.invariant.remain o part) i (sym w.in_default.ensures)
+                round_past (put_out_if_in g skips members) (records_of c.args.self.now part o) (records_of c.loop-place.self part o)
+                (c.loop-place.invariant.remain o part) i (sym w.in_default.ensures)
                 ∙ c.loop-place.invariant.left o part;
           })
     ]

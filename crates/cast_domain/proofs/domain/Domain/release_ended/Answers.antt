@@ -20,5 +20,6 @@ loop-key-preserved c =
 
 pub returns-clause-made : goal.returns-clause-made
 returns-clause-made c =
-    sym (ap (fold release_in (records_in c.loop-key.self c.loop-key.lent)) (drop_all c.loop-key.key-index c.as_slice-key-items.result.now c.loop-key-test.false))
+    sym (ap (fold release_in (records_in c.loop-key.self c.loop-key.lent))
+    (drop_all c.loop-key.key-index c.as_slice-key-items.result.now c.loop-key-test.false))
     ∙ c.loop-key.invariant.left

@@ -9,5 +9,6 @@ use Rattle.cast_domain.proofs.domain.Domain.send_data.Given as goal
 abbrev pub invariant-loop-site : goal.invariant-loop-site
 invariant-loop-site l = record {
   back : GivesBack l.self.config.domain l.fn.lent l.lent;
-  left : fold (send_data records l.id) (records_in l.self l.lent) (drop l.site-index l.sites) ≡ fold (send_data records l.id) (records_in l.self l.fn.lent) l.sites;
+  left : fold (send_data records l.id) (records_in l.self l.lent) (drop l.site-index l.sites)
+      ≡ fold (send_data records l.id) (records_in l.self l.fn.lent) l.sites;
 }

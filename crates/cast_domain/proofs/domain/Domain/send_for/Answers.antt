@@ -11,7 +11,8 @@ returns-in-Some-clause-made c =
     let r = records_in c.args.self.now c.args.lent.now in
     on_ok_weaker c.send.result (λ made.
     made r.part
-    ∙ ap (λ (f : Option SiteFrame). option_map_or (send_in r c.args.key.now.site) f r) (sym c.in-Some.is ∙ c.in_ok-frame.ensures)) c.send.ensures
+    ∙ ap (λ (f : Option SiteFrame). option_map_or (send_in r c.args.key.now.site) f r) (sym c.in-Some.is ∙ c.in_ok-frame.ensures))
+    c.send.ensures
 
 pub returns-in-None-clause-made : goal.returns-in-None-clause-made
 returns-in-None-clause-made c =

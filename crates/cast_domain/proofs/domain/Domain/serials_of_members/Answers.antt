@@ -15,7 +15,8 @@ loop-place-preserved c =
     let i = c.loop-place.place in
     elim c.match-process_at.branch [
       | in-Some+in_ok-add_member w ↦
-          rw w.here-is (ap (λ ks. ks ++ filter test (drop (i + 1) (serials_in (records_of c.args.self.now no_part no_outs)))) w.in_ok-add_member.ensures
+          rw w.here-is
+          (ap (λ ks. ks ++ filter test (drop (i + 1) (serials_in (records_of c.args.self.now no_part no_outs)))) w.in_ok-add_member.ensures
           ∙ gather_next test rows i w.in-Some.process c.loop-place.here.items (sym w.in-Some.ensures)
           ∙ c.loop-place.invariant)
       | in_default w ↦
@@ -24,5 +25,6 @@ loop-place-preserved c =
 
 pub returns : goal.returns
 returns c =
-    gather_end (is_member_in (records_of c.args.self.now no_part no_outs) c.args.group) c.args.self.now.delay.rows c.loop-place.place c.loop-place.here.items (omega arith)
+    gather_end (is_member_in (records_of c.args.self.now no_part no_outs) c.args.group)
+    c.args.self.now.delay.rows c.loop-place.place c.loop-place.here.items (omega arith)
     ∙ c.loop-place.invariant

@@ -9,5 +9,6 @@ use Rattle.cast_domain.proofs.domain.Domain.serials_of_members.Given as goal
 -- those so far with those that are left are all
 abbrev pub invariant-loop-place : goal.invariant-loop-place
 invariant-loop-place l =
-    l.here.items ++ filter (is_member_in (records_of l.fn.self no_part no_outs) l.group) (drop l.place (serials_in (records_of l.fn.self no_part no_outs)))
+    l.here.items ++ filter (is_member_in (records_of l.fn.self no_part no_outs) l.group)
+    (drop l.place (serials_in (records_of l.fn.self no_part no_outs)))
     ≡ filter (is_member_in (records_of l.fn.self no_part no_outs) l.group) (serials_in (records_of l.fn.self no_part no_outs))

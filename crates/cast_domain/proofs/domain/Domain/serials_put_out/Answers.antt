@@ -15,7 +15,8 @@ loop-place-preserved c =
     let i = c.loop-place.place in
     elim c.match-process_at.branch [
       | in-Some+in_ok-add_put_out w ↦
-          rw w.out-is (ap (λ ks. ks ++ filter test (drop (i + 1) (serials_in (records_of c.args.self.now no_part no_outs)))) w.in_ok-add_put_out.ensures
+          rw w.out-is
+          (ap (λ ks. ks ++ filter test (drop (i + 1) (serials_in (records_of c.args.self.now no_part no_outs)))) w.in_ok-add_put_out.ensures
           ∙ gather_next test rows i w.in-Some.process c.loop-place.out.items (sym w.in-Some.ensures)
           ∙ c.loop-place.invariant)
       | in_default w ↦
@@ -24,5 +25,6 @@ loop-place-preserved c =
 
 pub returns : goal.returns
 returns c =
-    gather_end (is_put_out_in c.args.group c.args.skips c.args.members.now (records_of c.args.self.now no_part no_outs)) c.args.self.now.delay.rows c.loop-place.place c.loop-place.out.items (omega arith)
+    gather_end (is_put_out_in c.args.group c.args.skips c.args.members.now (records_of c.args.self.now no_part no_outs))
+    c.args.self.now.delay.rows c.loop-place.place c.loop-place.out.items (omega arith)
     ∙ c.loop-place.invariant

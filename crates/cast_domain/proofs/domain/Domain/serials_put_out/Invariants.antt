@@ -9,5 +9,7 @@ use Rattle.cast_domain.proofs.domain.Domain.serials_put_out.Given as goal
 -- those so far with those that are left are all
 abbrev pub invariant-loop-place : goal.invariant-loop-place
 invariant-loop-place l =
-    l.out.items ++ filter (is_put_out_in l.group l.skips l.members (records_of l.fn.self no_part no_outs)) (drop l.place (serials_in (records_of l.fn.self no_part no_outs)))
-    ≡ filter (is_put_out_in l.group l.skips l.members (records_of l.fn.self no_part no_outs)) (serials_in (records_of l.fn.self no_part no_outs))
+    l.out.items ++ filter (is_put_out_in l.group l.skips l.members (records_of l.fn.self no_part no_outs))
+    (drop l.place (serials_in (records_of l.fn.self no_part no_outs)))
+    ≡ filter (is_put_out_in l.group l.skips l.members (records_of l.fn.self no_part no_outs))
+    (serials_in (records_of l.fn.self no_part no_outs))

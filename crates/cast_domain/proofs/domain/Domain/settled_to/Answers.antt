@@ -13,4 +13,5 @@ returns c =
     let x = c.args.kept.now in
     let p = c.args.process in
     c.settled_places.ensures
-    ∙ ap (λ n. settled_by n (hand_here (log_of d.orders x.name) p)) (c.stable_count-stable.ensures no_outs no_part ∙ ap (λ v. settled_in (records_of d no_part no_outs) x.name v p) c.number.ensures)
+    ∙ ap (λ n. settled_by n (hand_here (log_of d.orders x.name) p))
+    (c.stable_count-stable.ensures no_outs no_part ∙ ap (λ v. settled_in (records_of d no_part no_outs) x.name v p) c.number.ensures)

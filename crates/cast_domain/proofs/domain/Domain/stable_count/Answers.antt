@@ -16,13 +16,15 @@ pub returns-then-is_empty : goal.returns-then-is_empty
 returns-then-is_empty c o part =
     let q = c.args.self.now.acks in
     let g = c.args.group in
-    let alone : is_empty (others_in q g) ≡ true = ap is_empty (sym c.others.ensures) ∙ sym (none_is c.others.result.now) ∙ sym c.is_empty.ensures ∙ c.if-is_empty.true in
+    let alone : is_empty (others_in q g) ≡ true =
+    ap is_empty (sym c.others.ensures) ∙ sym (none_is c.others.result.now) ∙ sym c.is_empty.ensures ∙ c.if-is_empty.true in
     sym (ap (λ b. if b then MAX_NUMBER else upto_in q (uid_in g c.args.view (c.args.process, 0))) alone)
 
 pub returns : goal.returns
 returns c o part =
     let q = c.args.self.now.acks in
     let g = c.args.group in
-    let others : is_empty (others_in q g) ≡ false = ap is_empty (sym c.others.ensures) ∙ sym (none_is c.others.result.now) ∙ sym c.is_empty.ensures ∙ c.if-is_empty.false in
+    let others : is_empty (others_in q g) ≡ false =
+    ap is_empty (sym c.others.ensures) ∙ sym (none_is c.others.result.now) ∙ sym c.is_empty.ensures ∙ c.if-is_empty.false in
     c.stable_upto.ensures.value
     ∙ sym (ap (λ b. if b then MAX_NUMBER else upto_in q (uid_in g c.args.view (c.args.process, 0))) others)

@@ -22,15 +22,23 @@ returns-clause-made c =
     let members = c.args.members.now in
     let within : i < length r.groups = omega arith in
     let name : c.record.result.now.name ≡ (record_at r.groups i).name = ap (λ x. x.name) c.record.ensures in
-    let there : record_at c.view_at.new.groups.items i ≡ record (record_at r.groups i) { here = with_view r.site n members (record_at r.groups i).here } =
-    ap (λ xs. record_at xs i) c.in_ok-view_at.ensures.items ∙ record_at_update (λ x. record x { here = with_view r.site n members x.here }) r.groups i within in
+    let there : record_at c.view_at.new.groups.items i
+    ≡ record (record_at r.groups i) { here = with_view r.site n members (record_at r.groups i).here } =
+    ap (λ xs. record_at xs i) c.in_ok-view_at.ensures.items
+    ∙ record_at_update (λ x. record x { here = with_view r.site n members x.here }) r.groups i within in
     let others : c.in_ok-others.others ≡ other_sites r.site (members_of (with_view r.site n members (record_at r.groups i).here)) =
     c.in_ok-others.ensures ∙ ap (other_sites r.site) (c.members.ensures.value ∙ ap (λ x. members_of x.here) (c.record-2.ensures ∙ there)) in
-    let mid : Records = record r { groups = c.view_at.new.groups.items; delay = c.note_view.new.self; acks = c.tell.new.self; orders = c.forget.new.self } in
+    let mid : Records = record r {
+      groups = c.view_at.new.groups.items;
+      delay = c.note_view.new.self;
+      acks = c.tell.new.self;
+      orders = c.forget.new.self;
+    } in
     let before : mid ≡ (record r {
       groups = update r.groups i (λ x. record x { here = with_view r.site n members x.here });
       delay = queue_viewing (record_at r.groups i).name n r.delay;
-      acks = told_ledger r.acks (record_at r.groups i).name n (other_sites r.site (members_of (with_view r.site n members (record_at r.groups i).here)));
+      acks = told_ledger r.acks (record_at r.groups i).name n
+          (other_sites r.site (members_of (with_view r.site n members (record_at r.groups i).here)));
       orders = but_log (record_at r.groups i).name r.orders;
     }) =
     (λ j. record r {

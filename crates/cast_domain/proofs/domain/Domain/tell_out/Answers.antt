@@ -22,5 +22,6 @@ loop-serial-preserved c =
 
 pub returns-clause-made : goal.returns-clause-made
 returns-clause-made c =
-    sym (ap (fold (tell_out records c.args.group c.args.view) (records_in c.loop-serial.self c.loop-serial.lent)) (drop_all c.loop-serial.serial-index c.args.serials.now c.loop-serial-test.false))
+    sym (ap (fold (tell_out records c.args.group c.args.view) (records_in c.loop-serial.self c.loop-serial.lent))
+    (drop_all c.loop-serial.serial-index c.args.serials.now c.loop-serial-test.false))
     ∙ c.loop-serial.invariant.left

@@ -10,5 +10,6 @@ abbrev pub invariant-loop-serial : goal.invariant-loop-serial
 invariant-loop-serial l = record {
   stays : KeepsBeside l.fn.self l.fn.lent l.self l.lent;
   len : vec_len l.self.groups ≡ vec_len l.fn.self.groups;
-  left : fold (tell_out records l.group l.view) (records_in l.self l.lent) (drop l.serial-index l.serials) ≡ fold (tell_out records l.group l.view) (records_in l.fn.self l.fn.lent) l.serials;
+  left : fold (tell_out records l.group l.view) (records_in l.self l.lent) (drop l.serial-index l.serials)
+      ≡ fold (tell_out records l.group l.view) (records_in l.fn.self l.fn.lent) l.serials;
 }

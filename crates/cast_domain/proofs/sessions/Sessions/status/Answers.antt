@@ -10,10 +10,12 @@ pub returns-in-Some : goal.returns-in-Some
 returns-in-Some c =
     let statuses = c.self.inside.statuses.entries in
     let found : lookup (λ j. c.args.serial == j) statuses ≡ Some c.in-Some.status.now = search rules in
-    rw (← c.self.view_is) (sym (status_found c.args.serial statuses ∙ ap (λ (o : Option Status). option_map_or (λ (s : Status). s) o Gone) found))
+    rw (← c.self.view_is)
+    (sym (status_found c.args.serial statuses ∙ ap (λ (o : Option Status). option_map_or (λ (s : Status). s) o Gone) found))
 
 pub returns-in-None : goal.returns-in-None
 returns-in-None c =
     let statuses = c.self.inside.statuses.entries in
     let found : lookup (λ j. c.args.serial == j) statuses ≡ None = search rules in
-    rw (← c.self.view_is) (sym (status_found c.args.serial statuses ∙ ap (λ (o : Option Status). option_map_or (λ (s : Status). s) o Gone) found))
+    rw (← c.self.view_is)
+    (sym (status_found c.args.serial statuses ∙ ap (λ (o : Option Status). option_map_or (λ (s : Status). s) o Gone) found))

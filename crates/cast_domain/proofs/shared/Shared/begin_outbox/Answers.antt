@@ -22,7 +22,9 @@ returns-clause-part c = λ i. record {
   kept = kept_in c.args.self.now.store c.args.domain;
   next = next_in c.args.self.now.store c.args.domain;
   owed = owed_in c.args.self.now.timers c.args.domain;
-  outboxes = (c.in_ok-push.ensures.ok ∙ box_begun (outboxes_in c.args.self.now.outboxes c.args.domain) c.args.serial (push.Closed Slow) c.args.entry (outboxes_in c.open.new.self c.args.domain) c.in_ok-open.ensures.ok) i;
+  outboxes =
+      (c.in_ok-push.ensures.ok ∙ box_begun (outboxes_in c.args.self.now.outboxes c.args.domain) c.args.serial (push.Closed Slow)
+      c.args.entry (outboxes_in c.open.new.self c.args.domain) c.in_ok-open.ensures.ok) i;
 }
 
 pub returns-clause-others : goal.returns-clause-others

@@ -13,4 +13,5 @@ first_there [] some = absurd (some refl)
 first_there (e ∷ es) some = (e.id, record { 0 = e.number }, is_among e es)
 
 pub returns-clause-some : goal.returns-clause-some
-returns-clause-some c some = rw (← c.self.view_is) (first_there c.self.inside.entries.keys (λ none. true≢false (sym (c.is_empty.ensures.1 none) ∙ some)))
+returns-clause-some c some =
+    rw (← c.self.view_is) (first_there c.self.inside.entries.keys (λ none. true≢false (sym (c.is_empty.ensures.1 none) ∙ some)))

@@ -24,8 +24,10 @@ returns-clause-some c =
     let id = c.args.id in
     let first = c.in_ok-entry.ensures.some in
     let same = same_uid e.id id (not_false (uid_eq e.id id) (sym c.ne.ensures ∙ c.if-ne.false)) in
-    rw (← c.self.view_is)
-    (ap (λ u. has keys u (record { 0 = e.number })) (sym same) ∙ first.there, λ k there. (between id e k first.passes (first.first id k there (from_id id k))).1)
+    rw (← c.self.view_is) (
+      ap (λ u. has keys u (record { 0 = e.number })) (sym same) ∙ first.there,
+      λ k there. (between id e k first.passes (first.first id k there (from_id id k))).1,
+    )
   where
     not_false : (b : Bool) → not b ≡ false → b ≡ true
     not_false true h = refl

@@ -11,4 +11,5 @@ from_parts-requires c =
     let first = c.length.ensures in
     let again = c.length-2.ensures in
     let room : c.length-2.result < MAX_POSITION = omega (arith, first, again) in
-    may_set waiting c.length-2.result (c.length-2.result + 1) c.in_ok-ids.ids.items some room refl (c.in_ok-ids.ensures.items ∙ c.first_ids.ensures)
+    may_set waiting c.length-2.result (c.length-2.result + 1) c.in_ok-ids.ids.items some room refl
+    (c.in_ok-ids.ensures.items ∙ c.first_ids.ensures)

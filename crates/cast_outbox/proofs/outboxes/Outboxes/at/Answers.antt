@@ -8,10 +8,12 @@ pub returns-in-Some : goal.returns-in-Some
 returns-in-Some c =
     let s = c.self.inside in
     rw (← c.self.view_is)
-    (c.at.ensures ∙ sym (ap (λ (xs : List Push). slice_get xs c.args.place) (seen_of s.names s.slots c.self.invariant c.args.domain c.args.serial (Some c.in-Some.outbox.now) (sym (ap option_copied c.in-Some.is) ∙ c.outbox_of.ensures))))
+    (c.at.ensures ∙ sym (ap (λ (xs : List Push). slice_get xs c.args.place) (seen_of s.names s.slots c.self.invariant c.args.domain
+    c.args.serial (Some c.in-Some.outbox.now) (sym (ap option_copied c.in-Some.is) ∙ c.outbox_of.ensures))))
 
 pub returns-in-None : goal.returns-in-None
 returns-in-None c =
     let s = c.self.inside in
     rw (← c.self.view_is)
-    (sym (ap (λ (xs : List Push). slice_get xs c.args.place) (seen_of s.names s.slots c.self.invariant c.args.domain c.args.serial None (sym (ap option_copied c.in-None.is) ∙ c.outbox_of.ensures))))
+    (sym (ap (λ (xs : List Push). slice_get xs c.args.place) (seen_of s.names s.slots c.self.invariant c.args.domain c.args.serial None
+    (sym (ap option_copied c.in-None.is) ∙ c.outbox_of.ensures))))

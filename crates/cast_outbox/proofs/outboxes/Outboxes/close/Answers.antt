@@ -7,19 +7,22 @@ use Rattle.cast_outbox.proofs.outboxes.Outboxes.close.Goals as goal
 pub invariant_of-self : goal.invariant_of-self
 invariant_of-self c =
     let s = c.self.inside in
-    (after_remove s.names c.swap_remove.new.self s.slots c.drop_at.new.slots c.self.invariant c.args.domain c.args.serial c.in-Some.key (sym c.swap_remove.ensures.value ∙ c.in-Some.is) c.swap_remove.ensures.updates c.drop_at.ensures).sound
+    (after_remove s.names c.swap_remove.new.self s.slots c.drop_at.new.slots c.self.invariant c.args.domain c.args.serial c.in-Some.key
+    (sym c.swap_remove.ensures.value ∙ c.in-Some.is) c.swap_remove.ensures.updates c.drop_at.ensures).sound
 
 pub returns-in-Some-clause-own : goal.returns-in-Some-clause-own
 returns-in-Some-clause-own c =
     let s = c.self.inside in
     rw (← c.self.view_is)
-    ((after_remove s.names c.swap_remove.new.self s.slots c.drop_at.new.slots c.self.invariant c.args.domain c.args.serial c.in-Some.key (sym c.swap_remove.ensures.value ∙ c.in-Some.is) c.swap_remove.ensures.updates c.drop_at.ensures).own)
+    ((after_remove s.names c.swap_remove.new.self s.slots c.drop_at.new.slots c.self.invariant c.args.domain c.args.serial c.in-Some.key
+    (sym c.swap_remove.ensures.value ∙ c.in-Some.is) c.swap_remove.ensures.updates c.drop_at.ensures).own)
 
 pub returns-in-Some-clause-others : goal.returns-in-Some-clause-others
 returns-in-Some-clause-others c e differ =
     let s = c.self.inside in
     rw (← c.self.view_is)
-    ((after_remove s.names c.swap_remove.new.self s.slots c.drop_at.new.slots c.self.invariant c.args.domain c.args.serial c.in-Some.key (sym c.swap_remove.ensures.value ∙ c.in-Some.is) c.swap_remove.ensures.updates c.drop_at.ensures).others e differ)
+    ((after_remove s.names c.swap_remove.new.self s.slots c.drop_at.new.slots c.self.invariant c.args.domain c.args.serial c.in-Some.key
+    (sym c.swap_remove.ensures.value ∙ c.in-Some.is) c.swap_remove.ensures.updates c.drop_at.ensures).others e differ)
 
 -- a serial with no outbox
 pub returns-in_default-clause-own : goal.returns-in_default-clause-own
@@ -27,4 +30,5 @@ returns-in_default-clause-own c =
     let s = c.self.inside in
     let none : c.swap_remove.result ≡ None = cc in
     rw (← c.self.view_is)
-    (set_same (outboxes_in s.slots.slots c.args.domain) c.args.serial [] (absent s.names s.slots c.self.invariant c.args.domain c.args.serial (sym c.swap_remove.ensures.value ∙ none)))
+    (set_same (outboxes_in s.slots.slots c.args.domain)
+    c.args.serial [] (absent s.names s.slots c.self.invariant c.args.domain c.args.serial (sym c.swap_remove.ensures.value ∙ none)))

@@ -11,27 +11,32 @@ invariant_of-self-in-None c =
     let s = c.self.inside in
     let none = sym c.key_of.ensures ∙ c.in-None.is in
     either_way c.open_first.result
-    (on_ok_weaker c.open_first.result (λ added. (after_add s.names c.open_first.new.names s.slots c.open_first.new.slots c.self.invariant c.args.domain c.args.serial (λ _. []) none added).sound) c.open_first.ensures.ok)
-    (on_err_both c.open_first.result (still s.names c.open_first.new.names s.slots c.open_first.new.slots c.self.invariant) c.open_first.ensures.names_stay c.open_first.ensures.slots_stay)
+    (on_ok_weaker c.open_first.result (λ added. (after_add s.names c.open_first.new.names s.slots c.open_first.new.slots c.self.invariant
+    c.args.domain c.args.serial (λ _. []) none added).sound) c.open_first.ensures.ok)
+    (on_err_both c.open_first.result (still s.names c.open_first.new.names s.slots c.open_first.new.slots c.self.invariant)
+    c.open_first.ensures.names_stay c.open_first.ensures.slots_stay)
 
 pub returns-in-Some-clause-ok : goal.returns-in-Some-clause-ok
 returns-in-Some-clause-ok c =
     let s = c.self.inside in
     rw (← c.self.view_is)
-    ((after_set s.names s.slots c.clear_at.new.slots c.self.invariant c.args.domain c.args.serial (λ _. []) c.in-Some.key (sym c.key_of.ensures ∙ c.in-Some.is) c.clear_at.ensures).own)
+    ((after_set s.names s.slots c.clear_at.new.slots c.self.invariant c.args.domain c.args.serial (λ _. [])
+    c.in-Some.key (sym c.key_of.ensures ∙ c.in-Some.is) c.clear_at.ensures).own)
 
 pub returns-in-Some-clause-others : goal.returns-in-Some-clause-others
 returns-in-Some-clause-others c e differ =
     let s = c.self.inside in
     rw (← c.self.view_is)
-    ((after_set s.names s.slots c.clear_at.new.slots c.self.invariant c.args.domain c.args.serial (λ _. []) c.in-Some.key (sym c.key_of.ensures ∙ c.in-Some.is) c.clear_at.ensures).others e differ)
+    ((after_set s.names s.slots c.clear_at.new.slots c.self.invariant c.args.domain c.args.serial (λ _. [])
+    c.in-Some.key (sym c.key_of.ensures ∙ c.in-Some.is) c.clear_at.ensures).others e differ)
 
 pub returns-in-None-clause-ok : goal.returns-in-None-clause-ok
 returns-in-None-clause-ok c =
     let s = c.self.inside in
     let none = sym c.key_of.ensures ∙ c.in-None.is in
     rw (← c.self.view_is)
-    (on_ok_weaker c.open_first.result (λ added. (after_add s.names c.open_first.new.names s.slots c.open_first.new.slots c.self.invariant c.args.domain c.args.serial (λ _. []) none added).own) c.open_first.ensures.ok)
+    (on_ok_weaker c.open_first.result (λ added. (after_add s.names c.open_first.new.names s.slots c.open_first.new.slots c.self.invariant
+    c.args.domain c.args.serial (λ _. []) none added).own) c.open_first.ensures.ok)
 
 pub returns-in-None-clause-others : goal.returns-in-None-clause-others
 returns-in-None-clause-others c e differ =
@@ -39,5 +44,7 @@ returns-in-None-clause-others c e differ =
     let none = sym c.key_of.ensures ∙ c.in-None.is in
     rw (← c.self.view_is)
     (either_way c.open_first.result
-    (on_ok_weaker c.open_first.result (λ added. (after_add s.names c.open_first.new.names s.slots c.open_first.new.slots c.self.invariant c.args.domain c.args.serial (λ _. []) none added).others e differ) c.open_first.ensures.ok)
-    (on_err_weaker c.open_first.result (λ (same : c.open_first.new.slots.slots ≡ s.slots.slots). ap (λ (xs : List (Option Pending)). outboxes_in xs e) same) c.open_first.ensures.slots_stay))
+    (on_ok_weaker c.open_first.result (λ added. (after_add s.names c.open_first.new.names s.slots c.open_first.new.slots c.self.invariant
+    c.args.domain c.args.serial (λ _. []) none added).others e differ) c.open_first.ensures.ok)
+    (on_err_weaker c.open_first.result (λ (same : c.open_first.new.slots.slots ≡ s.slots.slots).
+    ap (λ (xs : List (Option Pending)). outboxes_in xs e) same) c.open_first.ensures.slots_stay))

@@ -26,43 +26,52 @@ returns-in-None-clause-value c =
     let s = c.self.inside in
     let none = sym c.key_of.ensures ∙ c.in-None.is in
     rw (← c.self.view_is)
-    (IfOk-weaker c.push_first.result _ _ (λ p is. is ∙ ap (told c.args.limit) (sym (absent s.names s.slots c.self.invariant c.args.domain c.args.serial none))) c.push_first.ensures.value)
+    (IfOk-weaker c.push_first.result _ _ (λ p is. is
+    ∙ ap (told c.args.limit) (sym (absent s.names s.slots c.self.invariant c.args.domain c.args.serial none))) c.push_first.ensures.value)
 
 pub invariant_of-self-in-None : goal.invariant_of-self-in-None
 invariant_of-self-in-None c =
     let s = c.self.inside in
     let none = sym c.key_of.ensures ∙ c.in-None.is in
     either_way c.push_first.result
-    (on_ok_weaker c.push_first.result (λ added. (after_add s.names c.push_first.new.names s.slots c.push_first.new.slots c.self.invariant c.args.domain c.args.serial (with_entry c.args.limit c.args.entry) none added).sound) c.push_first.ensures.ok)
-    (on_err_both c.push_first.result (still s.names c.push_first.new.names s.slots c.push_first.new.slots c.self.invariant) c.push_first.ensures.names_stay c.push_first.ensures.slots_stay)
+    (on_ok_weaker c.push_first.result (λ added. (after_add s.names c.push_first.new.names s.slots c.push_first.new.slots c.self.invariant
+    c.args.domain c.args.serial (with_entry c.args.limit c.args.entry) none added).sound) c.push_first.ensures.ok)
+    (on_err_both c.push_first.result (still s.names c.push_first.new.names s.slots c.push_first.new.slots c.self.invariant)
+    c.push_first.ensures.names_stay c.push_first.ensures.slots_stay)
 
 pub invariant_of-self : goal.invariant_of-self
 invariant_of-self c =
     let s = c.self.inside in
     either_way c.push_at.result
-    (on_ok_weaker c.push_at.result (λ changes. (after_set s.names s.slots c.push_at.new.slots c.self.invariant c.args.domain c.args.serial (with_entry c.args.limit c.args.entry) c.in-Some.key (sym c.key_of.ensures ∙ c.in-Some.is) changes).sound) c.push_at.ensures.ok)
+    (on_ok_weaker c.push_at.result (λ changes. (after_set s.names s.slots c.push_at.new.slots c.self.invariant c.args.domain c.args.serial
+    (with_entry c.args.limit c.args.entry) c.in-Some.key (sym c.key_of.ensures ∙ c.in-Some.is) changes).sound) c.push_at.ensures.ok)
     (on_err_weaker c.push_at.result (still s.names s.names s.slots c.push_at.new.slots c.self.invariant refl) c.push_at.ensures.err)
 
 pub returns-in-Some-clause-ok : goal.returns-in-Some-clause-ok
 returns-in-Some-clause-ok c =
     let s = c.self.inside in
     rw (← c.self.view_is)
-    (on_ok_weaker c.push_at.result (λ changes. (after_set s.names s.slots c.push_at.new.slots c.self.invariant c.args.domain c.args.serial (with_entry c.args.limit c.args.entry) c.in-Some.key (sym c.key_of.ensures ∙ c.in-Some.is) changes).own) c.push_at.ensures.ok)
+    (on_ok_weaker c.push_at.result (λ changes. (after_set s.names s.slots c.push_at.new.slots c.self.invariant c.args.domain c.args.serial
+    (with_entry c.args.limit c.args.entry) c.in-Some.key (sym c.key_of.ensures ∙ c.in-Some.is) changes).own) c.push_at.ensures.ok)
 
 pub returns-in-Some-clause-others : goal.returns-in-Some-clause-others
 returns-in-Some-clause-others c e differ =
     let s = c.self.inside in
     rw (← c.self.view_is)
     (either_way c.push_at.result
-    (on_ok_weaker c.push_at.result (λ changes. (after_set s.names s.slots c.push_at.new.slots c.self.invariant c.args.domain c.args.serial (with_entry c.args.limit c.args.entry) c.in-Some.key (sym c.key_of.ensures ∙ c.in-Some.is) changes).others e differ) c.push_at.ensures.ok)
-    (on_err_weaker c.push_at.result (λ (same : c.push_at.new.slots.slots ≡ s.slots.slots). ap (λ (xs : List (Option Pending)). outboxes_in xs e) same) c.push_at.ensures.err))
+    (on_ok_weaker c.push_at.result (λ changes.
+    (after_set s.names s.slots c.push_at.new.slots c.self.invariant c.args.domain c.args.serial (with_entry c.args.limit c.args.entry)
+    c.in-Some.key (sym c.key_of.ensures ∙ c.in-Some.is) changes).others e differ) c.push_at.ensures.ok)
+    (on_err_weaker c.push_at.result (λ (same : c.push_at.new.slots.slots ≡ s.slots.slots).
+    ap (λ (xs : List (Option Pending)). outboxes_in xs e) same) c.push_at.ensures.err))
 
 pub returns-in-None-clause-ok : goal.returns-in-None-clause-ok
 returns-in-None-clause-ok c =
     let s = c.self.inside in
     let none = sym c.key_of.ensures ∙ c.in-None.is in
     rw (← c.self.view_is)
-    (on_ok_weaker c.push_first.result (λ added. (after_add s.names c.push_first.new.names s.slots c.push_first.new.slots c.self.invariant c.args.domain c.args.serial (with_entry c.args.limit c.args.entry) none added).own) c.push_first.ensures.ok)
+    (on_ok_weaker c.push_first.result (λ added. (after_add s.names c.push_first.new.names s.slots c.push_first.new.slots c.self.invariant
+    c.args.domain c.args.serial (with_entry c.args.limit c.args.entry) none added).own) c.push_first.ensures.ok)
 
 pub returns-in-None-clause-others : goal.returns-in-None-clause-others
 returns-in-None-clause-others c e differ =
@@ -70,5 +79,7 @@ returns-in-None-clause-others c e differ =
     let none = sym c.key_of.ensures ∙ c.in-None.is in
     rw (← c.self.view_is)
     (either_way c.push_first.result
-    (on_ok_weaker c.push_first.result (λ added. (after_add s.names c.push_first.new.names s.slots c.push_first.new.slots c.self.invariant c.args.domain c.args.serial (with_entry c.args.limit c.args.entry) none added).others e differ) c.push_first.ensures.ok)
-    (on_err_weaker c.push_first.result (λ (same : c.push_first.new.slots.slots ≡ s.slots.slots). ap (λ (xs : List (Option Pending)). outboxes_in xs e) same) c.push_first.ensures.slots_stay))
+    (on_ok_weaker c.push_first.result (λ added. (after_add s.names c.push_first.new.names s.slots c.push_first.new.slots c.self.invariant
+    c.args.domain c.args.serial (with_entry c.args.limit c.args.entry) none added).others e differ) c.push_first.ensures.ok)
+    (on_err_weaker c.push_first.result (λ (same : c.push_first.new.slots.slots ≡ s.slots.slots).
+    ap (λ (xs : List (Option Pending)). outboxes_in xs e) same) c.push_first.ensures.slots_stay))

@@ -11,7 +11,8 @@ invariant_of-kept g c =
     let len = ap length c.new-3.ensures.items in
     let total = c.open-book.ensures.total in (
       subst (λ entries. Replays base entries table) (sym c.new-3.ensures.items)
-          (replays_new config.site config.domains base table c.requires.distinct c.requires.rising c.in_ok-base.ensures.domains c.in_ok-table.ensures.domains c.in_ok-base.ensures.unshared c.in_ok-table.ensures.unshared),
+          (replays_new config.site config.domains base table c.requires.distinct c.requires.rising c.in_ok-base.ensures.domains
+          c.in_ok-table.ensures.domains c.in_ok-base.ensures.unshared c.in_ok-table.ensures.unshared),
       omega (arith, len, total),
       omega (arith, len),
     )

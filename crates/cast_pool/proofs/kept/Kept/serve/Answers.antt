@@ -15,9 +15,14 @@ fill-halted-requires-clause-room g c =
     let new = c.apply-answer.new.self in
     let outs = c.apply-answer.new.outs in
     let a = c.apply-answer.result in
-    let applied = subst (λ (o : Outs). IsApplied a c.args.event (domains_of old) (domains_of new) (lent_of old o) (lent_of new outs)) c.new-outs.ensures c.apply-answer.ensures.applied in
-    let notes = subst (λ (o : Outs). NotesHalts a c.args.event (domains_of old) (domains_of new) o.halted outs.halted) c.new-outs.ensures c.apply-answer.ensures.halted in
-    let few = few_halted c.args.event (domains_of old) (domains_of new) (lent_of old no_outs) (lent_of new outs) a outs.halted applied notes in
+    let applied =
+    subst (λ (o : Outs). IsApplied a c.args.event (domains_of old) (domains_of new) (lent_of old o) (lent_of new outs))
+    c.new-outs.ensures c.apply-answer.ensures.applied in
+    let notes =
+    subst (λ (o : Outs). NotesHalts a c.args.event (domains_of old) (domains_of new) o.halted outs.halted)
+    c.new-outs.ensures c.apply-answer.ensures.halted in
+    let few =
+    few_halted c.args.event (domains_of old) (domains_of new) (lent_of old no_outs) (lent_of new outs) a outs.halted applied notes in
     let same = ap length c.as_slice.ensures in
     let each = c.in-Ok.ensures.room.each in
     omega (arith, few, same, each)
@@ -32,10 +37,15 @@ invariant_of-self-2 g c =
     let base = c.in-Ok.room.base in
     let old = seen_of k.trail.base k.trail.entries.items k.trail.count k.table in
     let same = c.room_for.ensures.same in
-    let applied = subst (λ (o : Outs). IsApplied a c.args.event (domains_of k.table) (domains_of new) (lent_of k.table o) (lent_of new outs)) c.new-outs.ensures c.apply-answer.ensures.applied in
-    let notes = subst (λ (o : Outs). NotesHalts a c.args.event (domains_of k.table) (domains_of new) o.halted outs.halted) c.new-outs.ensures c.apply-answer.ensures.halted in
+    let applied =
+    subst (λ (o : Outs). IsApplied a c.args.event (domains_of k.table) (domains_of new) (lent_of k.table o) (lent_of new outs))
+    c.new-outs.ensures c.apply-answer.ensures.applied in
+    let notes =
+    subst (λ (o : Outs). NotesHalts a c.args.event (domains_of k.table) (domains_of new) o.halted outs.halted)
+    c.new-outs.ensures c.apply-answer.ensures.halted in
     let says = sym c.in-Some.ensures in
-    let next = next_in k.trail.base k.trail.count k.table k.trail.entries.items c.room_for.new.trail base same.1 c.in-Ok.ensures.room.base in
+    let next =
+    next_in k.trail.base k.trail.count k.table k.trail.entries.items c.room_for.new.trail base same.1 c.in-Ok.ensures.room.base in
     let halted = c.fill-halted.ensures ∙ c.as_slice.ensures in
     let items : c.add.new.self.entries.items ≡ items_then base k.trail.entries.items ++ entry_for c.args.event n outs.halted ∷ [] =
     c.add.ensures.items ∙ (λ i. items_then base (same.1 i) ++ entry_for c.args.event n (halted i) ∷ []) in
@@ -48,7 +58,8 @@ invariant_of-self-2 g c =
     let before = c.audit.ensures.total in
     let counted = c.self.invariant.1 in
     let few = c.self.invariant.2 in
-    let counts : events_of old ≡ 18446744073709551615 → ⊥ = λ e. c.if-events.false (c.events.ensures ∙ ap events_of (sym c.self.view_is) ∙ e) in (
+    let counts : events_of old ≡ 18446744073709551615 → ⊥ =
+    λ e. c.if-events.false (c.events.ensures ∙ ap events_of (sym c.self.view_is) ∙ e) in (
       subst (λ b. Replays b c.add.new.self.entries.items new) (sym bases)
           (subst (λ entries. Replays (base_then base k.trail.base) entries new) (sym items)
           (replays_for c.args.event a n outs old new says applied notes base next c.self.invariant.0)),
@@ -67,17 +78,24 @@ returns-clause-done g c =
     let was = c.args.mine.now.taken in
     let old = seen_of k.trail.base k.trail.entries.items k.trail.count k.table in
     let same = c.room_for.ensures.same in
-    let applied = subst (λ (o : Outs). IsApplied a c.args.event (domains_of k.table) (domains_of new) (lent_of k.table o) (lent_of new outs)) c.new-outs.ensures c.apply-answer.ensures.applied in
-    let notes = subst (λ (o : Outs). NotesHalts a c.args.event (domains_of k.table) (domains_of new) o.halted outs.halted) c.new-outs.ensures c.apply-answer.ensures.halted in
+    let applied =
+    subst (λ (o : Outs). IsApplied a c.args.event (domains_of k.table) (domains_of new) (lent_of k.table o) (lent_of new outs))
+    c.new-outs.ensures c.apply-answer.ensures.applied in
+    let notes =
+    subst (λ (o : Outs). NotesHalts a c.args.event (domains_of k.table) (domains_of new) o.halted outs.halted)
+    c.new-outs.ensures c.apply-answer.ensures.halted in
     let says = sym c.in-Some.ensures in
-    let next = next_in k.trail.base k.trail.count k.table k.trail.entries.items c.room_for.new.trail base same.1 c.in-Ok.ensures.room.base in
+    let next =
+    next_in k.trail.base k.trail.count k.table k.trail.entries.items c.room_for.new.trail base same.1 c.in-Ok.ensures.room.base in
     let halted = c.fill-halted.ensures ∙ c.as_slice.ensures in
     let items : c.add.new.self.entries.items ≡ items_then base k.trail.entries.items ++ entry_for c.args.event n outs.halted ∷ [] =
     c.add.ensures.items ∙ (λ i. items_then base (same.1 i) ++ entry_for c.args.event n (halted i) ∷ []) in
     let bases : c.add.new.self.base ≡ base_then base k.trail.base = c.add.ensures.base ∙ ap (base_then base) same.0 in
     let count : c.add.new.self.count ≡ count_then base k.trail.count (length k.trail.entries.items) =
     c.add.ensures.count ∙ (λ i. count_then base (same.2 i) (length (same.1 i))) in
-    let after : Seen = seen_of (base_then base k.trail.base) (items_then base k.trail.entries.items ++ entry_for c.args.event n outs.halted ∷ []) (count_then base k.trail.count (length k.trail.entries.items)) new in
+    let after : Seen =
+    seen_of (base_then base k.trail.base) (items_then base k.trail.entries.items ++ entry_for c.args.event n outs.halted ∷ [])
+    (count_then base k.trail.count (length k.trail.entries.items)) new in
     let left : Seen = seen_of c.add.new.self.base c.add.new.self.entries.items c.add.new.self.count new in
     let made : left ≡ after = λ i. seen_of (bases i) (items i) (count i) new in
     let counts = counts_on old (λ e. c.if-events.false (c.events.ensures ∙ ap events_of (sym c.self.view_is) ∙ e)) in
@@ -109,7 +127,10 @@ returns-in_default-note_of-clause-done g c =
     let old = seen_of k.trail.base k.trail.entries.items k.trail.count k.table in
     let left = seen_of c.room_for.new.trail.base c.room_for.new.trail.entries.items c.room_for.new.trail.count new in
     let none = sym c.note_of.ensures ∙ c.in_default-note_of.is in
-    let applied = subst (λ (o : Outs). IsApplied a c.args.event (domains_of k.table) (domains_of new) (lent_of k.table o) (lent_of new outs)) c.new-outs.ensures c.apply-answer.ensures.applied in
+    let applied =
+    subst (λ (o : Outs). IsApplied a c.args.event (domains_of k.table) (domains_of new) (lent_of k.table o) (lent_of new outs))
+    c.new-outs.ensures c.apply-answer.ensures.applied in
     let unchanged = subst (λ (o : Outs). IsUnchanged a k.table new o outs) c.new-outs.ensures c.apply-answer.ensures.unchanged in
     let counts = counts_on old (λ e. c.if-events.false (c.events.ensures ∙ ap events_of (sym c.self.view_is) ∙ e)) in
-    subst (λ (s : Seen). Serves c.args.event a outs s left was was) c.self.view_is (served_none c.args.event old counts a outs left was none applied unchanged same.0 same.1 same.2)
+    subst (λ (s : Seen). Serves c.args.event a outs s left was was)
+    c.self.view_is (served_none c.args.event old counts a outs left was none applied unchanged same.0 same.1 same.2)

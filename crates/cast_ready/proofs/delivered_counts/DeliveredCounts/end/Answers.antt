@@ -9,4 +9,5 @@ invariant_of-self c =
     let es = c.self.inside.counts.items in
     rw c.end_in.ensures
     (true_of (is_sorted source_cmp (but_ended c.args.group c.args.number es))
-    (is_sorted-where_key source_cmp (λ s. not (is_ended c.args.group c.args.number s)) es (passes (is_sorted source_cmp es) c.self.invariant)))
+    (is_sorted-where_key source_cmp (λ s. not (is_ended c.args.group c.args.number s))
+    es (passes (is_sorted source_cmp es) c.self.invariant)))

@@ -10,6 +10,7 @@ returns-in-Ok-clause-filled g c =
     record {
       came = take c.in-Ok.count c.read.new.room;
       consumed = c.in-Ok.ensures.bytes.0;
-      behind = rw c.deref_mut.ensures.value (filled here.room.items c.read.new.room here.room.len here.len c.in-Ok.count here.room.ok.0 here.within sizes c.in-Ok.ensures.bound.0);
+      behind = rw c.deref_mut.ensures.value (filled here.room.items c.read.new.room here.room.len here.len c.in-Ok.count here.room.ok.0
+          here.within sizes c.in-Ok.ensures.bound.0);
       as_said = tt;
     }

@@ -10,7 +10,8 @@ returns-in-Ok-eq0-clause-turned g c =
     let some = some_is_wanting c.args.self.now.bytes.items c.args.self.now.wanting c.args.self.now.is_part in
     let room : length c.read.new.room ≡ min c.args.self.now.wanting 4096 = search (rules, places) in
     let read = rw c.in-Ok-eq0.is at c.read.ensures.bytes in
-    ended a b c.args.self.now.bytes.items c.read.new.room c.in-Ok-eq0.field-0 c.in-Ok-eq0.field-0-test (omega (arith, room, some)) read.0 read.1
+    ended a b c.args.self.now.bytes.items c.read.new.room c.in-Ok-eq0.field-0 c.in-Ok-eq0.field-0-test (omega (arith, room, some))
+    read.0 read.1
 
 pub returns-in-Ok-clause-turned : goal.returns-in-Ok-clause-turned
 returns-in-Ok-clause-turned g c =
@@ -18,4 +19,5 @@ returns-in-Ok-clause-turned g c =
     let b = g.R.Read.remaining c.read.new.self.device in
     let room : length c.read.new.room ≡ min c.args.self.now.wanting 4096 = search (rules, places) in
     let here = c.args.self.now in
-    turned c.add.result a b here.bytes.items c.add.new.self.bytes.items c.read.new.room c.in-Ok.count here.wanting here.is_part (omega (arith, room)) c.in-Ok.ensures.bytes.0 c.add.ensures
+    turned c.add.result a b here.bytes.items c.add.new.self.bytes.items c.read.new.room c.in-Ok.count here.wanting here.is_part
+    (omega (arith, room)) c.in-Ok.ensures.bytes.0 c.add.ensures

@@ -12,7 +12,8 @@ invariant_of-self c =
     let run : Run = record { upto = c.self.inside.upto; above = c.self.inside.above.keys } in
     let next : Run = record { upto = c.absorb-self-inside.result; above = c.absorb-self-inside.new.above.keys } in
     let same : next ≡ insert_count run c.args.count =
-    inserted_next run c.args.count c.if-count-self.false next.upto next.above c.if-count-self-2.true c.absorb-self-inside.ensures.last c.absorb-self-inside.ensures.rest in
+    inserted_next run c.args.count c.if-count-self.false next.upto next.above c.if-count-self-2.true c.absorb-self-inside.ensures.last
+    c.absorb-self-inside.ensures.rest in
     still_run run next c.args.count same c.self.invariant
 
 pub returns-then-count-self-2-clause-meaning : goal.returns-then-count-self-2-clause-meaning
@@ -20,7 +21,8 @@ returns-then-count-self-2-clause-meaning c m positive =
     let run : Run = record { upto = c.self.inside.upto; above = c.self.inside.above.keys } in
     let next : Run = record { upto = c.absorb-self-inside.result; above = c.absorb-self-inside.new.above.keys } in
     let same : next ≡ insert_count run c.args.count =
-    inserted_next run c.args.count c.if-count-self.false next.upto next.above c.if-count-self-2.true c.absorb-self-inside.ensures.last c.absorb-self-inside.ensures.rest in
+    inserted_next run c.args.count c.if-count-self.false next.upto next.above c.if-count-self-2.true c.absorb-self-inside.ensures.last
+    c.absorb-self-inside.ensures.rest in
     meant run next c.args.count same m positive ∙ ap (λ (r : Run). contains r m || (m == c.args.count)) c.self.view_is
 
 -- or stands apart from it

@@ -12,7 +12,8 @@ pub receipt_at-receipt-requires : goal.receipt_at-receipt-requires
 receipt_at-receipt-requires c =
     let k = c.self.inside in
     subst (λ n. c.args.place < n)
-    (ap (λ (xs : List Received). length xs) (sym c.self.view_is) ∙ length_kept (slot_at k.slots.now) (k.front.now ++ k.back.now) c.self.invariant)
+    (ap (λ (xs : List Received). length xs) (sym c.self.view_is)
+    ∙ length_kept (slot_at k.slots.now) (k.front.now ++ k.back.now) c.self.invariant)
     c.requires
 
 -- the slot of the receipt is taken
@@ -32,5 +33,9 @@ returns c =
     let k = c.self.inside in
     let r = c.receipt_at-receipt.result in
     let is = c.receipt_at-receipt.ensures r in
-    let seen = kept_at (slot_at k.slots.now) (k.front.now ++ k.back.now) c.args.place r c.index.result.now c.self.invariant (receipt_at-receipt-requires c.before.before) (ap (λ (q : Receipt). slot_at k.slots.now q.slot) (sym is) ∙ c.index.ensures) in
-    ap (λ (xs : List Received). slice_get xs c.args.place) (sym c.self.view_is) ∙ seen ∙ ap (λ (q : Receipt). Some (received q c.index.result.now)) (sym is)
+    let seen =
+    kept_at (slot_at k.slots.now) (k.front.now ++ k.back.now) c.args.place r c.index.result.now c.self.invariant
+    (receipt_at-receipt-requires c.before.before) (ap (λ (q : Receipt). slot_at k.slots.now q.slot) (sym is) ∙ c.index.ensures) in
+    ap (λ (xs : List Received). slice_get xs c.args.place) (sym c.self.view_is)
+    ∙ seen
+    ∙ ap (λ (q : Receipt). Some (received q c.index.result.now)) (sym is)

@@ -12,7 +12,8 @@ pub receipt_at-requires : goal.receipt_at-requires
 receipt_at-requires c =
     let k = c.self.inside in
     subst (λ n. c.args.place < n)
-    (ap (λ (xs : List Received). length xs) (sym c.self.view_is) ∙ length_kept (slot_at k.slots.now) (k.front.now ++ k.back.now) c.self.invariant)
+    (ap (λ (xs : List Received). length xs) (sym c.self.view_is)
+    ∙ length_kept (slot_at k.slots.now) (k.front.now ++ k.back.now) c.self.invariant)
     c.requires
 
 pub returns : goal.returns

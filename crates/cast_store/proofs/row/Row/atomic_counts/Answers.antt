@@ -7,14 +7,17 @@ pub returns-then-is_empty-clause-none : goal.returns-then-is_empty-clause-none
 returns-then-is_empty-clause-none c =
     let s = c.self.inside in
     let empty = c.is_empty.ensures.empty c.if-is_empty.true in
-    rw (← c.self.view_is) (none_received s.ids.abcasts s.receipts.items c.args.source None c.self.invariant.abcasts (λ u k there. absurd (true≢false (sym there ∙ empty u k))))
+    rw (← c.self.view_is) (none_received s.ids.abcasts s.receipts.items c.args.source None c.self.invariant.abcasts
+    (λ u k there. absurd (true≢false (sym there ∙ empty u k))))
 
 pub returns-clause-some : goal.returns-clause-some
 returns-clause-some c =
     let s = c.self.inside in
-    rw (← c.self.view_is) (range_received s.ids.abcasts s.receipts.items c.args.source c.count_range.result c.self.invariant.abcasts c.count_range.ensures.some)
+    rw (← c.self.view_is)
+    (range_received s.ids.abcasts s.receipts.items c.args.source c.count_range.result c.self.invariant.abcasts c.count_range.ensures.some)
 
 pub returns-clause-none : goal.returns-clause-none
 returns-clause-none c =
     let s = c.self.inside in
-    rw (← c.self.view_is) (none_received s.ids.abcasts s.receipts.items c.args.source c.count_range.result c.self.invariant.abcasts c.count_range.ensures.none)
+    rw (← c.self.view_is)
+    (none_received s.ids.abcasts s.receipts.items c.args.source c.count_range.result c.self.invariant.abcasts c.count_range.ensures.none)

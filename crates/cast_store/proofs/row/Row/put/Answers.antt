@@ -10,7 +10,12 @@ use Rattle.cast_store.proofs.row.Row.put.Goals as goal
 -- where it is kept
 pub invariant_of-self-2 : goal.invariant_of-self-2
 invariant_of-self-2 c =
-    let r : Receipt = record { number = c.self.inside.next; slot = c.vacant_key.result; id = c.args.message.id; atomic = c.is_atomic.result } in
+    let r : Receipt = record {
+      number = c.self.inside.next;
+      slot = c.vacant_key.result;
+      id = c.args.message.id;
+      atomic = c.is_atomic.result;
+    } in
     let receipts = c.self.inside.receipts.items in
     let next : c.in-Some.next ≡ c.self.inside.next + 1 = search rules in
     let ok = when_ok c.add.result (sym c.is_err-2.ensures.value ∙ c.if-is_err-2.false) c.add.ensures.added in
@@ -41,13 +46,16 @@ invariant_of-self c =
 
 -- on each way out
 pub returns-in_default-clause-free : goal.returns-in_default-clause-free
-returns-in_default-clause-free c = rw (← c.self.view_is) (free_number c.self.inside.next c.self.inside.receipts.items c.self.invariant.numbered)
+returns-in_default-clause-free c =
+    rw (← c.self.view_is) (free_number c.self.inside.next c.self.inside.receipts.items c.self.invariant.numbered)
 
 pub returns-then-is_err-clause-free : goal.returns-then-is_err-clause-free
-returns-then-is_err-clause-free c = rw (← c.self.view_is) (free_number c.self.inside.next c.self.inside.receipts.items c.self.invariant.numbered)
+returns-then-is_err-clause-free c =
+    rw (← c.self.view_is) (free_number c.self.inside.next c.self.inside.receipts.items c.self.invariant.numbered)
 
 pub returns-then-is_err-2-clause-free : goal.returns-then-is_err-2-clause-free
-returns-then-is_err-2-clause-free c = rw (← c.self.view_is) (free_number c.self.inside.next c.self.inside.receipts.items c.self.invariant.numbered)
+returns-then-is_err-2-clause-free c =
+    rw (← c.self.view_is) (free_number c.self.inside.next c.self.inside.receipts.items c.self.invariant.numbered)
 
 pub returns-clause-free : goal.returns-clause-free
 returns-clause-free c = rw (← c.self.view_is) (free_number c.self.inside.next c.self.inside.receipts.items c.self.invariant.numbered)

@@ -18,7 +18,8 @@ missing c =
 
 pub returns-in_err-place-clause-value : goal.returns-in_err-place-clause-value
 returns-in_err-place-clause-value c =
-    let none : slot_under c.args.self.now.receipts c.args.key.0 ≡ None = ap (λ (o : Option Receipt). option_map (λ r. r.slot) o) (missing c) in
+    let none : slot_under c.args.self.now.receipts c.args.key.0 ≡ None =
+    ap (λ (o : Option Receipt). option_map (λ r. r.slot) o) (missing c) in
     cc
 
 pub returns-in_err-place-clause-left : goal.returns-in_err-place-clause-left
@@ -27,33 +28,50 @@ returns-in_err-place-clause-left c =
     ap (λ (receipts : List Receipt). record c.args.self.now { receipts = receipts }) (sym all)
 
 -- where a receipt is
-found : (c : goal.After-take_out) → position (λ (r : Receipt). r.number == c.args.key.0) c.self.inside.receipts.items ≡ Some c.in_ok-place.place
+found : (c : goal.After-take_out) →
+    position (λ (r : Receipt). r.number == c.args.key.0) c.self.inside.receipts.items ≡ Some c.in_ok-place.place
 found c = search rules
 
 left : (c : goal.After-take_out) → c.take_out.new.receipts.items ≡ but_number c.args.key.0 c.self.inside.receipts.items
 left c =
     let items : c.take_out.new.receipts.items ≡ remove c.self.inside.receipts.items c.in_ok-place.place = search rules in
-    items ∙ removed_is number_of c.args.key.0 c.self.inside.receipts.items c.in_ok-place.place (numbered_parts c.self.inside.next c.self.inside.receipts.items c.self.invariant.numbered).0 (found c)
+    items ∙ removed_is number_of c.args.key.0 c.self.inside.receipts.items c.in_ok-place.place
+    (numbered_parts c.self.inside.next c.self.inside.receipts.items c.self.invariant.numbered).0 (found c)
 
 pub invariant_of-self : goal.invariant_of-self
 invariant_of-self c =
     let next = c.self.inside.next in
     let receipts = c.self.inside.receipts.items in
     let place = c.in_ok-place.place in
-    let d : Receipt = record { number = 0; slot = 0; id = record { group = record { 0 = 0 }; view = 0; proc = record { site = record { 0 = 0 }; serial = 0 }; count = 0 }; atomic = false } in
+    let d : Receipt = record {
+      number = 0;
+      slot = 0;
+      id = record { group = record { 0 = 0 }; view = 0; proc = record { site = record { 0 = 0 }; serial = 0 }; count = 0 };
+      atomic = false;
+    } in
     record {
-      numbered = ap (λ (xs : List Receipt). is_numbered next xs) (left c) ∙ numbered_filter (λ r. not (r.number == c.args.key.0)) next receipts c.self.invariant.numbered;
+      numbered = ap (λ (xs : List Receipt). is_numbered next xs) (left c)
+          ∙ numbered_filter (λ r. not (r.number == c.args.key.0)) next receipts c.self.invariant.numbered;
       ids = subst (HasIdsOf c.take_out.new.ids.all) (sym c.take_out.ensures.left)
-          (ids_remove (λ _. true) next c.self.inside.ids.all c.take_out.new.ids.all receipts place d c.self.invariant.numbered (place_within number_of c.args.key.0 receipts place (found c)) c.self.invariant.ids (c.take_out.ensures.unnamed d));
+          (ids_remove (λ _. true) next c.self.inside.ids.all c.take_out.new.ids.all receipts place d c.self.invariant.numbered
+          (place_within number_of c.args.key.0 receipts place (found c)) c.self.invariant.ids (c.take_out.ensures.unnamed d));
       abcasts = subst (HasAbcastsOf c.take_out.new.ids.abcasts) (sym c.take_out.ensures.left)
-          (ids_remove (λ r. r.atomic) next c.self.inside.ids.abcasts c.take_out.new.ids.abcasts receipts place d c.self.invariant.numbered (place_within number_of c.args.key.0 receipts place (found c)) c.self.invariant.abcasts (c.take_out.ensures.no_abcast d));
+          (ids_remove (λ r. r.atomic) next c.self.inside.ids.abcasts c.take_out.new.ids.abcasts receipts place d c.self.invariant.numbered
+          (place_within number_of c.args.key.0 receipts place (found c)) c.self.invariant.abcasts (c.take_out.ensures.no_abcast d));
     }
 
 -- what stands at the place
 slot : (c : goal.After-take_out) → slot_under c.self.inside.receipts.items c.args.key.0 ≡ c.take_out.result
 slot c =
-    let d : Receipt = record { number = 0; slot = 0; id = record { group = record { 0 = 0 }; view = 0; proc = record { site = record { 0 = 0 }; serial = 0 }; count = 0 }; atomic = false } in
-    ap (λ (o : Option Receipt). option_map (λ r. r.slot) o) (find_place (λ r. r.number == c.args.key.0) c.self.inside.receipts.items c.in_ok-place.place d (found c)) ∙ sym (c.take_out.ensures.value d)
+    let d : Receipt = record {
+      number = 0;
+      slot = 0;
+      id = record { group = record { 0 = 0 }; view = 0; proc = record { site = record { 0 = 0 }; serial = 0 }; count = 0 };
+      atomic = false;
+    } in
+    ap (λ (o : Option Receipt). option_map (λ r. r.slot) o)
+    (find_place (λ r. r.number == c.args.key.0) c.self.inside.receipts.items c.in_ok-place.place d (found c))
+    ∙ sym (c.take_out.ensures.value d)
 
 pub returns-clause-value : goal.returns-clause-value
 returns-clause-value c = rw (← c.self.view_is) (sym (slot c))
@@ -66,5 +84,10 @@ returns-clause-left c =
 -- a receipt that is there has a slot
 pub returns-clause-none : goal.returns-clause-none
 returns-clause-none c =
-    let d : Receipt = record { number = 0; slot = 0; id = record { group = record { 0 = 0 }; view = 0; proc = record { site = record { 0 = 0 }; serial = 0 }; count = 0 }; atomic = false } in
+    let d : Receipt = record {
+      number = 0;
+      slot = 0;
+      id = record { group = record { 0 = 0 }; view = 0; proc = record { site = record { 0 = 0 }; serial = 0 }; count = 0 };
+      atomic = false;
+    } in
     rw (c.take_out.ensures.value d) tt

@@ -17,7 +17,8 @@ returns-in-Some-clause-some c =
     rw (← c.self.view_is)
     (subst (λ (kept : List Received). IfSome c.atomic_counts.result (KeepsAbcastRange kept c.args.source))
     (sym (kept_seen_at slots s.rows.items c.args.domain (Some l) at))
-    (abcast_range_some slots l.receipts c.args.source c.atomic_counts.result (held_at slots s.rows.items c.self.invariant c.args.domain l at) c.atomic_counts.ensures.some))
+    (abcast_range_some slots l.receipts c.args.source c.atomic_counts.result
+    (held_at slots s.rows.items c.self.invariant c.args.domain l at) c.atomic_counts.ensures.some))
 
 pub returns-in-Some-clause-none : goal.returns-in-Some-clause-none
 returns-in-Some-clause-none c =
@@ -28,7 +29,8 @@ returns-in-Some-clause-none c =
     rw (← c.self.view_is)
     (subst (λ (kept : List Received). IfNone c.atomic_counts.result (KeepsNoAbcast kept c.args.source))
     (sym (kept_seen_at slots s.rows.items c.args.domain (Some l) at))
-    (no_abcast_none slots l.receipts c.args.source c.atomic_counts.result (held_at slots s.rows.items c.self.invariant c.args.domain l at) c.atomic_counts.ensures.none))
+    (no_abcast_none slots l.receipts c.args.source c.atomic_counts.result (held_at slots s.rows.items c.self.invariant c.args.domain l at)
+    c.atomic_counts.ensures.none))
 
 pub returns-in-None-clause-none : goal.returns-in-None-clause-none
 returns-in-None-clause-none c =

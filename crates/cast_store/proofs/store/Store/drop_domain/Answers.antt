@@ -3,10 +3,12 @@ use Rattle.cast_store.proofs.Slots.{After, after_drop}
 use Rattle.cast_store.proofs.store.Store.drop_domain.Goals as goal
 
 -- all of it
-after : (c : goal.After-drop_slots) → After c.args.domain [] 0 c.self.inside.rows.items c.drop_row.new.rows.items c.self.inside.slots c.drop_slots.new.slots
+after : (c : goal.After-drop_slots) →
+    After c.args.domain [] 0 c.self.inside.rows.items c.drop_row.new.rows.items c.self.inside.slots c.drop_slots.new.slots
 after c =
     let s = c.self.inside in
-    after_drop s.rows.items c.drop_row.new.rows.items s.slots c.drop_slots.new.slots c.self.invariant c.args.domain c.drop_row.ensures c.drop_slots.ensures
+    after_drop s.rows.items c.drop_row.new.rows.items s.slots c.drop_slots.new.slots c.self.invariant c.args.domain c.drop_row.ensures
+    c.drop_slots.ensures
 
 pub invariant_of-self : goal.invariant_of-self
 invariant_of-self c = (after c).sound

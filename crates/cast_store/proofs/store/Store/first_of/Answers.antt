@@ -17,7 +17,8 @@ returns-in-Some-clause-some c =
     rw (← c.self.view_is)
     (subst (λ (kept : List Received). IfSome c.first_of.result (KeepsFirst kept c.args.source))
     (sym (kept_seen_at slots s.rows.items c.args.domain (Some l) at))
-    (first_kept_some slots l.receipts c.args.source c.first_of.result (held_at slots s.rows.items c.self.invariant c.args.domain l at) c.first_of.ensures.some))
+    (first_kept_some slots l.receipts c.args.source c.first_of.result (held_at slots s.rows.items c.self.invariant c.args.domain l at)
+    c.first_of.ensures.some))
 
 pub returns-in-Some-clause-none : goal.returns-in-Some-clause-none
 returns-in-Some-clause-none c =
@@ -28,7 +29,8 @@ returns-in-Some-clause-none c =
     rw (← c.self.view_is)
     (subst (λ (kept : List Received). IfNone c.first_of.result (KeepsNoneOf kept c.args.source))
     (sym (kept_seen_at slots s.rows.items c.args.domain (Some l) at))
-    (none_kept_none slots l.receipts c.args.source c.first_of.result (held_at slots s.rows.items c.self.invariant c.args.domain l at) c.first_of.ensures.none))
+    (none_kept_none slots l.receipts c.args.source c.first_of.result (held_at slots s.rows.items c.self.invariant c.args.domain l at)
+    c.first_of.ensures.none))
 
 pub returns-in-None-clause-none : goal.returns-in-None-clause-none
 returns-in-None-clause-none c =

@@ -18,7 +18,8 @@ returns-in-Some-clause-some g c =
     rw (← c.self.view_is)
     (subst (λ (kept : List Received). IfSome c.first_passing.result (IsKeptOf (λ id. goal.F-post g c.args.passes id true) kept))
     (sym (kept_seen_at slots s.rows.items c.args.domain (Some l) at))
-    (kept_of_some slots (λ id. goal.F-post g c.args.passes id true) l.receipts c.first_passing.result (held_at slots s.rows.items c.self.invariant c.args.domain l at) c.first_passing.ensures.some))
+    (kept_of_some slots (λ id. goal.F-post g c.args.passes id true)
+    l.receipts c.first_passing.result (held_at slots s.rows.items c.self.invariant c.args.domain l at) c.first_passing.ensures.some))
 
 pub returns-in-Some-clause-none : goal.returns-in-Some-clause-none
 returns-in-Some-clause-none g c =
@@ -29,7 +30,8 @@ returns-in-Some-clause-none g c =
     rw (← c.self.view_is)
     (subst (λ (kept : List Received). IfNone c.first_passing.result (IsLedBy (λ id. goal.F-post g c.args.passes id false) kept))
     (sym (kept_seen_at slots s.rows.items c.args.domain (Some l) at))
-    (led_by_none slots (λ id. goal.F-post g c.args.passes id false) l.receipts c.first_passing.result (held_at slots s.rows.items c.self.invariant c.args.domain l at) c.first_passing.ensures.none))
+    (led_by_none slots (λ id. goal.F-post g c.args.passes id false)
+    l.receipts c.first_passing.result (held_at slots s.rows.items c.self.invariant c.args.domain l at) c.first_passing.ensures.none))
 
 pub returns-in-None-clause-none : goal.returns-in-None-clause-none
 returns-in-None-clause-none g c =
@@ -38,4 +40,5 @@ returns-in-None-clause-none g c =
     rw (← c.self.view_is)
     (subst (IsLedBy (λ id. goal.F-post g c.args.passes id false))
     (sym (kept_seen_at (slot_at s.slots) s.rows.items c.args.domain None absent))
-    (led_by (slot_at s.slots) (λ id. goal.F-post g c.args.passes id false) [] (λ r there. absurd (omega (arith, there.1))) (λ r there. absurd (omega (arith, there.1)))))
+    (led_by (slot_at s.slots) (λ id. goal.F-post g c.args.passes id false) [] (λ r there. absurd (omega (arith, there.1)))
+    (λ r there. absurd (omega (arith, there.1)))))

@@ -12,7 +12,9 @@ returns-in-Some c =
     let s = c.self.inside in
     let at = looked_up c.args.domain c.deref.ensures.value c.in-Some.ensures in
     rw (← c.self.view_is)
-    (c.message_in.ensures ∙ ap (message_in (slot_at s.slots)) c.slot_under.ensures ∙ under_seen (slot_at s.slots) s.rows.items c.self.invariant c.args.domain c.in-Some.row.now at c.args.key)
+    (c.message_in.ensures
+    ∙ ap (message_in (slot_at s.slots)) c.slot_under.ensures
+    ∙ under_seen (slot_at s.slots) s.rows.items c.self.invariant c.args.domain c.in-Some.row.now at c.args.key)
 
 pub returns-in-None : goal.returns-in-None
 returns-in-None c =

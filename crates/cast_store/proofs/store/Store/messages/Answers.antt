@@ -14,13 +14,16 @@ at c = looked_up c.args.domain c.deref.ensures.value c.in-Some.ensures
 pub new-requires : goal.new-requires
 new-requires c =
     let s = c.self.inside in
-    subst (IsHeld (slot_at s.slots)) (sym c.receipts.ensures.value) (held_at (slot_at s.slots) s.rows.items c.self.invariant c.args.domain c.in-Some.row.now (at c))
+    subst (IsHeld (slot_at s.slots)) (sym c.receipts.ensures.value)
+    (held_at (slot_at s.slots) s.rows.items c.self.invariant c.args.domain c.in-Some.row.now (at c))
 
 pub returns-in-Some-clause-value : goal.returns-in-Some-clause-value
 returns-in-Some-clause-value c =
     let s = c.self.inside in
     rw (← c.self.view_is)
-    (c.new.ensures ∙ ap (kept_by (slot_at s.slots)) c.receipts.ensures.value ∙ sym (kept_seen_at (slot_at s.slots) s.rows.items c.args.domain (Some c.in-Some.row.now) (at c.before)))
+    (c.new.ensures
+    ∙ ap (kept_by (slot_at s.slots)) c.receipts.ensures.value
+    ∙ sym (kept_seen_at (slot_at s.slots) s.rows.items c.args.domain (Some c.in-Some.row.now) (at c.before)))
 
 pub returns-in-Some-clause-rising : goal.returns-in-Some-clause-rising
 returns-in-Some-clause-rising c =
@@ -29,7 +32,8 @@ returns-in-Some-clause-rising c =
     let slots = slot_at s.slots in
     let held = held_at slots s.rows.items c.self.invariant c.args.domain l (at c.before) in
     rw (← c.self.view_is)
-    ((λ i. is_rising (next_seen_at slots s.rows.items c.args.domain (Some l) (at c.before) i) (kept_seen_at slots s.rows.items c.args.domain (Some l) (at c.before) i))
+    ((λ i. is_rising (next_seen_at slots s.rows.items c.args.domain (Some l) (at c.before) i)
+    (kept_seen_at slots s.rows.items c.args.domain (Some l) (at c.before) i))
     ∙ rising_kept slots l.next l.receipts held
     ∙ c.receipts.ensures.numbered)
 
@@ -48,4 +52,5 @@ returns-in-None-clause-rising c =
     let s = c.self.inside in
     let slots = slot_at s.slots in
     rw (← c.self.view_is)
-    (λ i. is_rising (next_seen_at slots s.rows.items c.args.domain None (absent c) i) (kept_seen_at slots s.rows.items c.args.domain None (absent c) i))
+    (λ i. is_rising (next_seen_at slots s.rows.items c.args.domain None (absent c) i)
+    (kept_seen_at slots s.rows.items c.args.domain None (absent c) i))

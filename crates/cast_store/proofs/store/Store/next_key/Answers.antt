@@ -10,7 +10,8 @@ returns-in-Some c =
     let s = c.self.inside in
     let at = looked_up c.args.domain c.deref.ensures.value c.in-Some.ensures in
     let key : ℕ → Key = λ n. record { 0 = n } in
-    rw (← c.self.view_is) (c.next_key.ensures ∙ ap key (sym (next_seen_at (slot_at s.slots) s.rows.items c.args.domain (Some c.in-Some.row.now) at)))
+    rw (← c.self.view_is)
+    (c.next_key.ensures ∙ ap key (sym (next_seen_at (slot_at s.slots) s.rows.items c.args.domain (Some c.in-Some.row.now) at)))
 
 pub returns-in-None : goal.returns-in-None
 returns-in-None c =

@@ -14,4 +14,5 @@ returns-in_default-clause-halted c =
 pub invariant_of-self : goal.invariant_of-self
 invariant_of-self c = λ n.
     c.self.invariant n
-    ∙ named_same n c.self.inside.domains.items c.turns.new.domains.items (turns_numbers c.args.event.now c.self.inside.domains.items c.turns.new.domains.items _ _ c.turns.ensures.turns)
+    ∙ named_same n c.self.inside.domains.items c.turns.new.domains.items
+    (turns_numbers c.args.event.now c.self.inside.domains.items c.turns.new.domains.items _ _ c.turns.ensures.turns)

@@ -23,9 +23,11 @@ loop-domain-preserved c =
       placed = c.in_ok-tenant.ensures.placed;
       begins = c.in_ok-tenant.ensures.begins;
     } in
-    let more = put_more (IsNew c.args.config.now.site) (λ k d new. new.number) config domain is_new (take i items) domains c.loop-domain.invariant in
+    let more =
+    put_more (IsNew c.args.config.now.site) (λ k d new. new.number) config domain is_new (take i items) domains c.loop-domain.invariant in
     let one : take i items ++ config ∷ [] ≡ take (i + 1) items =
-    ap (λ (k : DomainConfig). take i items ++ k ∷ []) (c.in_ok-copy.ensures ∙ c.domain-item.is) ∙ sym (take_more items i c.domain-item.result c.loop-domain-test.true) in
+    ap (λ (k : DomainConfig). take i items ++ k ∷ []) (c.in_ok-copy.ensures ∙ c.domain-item.is)
+    ∙ sym (take_more items i c.domain-item.result c.loop-domain-test.true) in
     let put : c.put_in.new.domains.items ≡ insert domains (place_for config.domain domains) domain =
     c.in_ok-put_in.ensures ∙ ap (λ (n : DomainNo). insert domains (place_for n domains) domain) is_new.number in
     subst (λ xs. AllZip (IsNew c.args.config.now.site) (by_number xs) c.put_in.new.domains.items) one
@@ -38,8 +40,10 @@ returns-clause-domains c =
     subst (λ xs. AllZip (IsNew c.args.config.now.site) (by_number xs) made.domains)
     (take_all c.loop-domain.domain-index c.as_slice-domain-items.result.now c.loop-domain-test.false ∙ c.as_slice-domain-items.ensures)
     c.loop-domain.invariant in
-    IfOk-weaker c.of.result (λ table. table ≡ made) (λ table. AllZip (IsNew c.args.config.now.site) (by_number c.args.config.now.domains) (domains_of table))
-    (λ table is. subst (λ (t : Table). AllZip (IsNew c.args.config.now.site) (by_number c.args.config.now.domains) (domains_of t)) (sym is) all) c.of.ensures
+    IfOk-weaker c.of.result (λ table. table ≡ made)
+    (λ table. AllZip (IsNew c.args.config.now.site) (by_number c.args.config.now.domains) (domains_of table))
+    (λ table is. subst (λ (t : Table). AllZip (IsNew c.args.config.now.site) (by_number c.args.config.now.domains) (domains_of t)) (sym is)
+    all) c.of.ensures
 
 pub returns-clause-unshared : goal.returns-clause-unshared
 returns-clause-unshared c =

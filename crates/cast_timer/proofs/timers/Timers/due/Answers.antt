@@ -12,4 +12,5 @@ pub returns-clause-rising : goal.returns-clause-rising
 returns-clause-rising c =
     let rows = c.self.inside.moments.entries in
     let d = c.args.domain in
-    rw (← c.self.view_is) (rising_kept owed_cmp (λ o. nat_le o.due c.args.now) (owed_in rows d) (owed_rises rows d (c.self.invariant d).shaped))
+    rw (← c.self.view_is)
+    (rising_kept owed_cmp (λ o. nat_le o.due c.args.now) (owed_in rows d) (owed_rises rows d (c.self.invariant d).shaped))

@@ -8,4 +8,5 @@ use Rattle.cast_view.proofs.home.HomeSide.join.Goals as goal
 pub invariant_of-self-2 : goal.invariant_of-self-2
 invariant_of-self-2 c =
     rw c.in_ok-insert.ensures.ok
-    (sound_joined (the_view c.self.inside) c.args.process (subst (λ h. is_crowded h c.args.process ≡ false) (sym c.self.view_is) c.requires) c.self.invariant)
+    (sound_joined (the_view c.self.inside) c.args.process (subst (λ h. is_crowded h c.args.process ≡ false) (sym c.self.view_is) c.requires)
+    c.self.invariant)

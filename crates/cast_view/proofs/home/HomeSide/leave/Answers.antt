@@ -8,4 +8,5 @@ use Rattle.cast_view.proofs.home.HomeSide.leave.Goals as goal
 pub invariant_of-self : goal.invariant_of-self
 invariant_of-self c =
     rw c.remove.ensures
-    (sound_joins (the_view c.self.inside) (without proc_eq c.args.process c.self.inside.joins) (λ p. without_fewer c.args.process p c.self.inside.joins) c.self.invariant)
+    (sound_joins (the_view c.self.inside) (without proc_eq c.args.process c.self.inside.joins)
+    (λ p. without_fewer c.args.process p c.self.inside.joins) c.self.invariant)

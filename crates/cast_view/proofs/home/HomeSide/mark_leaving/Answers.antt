@@ -8,4 +8,5 @@ use Rattle.cast_view.proofs.home.HomeSide.mark_leaving.Goals as goal
 pub invariant_of-self : goal.invariant_of-self
 invariant_of-self c =
     rw c.in_ok-insert.ensures.ok
-    (sound_leaving (the_view c.self.inside) (with_item proc_cmp c.args.process c.self.inside.leavings) (λ p. with_more c.args.process p c.self.inside.leavings) c.self.invariant)
+    (sound_leaving (the_view c.self.inside) (with_item proc_cmp c.args.process c.self.inside.leavings)
+    (λ p. with_more c.args.process p c.self.inside.leavings) c.self.invariant)

@@ -8,4 +8,5 @@ use Rattle.cast_view.proofs.home.HomeSide.mark_suspected.Goals as goal
 pub invariant_of-self : goal.invariant_of-self
 invariant_of-self c =
     rw c.in_ok-insert_site.ensures.ok
-    (sound_suspected (the_view c.self.inside) (with_item site_cmp c.args.site c.self.inside.suspected.items) (λ s. with_more_sites c.args.site s c.self.inside.suspected.items) c.self.invariant)
+    (sound_suspected (the_view c.self.inside) (with_item site_cmp c.args.site c.self.inside.suspected.items)
+    (λ s. with_more_sites c.args.site s c.self.inside.suspected.items) c.self.invariant)

@@ -15,10 +15,13 @@ returns c =
     let old = the_view c.self.inside in
     let sites : c.deref.result.now ≡ c.self.inside.suspected.items =
     c.deref.ensures.value ∙ ap (λ (v : Vec SiteNo Global). v.items) c.replace-suspected.ensures.value in
-    passed_parts old c.args.list c.decided_holder-holder.result c.from_parts.result c.keep_at.new.self c.new-2.result c.replace-suspected.new.dest.items c.self.inside.flush
+    passed_parts old c.args.list c.decided_holder-holder.result c.from_parts.result c.keep_at.new.self c.new-2.result
+    c.replace-suspected.new.dest.items c.self.inside.flush
     (c.from_parts.ensures ∙ ap (λ (l : List Proc). record { list = l; holder = c.decided_holder-holder.result }) c.into_vec.ensures.value)
     (c.requires.list ∙ ap decided_list (sym c.self.view_is))
-    (c.decided_holder-holder.ensures.value ∙ ap (λ (h : Home). decided_holder h c.as_slice.result.now) (sym c.self.view_is) ∙ ap (decided_holder old) c.as_slice.ensures.value)
+    (c.decided_holder-holder.ensures.value
+    ∙ ap (λ (h : Home). decided_holder h c.as_slice.result.now) (sym c.self.view_is)
+    ∙ ap (decided_holder old) c.as_slice.ensures.value)
     (c.keep_at.ensures ∙ ap (λ (s : List SiteNo). filter (λ p. is_among site_eq p.site s) c.self.inside.joins) sites)
     c.new-2.ensures
     (ap (λ (v : Vec SiteNo Global). v.items) c.replace-suspected.ensures.after ∙ c.new.ensures.items)

@@ -13,10 +13,15 @@ pub returns-in_ok-ids-in-Gathering : goal.returns-in_ok-ids-in-Gathering
 returns-in_ok-ids-in-Gathering c =
     let gathers = sym c.phase.ensures ∙ c.in-Gathering.is in
     let complete : is_complete c.in-Gathering.awaited c.in-Gathering.reports ≡ true = cc c.if-is_complete.ensures in
-    let lacked : c.in_ok-ids-in-Gathering.ids.items ≡ wanting c.args.group c.args.self.now.number (cut_from c.args.self.now.members.list c.in-Gathering.reports) c.in-Gathering.reports c.in-Gathering.bodies =
+    let lacked : c.in_ok-ids-in-Gathering.ids.items ≡ wanting c.args.group c.args.self.now.number
+    (cut_from c.args.self.now.members.list c.in-Gathering.reports) c.in-Gathering.reports c.in-Gathering.bodies =
     rw (← c.as_slice-in-Gathering.ensures, ← c.as_slice-in-Gathering-2.ensures) c.in_ok-ids-in-Gathering.ensures in
-    let same : filter_map (want_of c.as_slice-in-Gathering-3.result.now) (take 64 c.deref.result.now) ≡ wants_in c.args.group c.args.self.now c.args.self.now.phase =
+    let same : filter_map (want_of c.as_slice-in-Gathering-3.result.now) (take 64 c.deref.result.now)
+    ≡ wants_in c.args.group c.args.self.now c.args.self.now.phase =
     rw (c.as_slice-in-Gathering-3.ensures, c.deref.ensures.value)
-    (wants_when_complete c.args.group c.args.self.now c.in-Gathering.awaited c.in-Gathering.reports c.in-Gathering.bodies c.in_ok-ids-in-Gathering.ids.items gathers complete lacked) in
-    IfOk-weaker c.wants_of-in-Gathering.result (λ l. l ≡ filter_map (want_of c.as_slice-in-Gathering-3.result.now) (take 64 c.deref.result.now))
-    (λ (l : List (SiteNo × Entry)). l ≡ wants_in c.args.group c.args.self.now c.args.self.now.phase) (λ l is. is ∙ same) c.wants_of-in-Gathering.ensures
+    (wants_when_complete c.args.group c.args.self.now c.in-Gathering.awaited c.in-Gathering.reports c.in-Gathering.bodies
+    c.in_ok-ids-in-Gathering.ids.items gathers complete lacked) in
+    IfOk-weaker c.wants_of-in-Gathering.result
+    (λ l. l ≡ filter_map (want_of c.as_slice-in-Gathering-3.result.now) (take 64 c.deref.result.now))
+    (λ (l : List (SiteNo × Entry)). l ≡ wants_in c.args.group c.args.self.now c.args.self.now.phase) (λ l is. is ∙ same)
+    c.wants_of-in-Gathering.ensures

@@ -10,5 +10,6 @@ returns c = rw (← c.self.view_is) (filter_same _ _ _ (λ x b f' k. search rule
 
 pub invariant_of-self : goal.invariant_of-self
 invariant_of-self c =
-    let rest : c.retain.new.self.items ≡ without proc_eq c.args.process c.self.inside.list.items = filter_same _ _ _ (λ x b f' k. search rules) _ _ c.retain.ensures.filtered in
+    let rest : c.retain.new.self.items ≡ without proc_eq c.args.process c.self.inside.list.items =
+    filter_same _ _ _ (λ x b f' k. search rules) _ _ c.retain.ensures.filtered in
     rw rest (rising_kept proc_cmp (λ p. not (proc_eq c.args.process p)) c.self.inside.list.items c.self.invariant)

@@ -10,7 +10,10 @@ pub invariant_of-self : goal.invariant_of-self
 invariant_of-self c =
     let old : Daemon = c.args.self.now in
     let new = c.apply.new.self in
-    record { alone = applied_numbers c.apply.result c.args.event.now old.table.domains new.domains (lent_of old.table c.args.outs.now) (lent_of new c.apply.new.outs) c.apply.ensures.applied ∙ old.alone }
+    record {
+      alone = applied_numbers c.apply.result c.args.event.now old.table.domains new.domains (lent_of old.table c.args.outs.now)
+          (lent_of new c.apply.new.outs) c.apply.ensures.applied ∙ old.alone;
+    }
 
 pub unreachable-requires : goal.unreachable-requires
 unreachable-requires c =
@@ -20,4 +23,5 @@ unreachable-requires c =
     let before = lent_of old.table c.args.outs.now in
     let after = lent_of new c.apply.new.outs in
     never_nowhere e old.number old.table.domains new.domains before after old.alone c.requires
-    (subst (λ (f : Fault). IsApplied (Err f) e old.table.domains new.domains before after) c.in-Err-NoDomain.field-0-is c.in-Err-NoDomain.ensures.applied)
+    (subst (λ (f : Fault). IsApplied (Err f) e old.table.domains new.domains before after)
+    c.in-Err-NoDomain.field-0-is c.in-Err-NoDomain.ensures.applied)

@@ -17,7 +17,9 @@ returns c =
     let sent = c.args.sent.now.items in
     let more = c.send_all.new.sent.items in
     let rest = c.apply.ensures.rest in
-    let applied = subst (λ (o : Outs). InTable (IsApplied (Ok taken) e) old.table o made.table outs) c.new-outs.ensures c.in_ok-apply.ensures.applied in
+    let applied =
+    subst (λ (o : Outs). InTable (IsApplied (Ok taken) e) old.table o made.table outs) c.new-outs.ensures c.in_ok-apply.ensures.applied in
     IfOk-weaker c.send_all.result (λ _. more ≡ sent ++ packets_from made.site outs.frames) (λ _. Serves e old _ sent more)
-    (λ _ added. serves e taken old _ outs c.requires applied rest.0 rest.1 (c.in_ok-append.ensures.ok ∙ ap (λ ds. ds ++ outs.delivered) rest.2) sent more
+    (λ _ added. serves e taken old _ outs c.requires applied rest.0 rest.1
+    (c.in_ok-append.ensures.ok ∙ ap (λ ds. ds ++ outs.delivered) rest.2) sent more
     (added ∙ ap (λ s. sent ++ packets_from s outs.frames) rest.0)) c.send_all.ensures

@@ -47,5 +47,6 @@ returns-else-is_local c =
           let one : is_local e ≡ true = sym c.is_local.ensures ∙ w.if-is_local.true in
           let two : names read.number e ≡ false = sym w.names.ensures ∙ w.if-names.false in
           (λ i. one i && two i)
-      | else-is_local-via-else-is_local w ↦ (let one : is_local e ≡ false = sym c.is_local.ensures ∙ w.if-is_local.false in ap (λ b. b && names read.number e) one)
+      | else-is_local-via-else-is_local w ↦
+          (let one : is_local e ≡ false = sym c.is_local.ensures ∙ w.if-is_local.false in ap (λ b. b && names read.number e) one)
     ])

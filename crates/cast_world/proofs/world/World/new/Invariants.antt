@@ -7,4 +7,5 @@ use Rattle.cast_world.proofs.world.World.new.Given as goal
 
 -- the daemons so far
 abbrev pub invariant-loop-config : goal.invariant-loop-config
-invariant-loop-config l = (config : SiteNo → DomainConfig) → AreSolo l.configs config → AreNew config (take l.config-index l.configs) l.daemons.items
+invariant-loop-config l =
+    (config : SiteNo → DomainConfig) → AreSolo l.configs config → AreNew config (take l.config-index l.configs) l.daemons.items

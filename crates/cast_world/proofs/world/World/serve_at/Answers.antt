@@ -16,9 +16,11 @@ returns c =
     let e = c.args.event.now in
     let first = there s old.daemons.items place c.requires.named in
     let read : Daemon = c.index_mut-daemon.result.now in
-    let same : read ≡ first.daemon = c.index_mut-daemon.ensures.value ∙ get_or_from_slice_get old.daemons.items place first.daemon read first.stands in
+    let same : read ≡ first.daemon =
+    c.index_mut-daemon.ensures.value ∙ get_or_from_slice_get old.daemons.items place first.daemon read first.stands in
     IfOk-weaker c.serve.result (λ _. Serves e read c.serve.new.self old.sent.items c.serve.new.sent.items) (λ _. ServesAt s e old _)
-    (λ _ served. serves_at s place old _ c.requires.named e c.serve.new.self (subst (λ d. Serves e d c.serve.new.self old.sent.items c.serve.new.sent.items) same served) refl refl) c.serve.ensures
+    (λ _ served. serves_at s place old _ c.requires.named e c.serve.new.self
+    (subst (λ d. Serves e d c.serve.new.self old.sent.items c.serve.new.sent.items) same served) refl refl) c.serve.ensures
 
 pub serve-requires : goal.serve-requires
 serve-requires c =
@@ -27,5 +29,6 @@ serve-requires c =
     let place = c.args.place in
     let first = there s old.daemons.items place c.requires.named in
     let read : Daemon = c.index_mut-daemon.result.now in
-    let same : read ≡ first.daemon = c.index_mut-daemon.ensures.value ∙ get_or_from_slice_get old.daemons.items place first.daemon read first.stands in
+    let same : read ≡ first.daemon =
+    c.index_mut-daemon.ensures.value ∙ get_or_from_slice_get old.daemons.items place first.daemon read first.stands in
     subst (λ (d : Daemon). names d.number c.args.event.now ≡ true) (sym same) (c.requires.own first.daemon first.stands)

@@ -15,10 +15,13 @@ loop-step-preserved c =
     let steps = c.args.steps.now in
     let step : Step = c.step-item.result in
     let old : World = c.args.self.now in
-    let one : take i steps ++ step ∷ [] ≡ take (i + 1) steps = ap (λ x. take i steps ++ x ∷ []) c.step-item.is ∙ sym (take_more steps i step c.loop-step-test.true) in
-    subst (λ ss. Runs ss old c.take.new.self) one (runs_more (take i steps) step old c.loop-step.self c.take.new.self c.loop-step.invariant c.in_ok-take.ensures)
+    let one : take i steps ++ step ∷ [] ≡ take (i + 1) steps =
+    ap (λ x. take i steps ++ x ∷ []) c.step-item.is ∙ sym (take_more steps i step c.loop-step-test.true) in
+    subst (λ ss. Runs ss old c.take.new.self)
+    one (runs_more (take i steps) step old c.loop-step.self c.take.new.self c.loop-step.invariant c.in_ok-take.ensures)
 
 pub returns : goal.returns
 returns c =
     let old : World = c.args.self.now in
-    subst (λ ss. Runs ss old c.loop-step.self) (take_all c.loop-step.step-index c.args.steps.now c.loop-step-test.false) c.loop-step.invariant
+    subst (λ ss. Runs ss old c.loop-step.self) (take_all c.loop-step.step-index c.args.steps.now c.loop-step-test.false)
+    c.loop-step.invariant
