@@ -1,8 +1,9 @@
 //! One domain at one site: what it keeps, and what the rules of several events do with it.
 //!
-//! Each call does what its rule of `Calls`, or of `cast_rules`, says of the records (`made`). The
-//! lemmas say that records which stand for a history (`Fits`) still do afterwards. The rest of the
-//! code is in `cast_handlers`, `cast_rest`, `cast_commands` and, with the step, in `cast_step`.
+//! Each call does what a definition of one of the `Calls` files in `specs`, or a rule of
+//! `cast_rules`, says of the records (`made`). The lemmas say that records which stand for a
+//! history (`Fits`) still do afterwards. The rest of the code is in `cast_handlers`, `cast_rest`,
+//! `cast_commands` and, with the step, in `cast_step`.
 //!
 //! # What is proved
 //!
