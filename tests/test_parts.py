@@ -196,18 +196,16 @@ class Suspecting(unittest.TestCase):
         self.assertFalse(suspicion.hear(2, 11))
         self.assertEqual(suspicion.due(11), [])
 
-    def test_a_site_that_returns_is_suspected_again(self):
+    def test_a_suspected_site_is_suspected_again_after_each_patience(self):
         suspicion = self.heard({2: 0, 3: 10, 4: 10})
         suspicion.suspected.add(2)
         self.assertEqual(suspicion.due_again(20), [])
-        suspicion.hear(2, 20)
-        suspicion.hear(2, 25)
         suspicion.hear(3, 25)
         self.assertEqual(suspicion.due_again(29.9), [])
         self.assertEqual(suspicion.due_again(30), [2])
-        self.assertEqual(suspicion.due_again(50), [])
-        suspicion.hear(2, 51)
-        self.assertEqual(suspicion.due_again(61), [2])
+        suspicion.hear(2, 35)
+        self.assertEqual(suspicion.due_again(39.9), [])
+        self.assertEqual(suspicion.due_again(40), [2])
 
     def test_more_than_half_have_to_stay(self):
         # At time 10 those at 0 are silent, those at 9 are heard, and those at 4 may have fallen silent.

@@ -112,6 +112,12 @@ class Sites(Case):
         self.keepers[site].process.kill()
         self.keepers[site].process.wait()
 
+    def wait_until_frozen(self) -> None:
+        """Waits until the home has begun to change the view."""
+        end = time.monotonic() + PATIENCE
+        while not self.keepers[1].ask("groups 1").endswith("frozen"):
+            self.assertLess(time.monotonic(), end, "no view is changed")
+
     def assert_put_out(self, site: int, others: int) -> None:
         """A site is suspected, and the programs at the others go on in a view without it."""
         self.watches[1].wait_for_lines(f"suspect 1 {site}: ok")
@@ -201,6 +207,22 @@ class Failing(Sites):
         self.assert_stopped(2)
         self.assertEqual(self.keepers[3].ask("health"), "healthy")
 
+
+    def test_a_join_that_a_lost_site_left_behind_stops_no_view(self):
+        self.start(3)
+        # A join from site 3 waits at the home, whose flush waits for site 2.
+        os.kill(self.keepers[2].daemon(), signal.SIGSTOP)
+        late = self.session(self.setup, 3)
+        late.send(castd.Join(1))
+        self.wait_until_frozen()
+        self.lose(3)
+        self.assertEqual(self.keepers[1].ask("suspect 1 3"), "ok")
+        os.kill(self.keepers[2].daemon(), signal.SIGCONT)
+        # The home serves the join behind the view without site 3. Views go on nevertheless.
+        wait_for_view(self.programs[1], 2)
+        view = wait_for_view(self.programs[1], 3)
+        self.assertIn(3, [member.site for member in view.members])
+        self.joined(self.setup, 2, 3)
 
     def test_a_site_that_returns_before_it_is_stopped_is_put_out_again(self):
         self.start(3, links=((1, 3),))

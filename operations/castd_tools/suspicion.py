@@ -13,16 +13,13 @@ class Suspicion:
         self._first: dict[int, float] = {}
         self._heard: dict[int, float] = {}
         self._most = 1
-        # The suspected sites that were heard since they were suspected last, and when that was first.
-        self._returned: dict[int, float] = {}
+        # When each suspected site was suspected last.
+        self._said: dict[int, float] = {}
         self._is_cut_off = False
 
     def hear(self, site: int, now: float) -> bool:
         """A site was heard. Whether this was the first time."""
-        if site in self.suspected:
-            self._returned.setdefault(site, now)
-            return False
-        if site not in self._others:
+        if site in self.suspected or site not in self._others:
             return False
         is_new = site not in self._heard
         self._first.setdefault(site, now)
@@ -40,13 +37,14 @@ class Suspicion:
         )
 
     def due_again(self, now: float) -> list[int]:
-        """The suspected sites of which one or more beats came, the first of them a patience ago.
+        """The suspected sites that are to be suspected once more: each a patience after it was last. They are taken as suspected
+        from now on.
 
-        A program there may have joined again before its daemon was stopped. They are taken as suspected from now on.
+        The home may have a join from such a site that it has not served yet. It serves the join once the view without the site is
+        decided, and then waits for the site again. A program there may also have joined before its daemon was stopped.
         """
-        due = sorted(site for site, heard in self._returned.items() if now - heard >= self._patience)
-        for site in due:
-            del self._returned[site]
+        due = sorted(site for site in self.suspected if now - self._said.setdefault(site, now) >= self._patience)
+        self._said.update(dict.fromkeys(due, now))
         return due
 
     def due(self, now: float) -> list[int]:
