@@ -4,3 +4,4 @@ pub mod Lists
 pub mod Greatest
 pub mod Meanings
 pub mod Last
+pub mod Sizes

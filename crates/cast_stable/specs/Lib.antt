@@ -4,3 +4,4 @@ pub mod Witnesses
 pub mod Acks
 pub mod Fits
 pub mod Laws
+pub mod Sizes

@@ -15,6 +15,8 @@
 //!   `Counted::{insert, contains, upto, greatest}`.
 //! - The number of stable messages is the greatest that all other sites acknowledged without a gap:
 //!   `laws::stable_is_greatest`.
+//! - Each receipt, acknowledgement and news of stability adds at most two numbers to what is kept,
+//!   and the end of a view takes only away: `laws::what_is_kept_is_bounded`.
 #![tactic(auto)]
 
 mod acks;
