@@ -1,7 +1,7 @@
 ghost use Rattle.std.specs.Prelude.{◌≡◌, ◌<◌, IfOk, length, ◌≤◌, None, OnOk};
 ghost use Rattle.std.specs.Prelude.{vec_len, ◌||◌, ◌==◌, not, ◌+◌, Some};
-ghost use Rattle.cast_rules.specs.Rules.Commands.{body_of, cast, leave, cast_at, commanded};
-ghost use Rattle.cast_rules.specs.Rules.Commands.{join, join_at, pass_at, pass_token, requested};
+ghost use Rattle.cast_rules.specs.Rules.Commands.{body_of, cast, leave, cast_at, on_command};
+ghost use Rattle.cast_rules.specs.Rules.Commands.{join, join_at, pass_at, pass_token, on_request};
 ghost use Rattle.cast_domain.specs.Records.{number_of, KeepsBeside, records_in};
 ghost use Rattle.cast_domain.specs.Records.{Makes, own_records, Attempts};
 ghost use Rattle.cast_domain.specs.PartCalls.{time_of};
@@ -38,7 +38,7 @@ pub fn command(
     ensures answer { IfOk result (λ t. t ≡ answered_in (records_in domain.old lent.old)
         (event.Command (number_of domain.old) serial command.now)) }
     ensures stays { KeepsBeside domain.old lent.old domain.new lent.new }
-    ensures made { OnOk result (Makes (λ r. commanded records r serial command.now)
+    ensures made { OnOk result (Makes (λ r. on_command records r serial command.now)
         domain.old lent.old domain.new lent.new) }
 {
     if !domain.is_open(serial) {
@@ -59,7 +59,7 @@ fn serve_request(
     lent: &mut Lent<'_>,
 ) -> Result<(), NoMemory>
     ensures stays { KeepsBeside domain.old lent.old domain.new lent.new }
-    ensures made { OnOk result (Makes (λ r. requested records r serial request.now)
+    ensures made { OnOk result (Makes (λ r. on_request records r serial request.now)
         domain.old lent.old domain.new lent.new) }
 {
     match request {

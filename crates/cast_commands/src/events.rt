@@ -3,7 +3,7 @@ ghost use Rattle.cast_domain.specs.Records.{number_of, GivesBack, Keeps, KeepsBe
 ghost use Rattle.cast_domain.specs.Records.{Makes, MakesAlone, own_records, TellsAlone};
 ghost use Rattle.cast_domain.specs.Calls.{acted_in, records, answered_in};
 ghost use Rattle.cast_domain.specs.Calls.{open_in, records_sessions};
-ghost use Rattle.cast_rules.specs.Rules.Events.{may_open, opened, took};
+ghost use Rattle.cast_rules.specs.Rules.Events.{may_open, on_open, on_take};
 ghost use Rattle.cast_events.specs.declared.event.Event.TheVariants as event;
 
 use crate::sessions::is_gone;
@@ -24,7 +24,7 @@ pub fn open(domain: &mut Domain, lent: &mut Lent<'_>) -> Result<Taken, NoMemory>
         × (domain.new.halted ≡ domain.old.halted) }
     ensures back { GivesBack domain.old.config.domain lent.old lent.new }
     ensures made { OnOk result
-        (Makes (opened records records_sessions) domain.old lent.old domain.new lent.new) }
+        (Makes (on_open records records_sessions) domain.old lent.old domain.new lent.new) }
 {
     if !may_open(domain) {
         return Ok(Taken::Refused(Refusal::TooManySessions));
@@ -70,7 +70,7 @@ pub fn take(
     ensures answer { IfOk result (λ t. t ≡ answered_in (records_in domain.old lent.old)
         (event.Take (number_of domain.old) serial most)) }
     ensures stays { KeepsBeside domain.old lent.old domain.new lent.new }
-    ensures made { OnOk result (Makes (λ r. took records records_sessions r serial most)
+    ensures made { OnOk result (Makes (λ r. on_take records records_sessions r serial most)
         domain.old lent.old domain.new lent.new) }
 {
     if is_gone(domain, serial) {

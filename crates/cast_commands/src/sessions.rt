@@ -2,7 +2,7 @@ ghost use Rattle.std.specs.Prelude.{◌≡◌, ◌+◌, ◌<◌, ◌≤◌, ◌=
 ghost use Rattle.cast_events.specs.declared.session.Status.{Status};
 ghost use Rattle.cast_domain.specs.GivenSessions.{status_in};
 ghost use Rattle.cast_events.specs.Session.{is_gone_status};
-ghost use Rattle.cast_rules.specs.Rules.Events.{opened};
+ghost use Rattle.cast_rules.specs.Rules.Events.{on_open};
 
 use cast_domain::Domain;
 use cast_events::Status;

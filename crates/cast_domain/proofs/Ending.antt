@@ -31,18 +31,18 @@ use Rattle.cast_rules.specs.History.{history}
 use Rattle.cast_rules.specs.Lawful.{IsLawful, IsTyped}
 use Rattle.cast_rules.specs.Rules.Events.{is_taken, may_open}
 use Rattle.cast_rules.specs.Rules.Leaving.{Attempt, leave_group, leave_each, leave_all, end_session}
-use Rattle.cast_rules.specs.Rules.Commands.{commanded}
+use Rattle.cast_rules.specs.Rules.Commands.{on_command}
 use Rattle.cast_rules.specs.Rules.Home.{suspect}
-use Rattle.cast_rules.specs.Rules.Frames.{framed}
+use Rattle.cast_rules.specs.Rules.Frames.{on_site_frame}
 use Rattle.cast_rules.specs.Rules.Owing.{tick}
 use Rattle.cast_rules.specs.Rules.Asking.{request}
 use Rattle.cast_rules.proofs.SameLaw.{same_request}
 use Rattle.cast_rules.proofs.LawfulSteps.{lawful_going}
 use Rattle.cast_rules.proofs.Rules.Follows.{IsInvariantOfAll}
 use Rattle.cast_rules.proofs.Rules.Leaving.{left_keeps}
-use Rattle.cast_rules.proofs.Rules.Commands.{commanded_keeps}
+use Rattle.cast_rules.proofs.Rules.Commands.{on_command_keeps}
 use Rattle.cast_rules.proofs.Rules.Home.{suspect_keeps}
-use Rattle.cast_rules.proofs.Rules.Frames.{framed_keeps}
+use Rattle.cast_rules.proofs.Rules.Frames.{on_site_frame_keeps}
 use Rattle.cast_rules.proofs.Rules.Owing.{tick_keeps}
 use Rattle.cast_domain.specs.Records.{Records}
 use Rattle.cast_domain.specs.PartCalls.{local_in, go_in, take_entries_in, set_quota_in}
@@ -292,12 +292,13 @@ dismissed_acted r s e fits typed dismissed = of_event e typed
       | false ↦ dismissed
     ]
     of_event (event.Command d k c) typed =
-        still_dismissed r (commanded records r k c) (commanded_keeps records (RemainAs r) keeps r (remain_as r) k c) dismissed
+        still_dismissed r (on_command records r k c) (on_command_keeps records (RemainAs r) keeps r (remain_as r) k c) dismissed
     of_event (event.Gone d k) typed = dismissed_end r s fits dismissed k
     of_event (event.Suspect d site) typed =
         still_dismissed r (suspect records r site) (suspect_keeps records (RemainAs r) keeps r (remain_as r) site) dismissed
     of_event (event.Frame d from f) typed =
-        still_dismissed r (framed records r from f) (framed_keeps records (RemainAs r) keeps r (remain_as r) from f typed) dismissed
+        still_dismissed r (on_site_frame records r from f)
+        (on_site_frame_keeps records (RemainAs r) keeps r (remain_as r) from f typed) dismissed
     of_event (event.Quota d name value) typed =
         elim (is_in_range name value) as (λ b. AreDismissed (if b then set_quota_in r name value else r)) [
           | true ↦ dismissed

@@ -22,7 +22,7 @@ use Rattle.cast_domain.specs.Fits.{Fits}
 use Rattle.cast_domain.proofs.Standing.{fits_if}
 use Rattle.cast_domain.proofs.SessionChanges.{fits_take_entries, fits_counted, sessions_there, status_there, box_there}
 use Rattle.cast_domain.proofs.Arrivals.{fits_open}
-use Rattle.cast_domain.proofs.Framing.{fits_framed, fits_commanded, fits_suspect}
+use Rattle.cast_domain.proofs.Framing.{fits_on_site_frame, fits_on_command, fits_suspect}
 use Rattle.cast_domain.proofs.Ending.{fits_ended}
 use Rattle.cast_domain.proofs.Following.{fits_tick}
 
@@ -40,10 +40,10 @@ fits_acted r s (event.Open d) f l typed =
     fits_if (rules.may_open records records_sessions r) (rules.may_open history sessions_given s) (open_in r) r (opening_next s)
     s (may_open_same r s f)
     (λ _. fits_open r s f) (λ _. f)
-fits_acted r s (event.Command d k c) f l typed = fits_commanded r s f l k c
+fits_acted r s (event.Command d k c) f l typed = fits_on_command r s f l k c
 fits_acted r s (event.Gone d k) f l typed = fits_ended r s f l k
 fits_acted r s (event.Suspect d site) f l typed = fits_suspect r s f l site
-fits_acted r s (event.Frame d from x) f l typed = fits_framed r s f l from x typed
+fits_acted r s (event.Frame d from x) f l typed = fits_on_site_frame r s f l from x typed
 fits_acted r s (event.Quota d name value) f l typed =
     fits_if (quota.is_in_range name value) (quota.is_in_range name value) (set_quota_in r name value) r (setting_quota s name value) s refl
     (λ _. fits_counted r s f (quota.with_quota name value) (λ n. n)) (λ _. f)
@@ -57,7 +57,8 @@ fits_acted r s (event.Take d k most) f l typed =
 fits_acted r s (event.Tick t) f l typed = fits_tick r s f t
 
 -- and its answer
-pub answer_acted : (r : Records) (s : State) (e : Event) → Fits r s → rules.answered records records_sessions r e ≡ answer_of_event s e
+pub answer_acted : (r : Records) (s : State) (e : Event) → Fits r s
+    → rules.answer_to_event records records_sessions r e ≡ answer_of_event s e
 answer_acted r s (event.Open d) f =
     λ i. if may_open_same r s f i then taken.Opened ((f.core i).used + 1) else taken.Refused TooManySessions
 answer_acted r s (event.Command d k c) f =

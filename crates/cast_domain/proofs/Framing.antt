@@ -49,15 +49,15 @@ use Rattle.cast_rules.specs.Lawful.{IsLawful, IsTypedFrame}
 use Rattle.cast_rules.specs.Rules.Keys.{message_key}
 use Rattle.cast_rules.specs.Rules.Data.{counts_itself, names_member, is_well_formed}
 use Rattle.cast_rules.specs.Rules.Leaving.{leave_all}
-use Rattle.cast_rules.specs.Rules.Commands.{message_sent, commanded}
+use Rattle.cast_rules.specs.Rules.Commands.{message_sent, on_command}
 use Rattle.cast_rules.specs.Rules.Home.{suspect}
-use Rattle.cast_rules.specs.Rules.Frames.{framed}
+use Rattle.cast_rules.specs.Rules.Frames.{on_site_frame}
 use Rattle.cast_rules.proofs.Rules.Follows.{FollowsAll, AllAt, IsTaken, IsBrought, sent_here, with_invariant, invariant_asks}
 use Rattle.cast_rules.proofs.Rules.Data.{used_counts}
 use Rattle.cast_rules.proofs.Rules.Leaving.{leave_all_follows}
-use Rattle.cast_rules.proofs.Rules.Commands.{commanded_follows}
+use Rattle.cast_rules.proofs.Rules.Commands.{on_command_follows}
 use Rattle.cast_rules.proofs.Rules.Home.{suspect_follows}
-use Rattle.cast_rules.proofs.Rules.Frames.{framed_follows}
+use Rattle.cast_rules.proofs.Rules.Frames.{on_site_frame_follows}
 use Rattle.cast_rules.proofs.SameLaw.{same_pushing, same_closing}
 use Rattle.cast_rules.proofs.LawfulMessages.{local_speaks}
 use Rattle.cast_rules.proofs.LawfulSteps.{placed_at, taken_current, entered, all_lawful, lawful_going, taken_speaks}
@@ -335,9 +335,9 @@ module _ (r : Records) (s : State) (f : Fits r s) (l : IsLawful s) where
   abbrev groups : List GroupNo
   groups = s.config.groups
 
-  pub fits_commanded : (k : ℕ) (c : Command) → Fits (commanded records r k c) (commanded history s k c)
-  fits_commanded k c =
-      (commanded_follows records history (StandsIn groups) (IsAt groups) (records_follow_all groups) r s ((f, refl), l) k c).0.0
+  pub fits_on_command : (k : ℕ) (c : Command) → Fits (on_command records r k c) (on_command history s k c)
+  fits_on_command k c =
+      (on_command_follows records history (StandsIn groups) (IsAt groups) (records_follow_all groups) r s ((f, refl), l) k c).0.0
 
   pub fits_left : (k : ℕ) → Fits (leave_all records (go_in r k) k) (leave_all history (going s k) k)
   fits_left k =
@@ -348,6 +348,8 @@ module _ (r : Records) (s : State) (f : Fits r s) (l : IsLawful s) where
   fits_suspect site =
       (suspect_follows records history (StandsIn groups) (IsAt groups) (records_follow_all groups) r s ((f, refl), l) site).0.0
 
-  pub fits_framed : (from : SiteNo) (x : SiteFrame) → IsTypedFrame x → Fits (framed records r from x) (framed history s from x)
-  fits_framed from x typed =
-      (framed_follows records history (StandsIn groups) (IsAt groups) (records_follow_all groups) r s ((f, refl), l) from x typed).0.0
+  pub fits_on_site_frame : (from : SiteNo) (x : SiteFrame) → IsTypedFrame x
+      → Fits (on_site_frame records r from x) (on_site_frame history s from x)
+  fits_on_site_frame from x typed =
+      (on_site_frame_follows records history (StandsIn groups) (IsAt groups)
+      (records_follow_all groups) r s ((f, refl), l) from x typed).0.0

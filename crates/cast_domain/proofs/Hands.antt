@@ -14,7 +14,7 @@ use Rattle.cast_message.specs.Placement.{Placement}
 use Rattle.cast_order.specs.Order.{facts_of}
 use Rattle.cast_order.specs.Hand.{Hand, new_hand, note_placed, hand_in, hand_opened, hand_place, change_hand}
 use Rattle.cast_order.specs.Log.{Log, change_in, change_log, new_log, open_log, length_of}
-use Rattle.cast_order.specs.Log.{learnt, longer, settle_log, with_facts, with_hand}
+use Rattle.cast_order.specs.Log.{with_placement, longer, settle_log, with_facts, with_hand}
 use Rattle.cast_order.proofs.Hands.{KeepsProcess, change_rises, place_rises}
 use Rattle.cast_order.proofs.Logs.{KeepsGroup, change_opened}
 use Rattle.cast_domain.specs.Fits.{AreOwn}
@@ -77,8 +77,8 @@ placed_own here ids (h ∷ hands) own =
     let parts = and_parts (of_site here h) (list_all (of_site here) hands) own in
     and_from (of_site here h) (list_all (of_site here) (map (note_placed ids) hands)) parts.0 (placed_own here ids hands parts.1)
 
-pub own_learnt : (here : SiteNo) (q : Placement) (l : Log) → AreOwn here l.hands → AreOwn here (learnt q l).hands
-own_learnt here q l own =
+pub own_with_placement : (here : SiteNo) (q : Placement) (l : Log) → AreOwn here l.hands → AreOwn here (with_placement q l).hands
+own_with_placement here q l own =
     let known : Log = record l { later = with_facts (length_of l) l.later (facts_of q) } in
     let ids : List Entry = drop (length l.window) (longer known) in
     elim l.closed as (λ b. AreOwn here (if b then l else settle_log known).hands) [

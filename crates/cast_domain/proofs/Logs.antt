@@ -37,10 +37,11 @@ use Rattle.cast_types.proofs.Contains.{contains_here, contains_later}
 use Rattle.cast_order.specs.Order.{Facts, facts_of, known_order, Listing, closed_order}
 use Rattle.cast_order.specs.Hand.{Hand, note_placed, hold_from, new_hand, FitsHand}
 use Rattle.cast_order.specs.Log.{Log, length_of, new_log, log_of, but_log, change_log, closed_by}
-use Rattle.cast_order.specs.Log.{with_facts, settle_log, learnt, place_of, hand_here, with_hand}
+use Rattle.cast_order.specs.Log.{with_facts, settle_log, with_placement, place_of, hand_here, with_hand}
 use Rattle.cast_order.specs.Fits.{Fits as OrderFits}
 use Rattle.cast_order.specs.Fits.{FitsClosed}
-use Rattle.cast_order.proofs.Meanings.{new_fits as order_new_fits, learnt_group, learn_fits, learn_begins, hand_fits, more_fits, at_start}
+use Rattle.cast_order.proofs.Meanings.{new_fits as order_new_fits, with_placement_group, learn_fits, learn_begins, hand_fits, more_fits}
+use Rattle.cast_order.proofs.Meanings.{at_start}
 use Rattle.cast_order.proofs.Closed.{close_fits, closed_learns, closed_more}
 use Rattle.cast_order.proofs.Hands.{place_fits, hand_of_change, learnt_each}
 use Rattle.cast_order.proofs.Logs.{log_of_change, log_of_forget}
@@ -59,7 +60,7 @@ use Rattle.cast_domain.specs.PartCalls.{learn_in}
 use Rattle.cast_domain.specs.ViewCalls.{holding_from}
 use Rattle.cast_rules.specs.Lawful.{IsOfReached, IsTraced}
 use Rattle.cast_domain.specs.Fits.{process_named, settled_of, goes_on, has_passed, IsOver, TellsHand, TellsOrder, AreOwn, LogFits}
-use Rattle.cast_domain.proofs.Hands.{own_changed, own_learnt}
+use Rattle.cast_domain.proofs.Hands.{own_changed, own_with_placement}
 use Rattle.cast_domain.proofs.Over.{StaysOver, all_stay, over_alike, none_over, over_received, some_forgotten}
 
 -- Parts of a history that the order of a view is made of
@@ -315,8 +316,8 @@ log_silent s g m l silent new f = record {
 }
 
 -- nothing of an order is forgotten as one is learnt
-pub learnt_base : (q : Placement) (l : Log) → (learnt q l).base ≡ l.base
-learnt_base q l =
+pub with_placement_base : (q : Placement) (l : Log) → (with_placement q l).base ≡ l.base
+with_placement_base q l =
     elim l.closed as (λ b. (if b then l else settle_log (record l { later = with_facts (length_of l) l.later (facts_of q) })).base
     ≡ l.base) [ true ↦ refl | false ↦ refl ]
 
@@ -324,22 +325,22 @@ learnt_base q l =
 pub gone_learnt : (s : State) (m : Message) (q : Placement) (l : Log) →
     OrderFits (facts_in s m.id.group) (goes_on s m.id.group) (has_passed s m.id.group) l →
     ((e : Entry) → is_among entry_eq e (take l.base (order_told s m.id.group)) ≡ true → IsOver (receiving s m) m.id.group e) → (e : Entry) →
-    is_among entry_eq e (take (learnt q l).base (known_order (facts_in s m.id.group ++ facts_of q))) ≡ true →
+    is_among entry_eq e (take (with_placement q l).base (known_order (facts_in s m.id.group ++ facts_of q))) ≡ true →
     IsOver (receiving s m) m.id.group e
 gone_learnt s m q l fits gone e among =
     let g : GroupNo = m.id.group in
     let begins = learn_begins (facts_in s g) (goes_on s g) (has_passed s g) l fits q in
-    gone e (sym (ap (λ n. is_among entry_eq e (take n (known_order (facts_in s g ++ facts_of q)))) (learnt_base q l)
+    gone e (sym (ap (λ n. is_among entry_eq e (take n (known_order (facts_in s g ++ facts_of q)))) (with_placement_base q l)
     ∙ ap (is_among entry_eq e) begins) ∙ among)
 
 -- a set-order message
 tells_learns : (s : State) (m : Message) (q : Placement) (l : Log) → m.body ≡ body.Order q → is_of_view s m.id.group m.id ≡ true →
-    IsNew s m.id.group l m → TellsOrder s m.id.group l → TellsOrder (receiving s m) m.id.group (learnt q l)
+    IsNew s m.id.group l m → TellsOrder s m.id.group l → TellsOrder (receiving s m) m.id.group (with_placement q l)
 tells_learns s m q l is current new f =
     let g : GroupNo = m.id.group in
     let at : facts_in (receiving s m) g ≡ facts_in s g ++ facts_of q = facts_push s g m current ∙ ap (λ b. facts_in s g ++ told_by b) is in
     let (ids, grown, each) = learnt_each (facts_in s g) (goes_on s g) (has_passed s g) l f.fits q in
-    tells_made (receiving s m) g (learnt q l) (facts_in s g ++ facts_of q) at
+    tells_made (receiving s m) g (with_placement q l) (facts_in s g ++ facts_of q) at
     (learn_fits (facts_in s g) (goes_on s g) (has_passed s g) l f.fits q)
     (λ k.
     let h : Hand = hand_here l (local s k) in
@@ -353,7 +354,7 @@ tells_learns s m q l is current new f =
 
 -- which processes hold the token is the same
 tokens_learn : (s : State) (m : Message) (q : Placement) (l : Log) → LogFits s m.id.group l → (k : ℕ) →
-    (hand_here (learnt q l) (local s k)).first ≡ token_of s m.id.group k
+    (hand_here (with_placement q l) (local s k)).first ≡ token_of s m.id.group k
 tokens_learn s m q l f k = elim (cases_Bool (is_pending (s.group g))) [
   | inl waits ↦
       ap (λ x. (hand_here x (local s k)).first) (closed_learns (s.closed g) (goes_on s g) (has_passed s g) l (f.closed waits) q)
@@ -369,7 +370,8 @@ tokens_learn s m q l f k = elim (cases_Bool (is_pending (s.group g))) [
 -- one that is closed stays
 closed_stays : (s : State) (m : Message) (q : Placement) (l : Log) →
     FitsClosed (s.closed m.id.group) (goes_on s m.id.group) (has_passed s m.id.group) l →
-    FitsClosed ((receiving s m).closed m.id.group) (goes_on (receiving s m) m.id.group) (has_passed (receiving s m) m.id.group) (learnt q l)
+    FitsClosed ((receiving s m).closed m.id.group) (goes_on (receiving s m) m.id.group) (has_passed (receiving s m) m.id.group)
+    (with_placement q l)
 closed_stays s m q l f =
     let g : GroupNo = m.id.group in
     subst (λ x. FitsClosed (s.closed g) (goes_on s g) (has_passed s g) x)
@@ -377,10 +379,10 @@ closed_stays s m q l f =
 
 log_learns : (s : State) (m : Message) (q : Placement) (l : Log) → m.body ≡ body.Order q → is_of_view s m.id.group m.id ≡ true →
     (is_pending (s.group m.id.group) ≡ false → IsNew s m.id.group l m) → LogFits s m.id.group l →
-    LogFits (receiving s m) m.id.group (learnt q l)
+    LogFits (receiving s m) m.id.group (with_placement q l)
 log_learns s m q l is current new f = record {
   tokens = tokens_learn s m q l f;
-  own = own_learnt s.here q l f.own;
+  own = own_with_placement s.here q l f.own;
   tells = λ none. tells_learns s m q l is current (new none) (f.tells none);
   closed = λ waits. closed_stays s m q l (f.closed waits);
 }
@@ -405,14 +407,16 @@ logs_receive s m orders fits current new h = at m.body refl
     at (body.Causal payload) is = log_silent s h m (log_of orders h) (ap told_by is) new_here (fits h)
     at (body.Atomic payload) is = log_silent s h m (log_of orders h) (ap told_by is) new_here (fits h)
     at (body.Order q) is =
-        subst (LogFits (receiving s m) h) (sym (log_of_change orders m.id.group h (learnt q) (learnt_group q)))
+        subst (LogFits (receiving s m) h) (sym (log_of_change orders m.id.group h (with_placement q) (with_placement_group q)))
         (elim (cases_Bool (group_eq m.id.group h)) [
           | inl same ↦
-              subst (LogFits (receiving s m) h) (sym (ap (λ b. if b then learnt q (log_of orders m.id.group) else log_of orders h) same))
-              (subst (λ x. LogFits (receiving s m) x (learnt q (log_of orders m.id.group))) (same_group m.id.group h same)
+              subst (LogFits (receiving s m) h)
+              (sym (ap (λ b. if b then with_placement q (log_of orders m.id.group) else log_of orders h) same))
+              (subst (λ x. LogFits (receiving s m) x (with_placement q (log_of orders m.id.group))) (same_group m.id.group h same)
               (log_learns s m q (log_of orders m.id.group) is now new (fits m.id.group)))
           | inr apart ↦
-              subst (LogFits (receiving s m) h) (sym (ap (λ b. if b then learnt q (log_of orders m.id.group) else log_of orders h) apart))
+              subst (LogFits (receiving s m) h)
+              (sym (ap (λ b. if b then with_placement q (log_of orders m.id.group) else log_of orders h) apart))
               (log_apart s h m (log_of orders h) (other_group s h m apart) (fits h))
         ])
 

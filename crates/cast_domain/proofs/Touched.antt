@@ -37,7 +37,7 @@ use Rattle.cast_rules.specs.Rules.Owing.{frame_for, send_for, owe}
 use Rattle.cast_rules.specs.Rules.Room.{may_take}
 use Rattle.cast_rules.specs.Rules.Data.{is_used, is_outdated, acknowledge, want_no_more, use_data, on_data}
 use Rattle.cast_rules.specs.Rules.Stability.{is_used_ack, with_ack, tell_stable, tell_more, on_ack, on_stable}
-use Rattle.cast_rules.specs.Rules.Frames.{framed, group_of, on_frame}
+use Rattle.cast_rules.specs.Rules.Frames.{on_site_frame, group_of, on_frame}
 use Rattle.cast_domain.specs.GivenSessions.{status_in}
 use Rattle.cast_domain.specs.Records.{Records}
 use Rattle.cast_domain.specs.PartCalls.{place_in, record_at, send_in, note_owed_in, pay_upto_in, note_ack_in}
@@ -196,7 +196,7 @@ module _ (m : Message) where
 -- a frame changes what its rule changes, where its group is configured
 module _ (holds : Records → Type 0) where
   framed_only : (r : Records) → holds r → (from : SiteNo) (f : SiteFrame) → ((i : ℕ) → holds (on_frame records r i from f)) →
-      holds (framed records r from f)
+      holds (on_site_frame records r from f)
   framed_only r h from f on =
       elim (is_among site_eq from r.config.sites)
       as (λ b. holds (if b then option_map_or (λ i. on_frame records r i from f) (place_in r (group_of f)) r else r)) [

@@ -18,7 +18,7 @@ use Rattle.cast_domain.specs.GivenSessions.{status_in}
 use Rattle.cast_domain.specs.Shared.{part_boxing}
 use Rattle.cast_rules.specs.Rules.Interface.{Site, Sessions}
 use Rattle.cast_rules.specs.Rules.Leaving.{end_session}
-use Rattle.cast_rules.specs.Rules.Events.{acted, answered}
+use Rattle.cast_rules.specs.Rules.Events.{on_event, answer_to_event}
 use Rattle.cast_rules.specs.Rules.Home.{on_flushed}
 use Rattle.cast_rules.specs.Rules.Views.{on_install}
 use Rattle.cast_rules.specs.Rules.Flushes.{complete}
@@ -134,11 +134,11 @@ end_in r k =
 -- dismissed
 abbrev pub acted_in : Records → Event → Records
 acted_in r (Gone d k) = end_in r k
-acted_in r e = acted records records_sessions r e
+acted_in r e = on_event records records_sessions r e
 
 -- and what it is answered
 abbrev pub answered_in : Records → Event → Taken
-answered_in r e = answered records records_sessions r e
+answered_in r e = answer_to_event records records_sessions r e
 
 -- Rules of what has many parts, by these
 

@@ -37,7 +37,7 @@ use Rattle.cast_ready.specs.declared.row.ProcessUpdate.{ProcessUpdate}
 use Rattle.cast_ready.specs.declared.row.ProcessUpdate.TheVariants as fact
 use Rattle.cast_delay.specs.Queue.{Queue, row_of, change_row, delivered_in}
 use Rattle.cast_order.specs.Hand.{Hand, hand_over, note_order_sent}
-use Rattle.cast_order.specs.Log.{Log, change_log, learnt, with_hand}
+use Rattle.cast_order.specs.Log.{Log, change_log, with_placement, with_hand}
 use Rattle.cast_stable.specs.Acks.{others_in, upto_in, received_ledger, acked_ledger, learnt_ledger}
 use Rattle.cast_timer.specs.declared.key.OwedKey.{OwedKey}
 use Rattle.cast_domain.specs.declared.record.GroupRecord.{GroupRecord}
@@ -185,7 +185,7 @@ note_stable_in r u = record r { acks = learnt_ledger r.acks u }
 abbrev pub learn_in : List Log → GroupNo → Body → List Log
 learn_in orders g (body.Causal payload) = orders
 learn_in orders g (body.Atomic payload) = orders
-learn_in orders g (body.Order s) = change_log g (learnt s) orders
+learn_in orders g (body.Order s) = change_log g (with_placement s) orders
 
 abbrev pub receive_in : Records → Message → Records
 receive_in r m =

@@ -1,5 +1,5 @@
 ghost use Rattle.std.specs.Prelude.{◌≡◌, ◌<◌, OnOk, vec_len, not, Some};
-ghost use Rattle.cast_rules.specs.Rules.Frames.{group_of, framed, on_frame};
+ghost use Rattle.cast_rules.specs.Rules.Frames.{group_of, on_site_frame, on_frame};
 ghost use Rattle.cast_domain.specs.Records.{KeepsBeside, Makes};
 ghost use Rattle.cast_domain.specs.Calls.{records};
 ghost use Rattle.cast_types.specs.Sets.{is_among};
@@ -27,7 +27,8 @@ pub fn on_frame(
 ) -> Result<(), NoMemory>
     ensures stays { KeepsBeside domain.old lent.old domain.new lent.new }
     ensures made { OnOk result
-        (Makes (λ r. framed records r from frame.now) domain.old lent.old domain.new lent.new) }
+        (Makes (λ r. on_site_frame records r from frame.now)
+        domain.old lent.old domain.new lent.new) }
 {
     if !is_among(from, domain.config.sites.as_slice()) {
         return Ok(());

@@ -21,7 +21,7 @@ use Rattle.cast_types.proofs.Orders.{proc_total, proc_exact, tie_same}
 use Rattle.cast_message.specs.Placement.{Placement}
 use Rattle.cast_order.specs.Order.{Facts, facts_of, id_at, order_from, known_order, ids_to_list, tail_start, next_of}
 use Rattle.cast_order.specs.Log.{Log, length_of, with_facts, place_of, next_in, pass_ids}
-use Rattle.cast_order.specs.Log.{settle_log, learnt, waiting_of, tail_start_in, forgot}
+use Rattle.cast_order.specs.Log.{settle_log, with_placement, waiting_of, tail_start_in, forgot}
 use Rattle.cast_order.specs.Fits.{Fits}
 use Rattle.cast_order.specs.Laws.{NewFits, LearnKeepsMeaning, HandKeepsMeaning, PassKeepsMeaning, MoreKeepsMeaning}
 use Rattle.cast_order.specs.Laws.{ForgetKeepsMeaning, AreOldest, OldestMayBeForgotten, NextIsTheRule}
@@ -43,12 +43,12 @@ new_fits g goes_on has_passed = record {
 abbrev pub taken_in : Placement → Log → Log
 taken_in s l = settle_log (record l { later = with_facts (length_of l) l.later (facts_of s) })
 
-pub learnt_open : (s : Placement) (l : Log) → l.closed ≡ false → learnt s l ≡ taken_in s l
-learnt_open s l still = ap (λ b. if b then l else taken_in s l) still
+pub with_placement_open : (s : Placement) (l : Log) → l.closed ≡ false → with_placement s l ≡ taken_in s l
+with_placement_open s l still = ap (λ b. if b then l else taken_in s l) still
 
 -- the group of a log that learns stays
-pub learnt_group : (s : Placement) (l : Log) → (learnt s l).group ≡ l.group
-learnt_group s l = elim l.closed as (λ b. (if b then l else taken_in s l).group ≡ l.group) [ true ↦ refl | false ↦ refl ]
+pub with_placement_group : (s : Placement) (l : Log) → (with_placement s l).group ≡ l.group
+with_placement_group s l = elim l.closed as (λ b. (if b then l else taken_in s l).group ≡ l.group) [ true ↦ refl | false ↦ refl ]
 
 -- Ids that are forgotten
 
@@ -144,7 +144,7 @@ take_in_fits facts goes_on has_passed l fits s =
 
 pub learn_fits : LearnKeepsMeaning
 learn_fits facts goes_on has_passed l fits s =
-    subst (Fits (facts ++ facts_of s) goes_on has_passed) (sym (learnt_open s l fits.still_open))
+    subst (Fits (facts ++ facts_of s) goes_on has_passed) (sym (with_placement_open s l fits.still_open))
     (take_in_fits facts goes_on has_passed l fits s)
 
 pub hand_fits : HandKeepsMeaning

@@ -17,7 +17,7 @@ use Rattle.cast_order.specs.Hand.{Hand, new_hand, hold_from, hand_over, note_unl
 use Rattle.cast_order.specs.Hand.{note_placed, note_order_sent, settled_by, hand_of}
 use Rattle.cast_order.specs.Hand.{change_hand, hands_rise, FitsHand}
 use Rattle.cast_order.specs.Log.{Log, new_log, length_of, log_of, change_in, change_log}
-use Rattle.cast_order.specs.Log.{but_log, learnt, next_in, pass_ids, hand_here, with_hand}
+use Rattle.cast_order.specs.Log.{but_log, with_placement, next_in, pass_ids, hand_here, with_hand}
 use Rattle.cast_order.specs.Log.{next_places, known_past, waiting_of, whole_kept}
 use Rattle.cast_order.specs.Log.{tail_start_in, tail_ids_in, closed_by, oldest_in, forgot}
 use Rattle.cast_order.specs.Fits.{Fits, FitsClosed}
@@ -33,7 +33,7 @@ abbrev pub LearnKeepsMeaning : Type 0
 LearnKeepsMeaning =
     (facts : Facts) (goes_on : Proc → Bool) (has_passed : Proc → Entry → Bool) (l : Log)
     → Fits facts goes_on has_passed l → (s : Placement)
-    → Fits (facts ++ facts_of s) goes_on has_passed (learnt s l)
+    → Fits (facts ++ facts_of s) goes_on has_passed (with_placement s l)
 
 -- what a process does that orders the view's ABCASTs
 abbrev pub HandKeepsMeaning : Type 0
@@ -227,7 +227,7 @@ LearntIsOfAll =
     → Fits facts goes_on has_passed l → (s : Placement)
     → (ids : List Entry)
     × (known_order (facts ++ facts_of s) ≡ known_order facts ++ ids)
-    × ((p : Proc) → hand_here (learnt s l) p ≡ note_placed ids (hand_here l p))
+    × ((p : Proc) → hand_here (with_placement s l) p ≡ note_placed ids (hand_here l p))
 
 -- the end of the order is told
 abbrev pub CloseEndsTheOrder : Type 0
@@ -242,7 +242,7 @@ abbrev pub ClosedLearnsNothing : Type 0
 ClosedLearnsNothing =
     (order : List Entry) (goes_on : Proc → Bool) (has_passed : Proc → Entry → Bool) (l : Log)
     → FitsClosed order goes_on has_passed l → (s : Placement)
-    → learnt s l ≡ l
+    → with_placement s l ≡ l
 
 -- a process delivered each of the next n ids of a closed order
 abbrev pub PassKeepsClosed : Type 0

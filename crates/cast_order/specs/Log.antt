@@ -103,8 +103,8 @@ settle_log l =
     }
 
 -- a set-order message is taken in, unless the order is closed
-abbrev pub learnt : Placement → Log → Log
-learnt s l =
+abbrev pub with_placement : Placement → Log → Log
+with_placement s l =
     if l.closed then l
     else settle_log (record l { later = with_facts (length_of l) l.later (facts_of s) })
 

@@ -7,7 +7,8 @@ ghost use Rattle.cast_order.specs.Order.{id_at};
 ghost use Rattle.cast_order.specs.Hand.{hold_from, hand_over, note_unlisted};
 ghost use Rattle.cast_order.specs.Hand.{note_order_sent, settled_by};
 ghost use Rattle.cast_order.specs.Log.{is_long, length_of, new_log, oldest_in, with_fact};
-ghost use Rattle.cast_order.specs.Log.{with_facts, with_next, past, settle_log, learnt, place_of};
+ghost use Rattle.cast_order.specs.Log.{with_facts, with_next, past, settle_log, place_of};
+ghost use Rattle.cast_order.specs.Log.{with_placement};
 ghost use Rattle.cast_order.specs.Log.{next_in, pass_ids, hand_here, with_hand, waits_in};
 ghost use Rattle.cast_order.specs.Log.{next_places, places_by, known_past, waiting_of};
 ghost use Rattle.cast_order.specs.Log.{whole_kept, tail_start_in, tail_ids_in, closed_by, forgot};
@@ -85,7 +86,7 @@ impl OrderLog {
 
     /// Takes in what a set-order message tells, unless the order is closed.
     pub fn learn(&mut self, placement: &Placement) -> Result<(), NoMemory>
-        ensures { OnOk result (self.new ≡ learnt placement.now self.old) }
+        ensures { OnOk result (self.new ≡ with_placement placement.now self.old) }
     {
         if self.closed {
             return Ok(());

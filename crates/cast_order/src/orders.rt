@@ -7,7 +7,8 @@ ghost use Rattle.cast_types.specs.Sets.{is_among};
 ghost use Rattle.cast_order.specs.Hand.{hold_from, hand_over, note_unlisted};
 ghost use Rattle.cast_order.specs.Hand.{note_order_sent, settled_by};
 ghost use Rattle.cast_order.specs.Log.{is_long, length_of, log_of, change_in, open_log};
-ghost use Rattle.cast_order.specs.Log.{change_log, but_log, learnt, next_in, pass_ids, hand_here};
+ghost use Rattle.cast_order.specs.Log.{change_log, but_log, next_in, pass_ids, hand_here};
+ghost use Rattle.cast_order.specs.Log.{with_placement};
 ghost use Rattle.cast_order.specs.Log.{with_hand, waits_in, next_places, known_past, whole_kept};
 ghost use Rattle.cast_order.specs.Log.{tail_start_in, tail_ids_in, closed_by, oldest_in, forgot};
 
@@ -58,7 +59,8 @@ impl Orders {
     /// all calls.
     #[tactic(auto, using(crate::proofs::Logs::change_opened))]
     pub fn learn(&mut self, group: GroupNo, placement: &Placement) -> Result<(), NoMemory>
-        ensures { OnOk result (self.new ≡ change_log group (learnt placement.now) self.old) }
+        ensures { OnOk result
+            (self.new ≡ change_log group (with_placement placement.now) self.old) }
     {
         open_in(&mut self.logs, group)?;
         learn_in(&mut self.logs, group, placement)?;
@@ -363,7 +365,8 @@ fn open_in(logs: &mut Vec<OrderLog>, group: GroupNo) -> Result<(), NoMemory>
 
 // Each log of the group takes in a set-order message.
 fn learn_in(logs: &mut Vec<OrderLog>, group: GroupNo, placement: &Placement) -> Result<(), NoMemory>
-    ensures { OnOk result (logs.new.items ≡ change_in group (learnt placement.now) logs.old.items) }
+    ensures { OnOk result
+        (logs.new.items ≡ change_in group (with_placement placement.now) logs.old.items) }
 {
     for log in logs.iter_mut() {
         if log.group == group {

@@ -62,11 +62,11 @@ use Rattle.cast_rules.proofs.Spots.{found_passes}
 use Rattle.cast_rules.specs.History.{history}
 use Rattle.cast_rules.proofs.Rules.Follows.{IsTaken, IsBrought, IsEntered, IsInvariantOfAll}
 use Rattle.cast_rules.proofs.Rules.Data.{used_current, used_of_member}
-use Rattle.cast_rules.proofs.Rules.Commands.{commanded_keeps}
+use Rattle.cast_rules.proofs.Rules.Commands.{on_command_keeps}
 use Rattle.cast_rules.proofs.Rules.Leaving.{ended_keeps}
 use Rattle.cast_rules.proofs.Rules.Rest.{told_if_keeps}
 use Rattle.cast_rules.proofs.Rules.Home.{start_keeps, want_bodies_keeps, decide_keeps, lead_keeps, suspect_keeps}
-use Rattle.cast_rules.proofs.Rules.Frames.{framed_keeps}
+use Rattle.cast_rules.proofs.Rules.Frames.{on_site_frame_keeps}
 use Rattle.cast_rules.proofs.Rules.Flushes.{wanted_current, wanted_of_member, go_on_keeps}
 use Rattle.cast_rules.proofs.Alikes.{alike_installing}
 use Rattle.cast_rules.proofs.Lawful.{same_acted, kept_map, lawful_if, lawful_fold}
@@ -219,10 +219,10 @@ lawful_acted s (event.Open d) l unborn typed =
       | true ↦ lawful_opened s l unborn
       | false ↦ l
     ]
-lawful_acted s (event.Command d k c) l unborn typed = commanded_keeps history IsLawful all_lawful s l k c
+lawful_acted s (event.Command d k c) l unborn typed = on_command_keeps history IsLawful all_lawful s l k c
 lawful_acted s (event.Gone d k) l unborn typed = ended_keeps history IsLawful all_lawful s l k (lawful_going s k l)
 lawful_acted s (event.Suspect d site) l unborn typed = suspect_keeps history IsLawful all_lawful s l site
-lawful_acted s (event.Frame d from f) l unborn typed = framed_keeps history IsLawful all_lawful s l from f typed
+lawful_acted s (event.Frame d from f) l unborn typed = on_site_frame_keeps history IsLawful all_lawful s l from f typed
 lawful_acted s (event.Quota d name value) l unborn typed =
     lawful_if (setting_quota s name value) s (is_in_range name value) (λ _. lawful_same s _ (same_setting s name value) l) (λ _. l)
 lawful_acted s (event.Take d k most) l unborn typed =

@@ -58,10 +58,10 @@ use Rattle.cast_rules.proofs.Setting.{may_set_order, set_order_is}
 use Rattle.cast_rules.proofs.Rules.Follows.{IsInvariant, IsInvariantOfAll}
 use Rattle.cast_rules.proofs.Rules.Sending.{send_data_keeps}
 use Rattle.cast_rules.proofs.Rules.Owing.{owe_keeps, tick_keeps}
-use Rattle.cast_rules.proofs.Rules.Commands.{commanded_keeps}
+use Rattle.cast_rules.proofs.Rules.Commands.{on_command_keeps}
 use Rattle.cast_rules.proofs.Rules.Leaving.{told_keeps, ended_keeps}
 use Rattle.cast_rules.proofs.Rules.Rest.{told_if_keeps}
-use Rattle.cast_rules.proofs.Rules.Frames.{framed_keeps}
+use Rattle.cast_rules.proofs.Rules.Frames.{on_site_frame_keeps}
 use Rattle.cast_rules.proofs.Rules.Home.{start_keeps, want_bodies_keeps, decide_keeps, suspect_keeps}
 
 -- What acts say, one after another
@@ -355,11 +355,11 @@ noted_acted s (event.Open d) n typed = elim (may_open history sessions_given s) 
   | true ↦ record { sent = n.sent; delivered = n.delivered; abcasts = n.abcasts }
   | false ↦ n
 ]
-noted_acted s (event.Command d k c) n typed = commanded_keeps history IsNoted all_noted s n k c
+noted_acted s (event.Command d k c) n typed = on_command_keeps history IsNoted all_noted s n k c
 noted_acted s (event.Gone d k) n typed =
     ended_keeps history IsNoted all_noted s n k (record { sent = n.sent; delivered = n.delivered; abcasts = n.abcasts })
 noted_acted s (event.Suspect d site) n typed = suspect_keeps history IsNoted all_noted s n site
-noted_acted s (event.Frame d from f) n typed = framed_keeps history IsNoted all_noted s n from f typed
+noted_acted s (event.Frame d from f) n typed = on_site_frame_keeps history IsNoted all_noted s n from f typed
 noted_acted s (event.Quota d name value) n typed =
     elim (is_in_range name value) as (λ b. IsNoted (if b then setting_quota s name value else s)) [
       | true ↦ record { sent = n.sent; delivered = n.delivered; abcasts = n.abcasts }

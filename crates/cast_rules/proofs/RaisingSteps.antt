@@ -54,11 +54,11 @@ use Rattle.cast_rules.proofs.Spots.{found_passes}
 use Rattle.cast_rules.proofs.Rules.Follows.{IsTaken, IsBrought, IsInvariantOfAll}
 use Rattle.cast_rules.proofs.Rules.Data.{used_known, used_of_member}
 use Rattle.cast_rules.proofs.Rules.Flushes.{wanted_known, go_on_keeps}
-use Rattle.cast_rules.proofs.Rules.Commands.{commanded_keeps}
+use Rattle.cast_rules.proofs.Rules.Commands.{on_command_keeps}
 use Rattle.cast_rules.proofs.Rules.Leaving.{ended_keeps}
 use Rattle.cast_rules.proofs.Rules.Rest.{told_if_keeps}
 use Rattle.cast_rules.proofs.Rules.Home.{suspect_keeps}
-use Rattle.cast_rules.proofs.Rules.Frames.{framed_keeps}
+use Rattle.cast_rules.proofs.Rules.Frames.{on_site_frame_keeps}
 use Rattle.cast_rules.proofs.Lawful.{lawful_opening, lawful_before}
 use Rattle.cast_rules.proofs.SameLaw.{same_home, same_group_set, same_freezing, same_pending, same_acts, same_closing, same_going}
 use Rattle.cast_rules.proofs.SameLaw.{same_taking, same_setting, same_counting, invariant_by_same, lawful_same, same_pushing}
@@ -175,11 +175,11 @@ counts_acted s (event.Open d) l c typed =
       | true ↦ counts_opened s c
       | false ↦ c
     ]
-counts_acted s (event.Command d k x) l c typed = (commanded_keeps history IsCounted all_counted s (l, c) k x).1
+counts_acted s (event.Command d k x) l c typed = (on_command_keeps history IsCounted all_counted s (l, c) k x).1
 counts_acted s (event.Gone d k) l c typed =
     (ended_keeps history IsCounted all_counted s (l, c) k (lawful_going s k l, counts_same s _ (same_going s k) c)).1
 counts_acted s (event.Suspect d site) l c typed = (suspect_keeps history IsCounted all_counted s (l, c) site).1
-counts_acted s (event.Frame d from f) l c typed = (framed_keeps history IsCounted all_counted s (l, c) from f typed).1
+counts_acted s (event.Frame d from f) l c typed = (on_site_frame_keeps history IsCounted all_counted s (l, c) from f typed).1
 counts_acted s (event.Quota d name value) l c typed =
     counts_if (setting_quota s name value) s (is_in_range name value) (λ _. counts_same s _ (same_setting s name value) c) (λ _. c)
 counts_acted s (event.Take d k most) l c typed =

@@ -32,7 +32,7 @@ use Rattle.cast_rules.specs.Rules.Sending.{may_raise}
 use Rattle.cast_rules.specs.Rules.Asking.{request}
 use Rattle.cast_rules.specs.Rules.Leaving.{Attempt, leave_at, leave_group, leave_all, close_session, named_here, tell}
 use Rattle.cast_rules.specs.Rules.Commands.{join_at, join, leave, cast_at, cast, body_of, body_handing, hand_over}
-use Rattle.cast_rules.specs.Rules.Commands.{pass_at, pass_token, message_sent, send_own, reply, requested}
+use Rattle.cast_rules.specs.Rules.Commands.{pass_at, pass_token, message_sent, send_own, reply, on_request}
 use Rattle.cast_rules.specs.Rules.Events.{is_taken, may_open}
 use Rattle.cast_rules.specs.Refusing.{RefusedLeaves, RefusedReplies}
 
@@ -121,16 +121,16 @@ module _ {S H : Type 0} (d : Site S H) (s : S) (k : ℕ) where
 
 pub replies_alone : RefusedReplies
 replies_alone s e k (Join tag g) refusal opened is =
-    ap (λ b. if b then requested history s k (Join tag g) else s) opened
+    ap (λ b. if b then on_request history s k (Join tag g) else s) opened
     ∙ replied history s k (join history s k g) tag refusal (join_kept history s k g) is
 replies_alone s e k (Leave tag g) refusal opened is =
-    ap (λ b. if b then requested history s k (Leave tag g) else s) opened
+    ap (λ b. if b then on_request history s k (Leave tag g) else s) opened
     ∙ replied history s k (leave history s k g) tag refusal (leave_kept history s k g) is
 replies_alone s e k (Cast tag g kind payload) refusal opened is =
-    ap (λ b. if b then requested history s k (Cast tag g kind payload) else s) opened
+    ap (λ b. if b then on_request history s k (Cast tag g kind payload) else s) opened
     ∙ replied history s k (cast history s k g kind payload) tag refusal (cast_kept history s k g kind payload) is
 replies_alone s e k (Pass tag g to) refusal opened is =
-    ap (λ b. if b then requested history s k (Pass tag g to) else s) opened
+    ap (λ b. if b then on_request history s k (Pass tag g to) else s) opened
     ∙ replied history s k (pass_token history s k g to) tag refusal (pass_kept history s k g to) is
 
 -- what an answer is that is no refusal
@@ -162,7 +162,7 @@ pub refused_leaves : RefusedLeaves
 refused_leaves s (event.Open e) refusal is =
     left_if s (opening_next s) (may_open history sessions_given s) (taken.Opened (s.used + 1)) TooManySessions (λ r same. cc) refusal is
 refused_leaves s (event.Command e k (command.Request q)) refusal is =
-    left_if s (requested history s k q) (is_open (s.session k)) taken.Nothing NotOpen nothing_done refusal is
+    left_if s (on_request history s k q) (is_open (s.session k)) taken.Nothing NotOpen nothing_done refusal is
 refused_leaves s (event.Command e k command.Bad) refusal is =
     left_if s (close_session history s k BadFrame) (is_open (s.session k)) taken.Nothing NotOpen nothing_done refusal is
 refused_leaves s (event.Gone e k) refusal is =

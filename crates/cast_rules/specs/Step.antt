@@ -27,7 +27,7 @@ sessions_given = record {
 }
 
 abbrev pub act_of_event : State → Event → State
-act_of_event = rules.acted history sessions_given
+act_of_event = rules.on_event history sessions_given
 
 abbrev pub answer_of_event : State → Event → Taken
-answer_of_event = rules.answered history sessions_given
+answer_of_event = rules.answer_to_event history sessions_given

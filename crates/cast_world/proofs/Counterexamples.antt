@@ -51,7 +51,7 @@ use Rattle.cast_world.specs.declared.step.Step.{Step}
 -- Steps of a network whose daemons go by these rules
 module _ (d : Site State GroupNo) (q : Resting State GroupNo) where
   abbrev step_by : State → Event → State
-  step_by s e = iterate 3 (rest.pass d q) (release.let_go d q (events.acted d sessions_given (before_event s) e))
+  step_by s e = iterate 3 (rest.pass d q) (release.let_go d q (events.on_event d sessions_given (before_event s) e))
 
   abbrev happens_by : Network → Step → Network
   happens_by w step = elim (event_of w step) [ Some e ↦ move_site w step.site (step_by (w.at step.site) e) | None ↦ w ]

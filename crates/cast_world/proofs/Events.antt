@@ -49,7 +49,7 @@ use Rattle.cast_view.specs.declared.member.Pending.{Pending}
 use Rattle.cast_world.proofs.Acts.{contains_here}
 use Rattle.cast_world.proofs.Allowed.{among_of, contains_more, passed, taken_of}
 use Rattle.cast_world.proofs.Entries.{delivered_now, told_agrees}
-use Rattle.cast_world.proofs.Handlers.{commanded_keeps, framed_keeps, install_keeps, lead_keeps, sending_keeps, suspect_keeps}
+use Rattle.cast_world.proofs.Handlers.{on_command_keeps, on_site_frame_keeps, install_keeps, lead_keeps, sending_keeps, suspect_keeps}
 use Rattle.cast_world.proofs.Keeps.{found_is, keeps_fold, keeps_if, keeps_iterate, keeps_option}
 use Rattle.cast_world.proofs.Homes.{among_kept}
 use Rattle.cast_world.proofs.Kept.{AcksFreely, Kept, OwedTrue, Wants, FullyKept, FullyKeptByTelling, completes, lists, kept_fully}
@@ -268,9 +268,9 @@ module _ (I : State → Type 0) (Between : GroupNo → State → Type 0) (During
 
   acted_keeps : (s : State) (e : Event) → I s → HasCome Came e → SetsWell I s e → I (act_of_event s e)
   acted_keeps s (event.Open d) i come sets = keeps_if I (may_open history sessions_given s) (opening_next s) s (λ _. k.opens s i) (λ _. i)
-  acted_keeps s (event.Command d n c) i come sets = commanded_keeps I Between During Came home_here k s n c i
+  acted_keeps s (event.Command d n c) i come sets = on_command_keeps I Between During Came home_here k s n c i
   acted_keeps s (event.Gone d n) i come sets = end_session_keeps I t s n i
-  acted_keeps s (event.Frame d from f) i come sets = framed_keeps I Between During Came home_here k s from f i come
+  acted_keeps s (event.Frame d from f) i come sets = on_site_frame_keeps I Between During Came home_here k s from f i come
   acted_keeps s (event.Suspect d site) i come sets = suspect_keeps I Between During Came home_here k s site i
   acted_keeps s (event.Quota d name value) i come sets = keeps_if I (is_in_range name value) (setting_quota s name value) s
       (λ _. sets) (λ _. i)

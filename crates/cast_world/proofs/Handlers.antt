@@ -20,11 +20,11 @@ use Rattle.cast_rules.specs.Order.{holds, place_to_pass}
 use Rattle.cast_rules.specs.Owing.{paying, paying_upto}
 use Rattle.cast_rules.specs.Reports.{had_here, report_in}
 use Rattle.cast_rules.specs.Rules.Asking.{is_from_home, is_home, request}
-use Rattle.cast_rules.specs.Rules.Commands.{body_handing, body_of, cast, cast_at, commanded, hand_over, join}
-use Rattle.cast_rules.specs.Rules.Commands.{join_at, leave, pass_at, pass_token, reply, requested, send_own}
+use Rattle.cast_rules.specs.Rules.Commands.{body_handing, body_of, cast, cast_at, on_command, hand_over, join}
+use Rattle.cast_rules.specs.Rules.Commands.{join_at, leave, pass_at, pass_token, reply, on_request, send_own}
 use Rattle.cast_rules.specs.Rules.Data.{acknowledge, is_outdated, is_used, is_well_formed, on_data, use_data, want_no_more}
 use Rattle.cast_rules.specs.Rules.Flushes.{flushed_frame, is_wanted_here, on_prepare, on_wanted}
-use Rattle.cast_rules.specs.Rules.Frames.{framed, group_of, on_frame}
+use Rattle.cast_rules.specs.Rules.Frames.{on_site_frame, group_of, on_frame}
 use Rattle.cast_rules.specs.Rules.Home.{announce, decide, drop_want, drop_wants, forwardable, is_of_home, lead}
 use Rattle.cast_rules.specs.Rules.Home.{lead_group, on_flushed, on_forward, on_installed, on_want, owe_of_home}
 use Rattle.cast_rules.specs.Rules.Home.{prepare, start, suspect, suspect_in, want, want_bodies, want_eq, wants}
@@ -240,17 +240,17 @@ module _ (I : State → Type 0) (Between : GroupNo → State → Type 0) (During
       place true = at
       place false = i
 
-  requested_keeps : (s : State) (n : ℕ) (q : Request) → I s → is_open (s.session n) ≡ true → I (requested history s n q)
-  requested_keeps s n (request_of.Join tag g) i open_it = reply_keeps (join history s n g) n tag (join_keeps s n g i open_it)
-  requested_keeps s n (request_of.Leave tag g) i open_it = reply_keeps (leave history s n g) n tag (leave_keeps s n g i)
-  requested_keeps s n (request_of.Cast tag g kind payload) i open_it =
+  on_request_keeps : (s : State) (n : ℕ) (q : Request) → I s → is_open (s.session n) ≡ true → I (on_request history s n q)
+  on_request_keeps s n (request_of.Join tag g) i open_it = reply_keeps (join history s n g) n tag (join_keeps s n g i open_it)
+  on_request_keeps s n (request_of.Leave tag g) i open_it = reply_keeps (leave history s n g) n tag (leave_keeps s n g i)
+  on_request_keeps s n (request_of.Cast tag g kind payload) i open_it =
       reply_keeps (cast history s n g kind payload) n tag (cast_keeps s n g kind payload i)
-  requested_keeps s n (request_of.Pass tag g to) i open_it = reply_keeps (pass_token history s n g to) n tag (pass_token_keeps s n g to i)
+  on_request_keeps s n (request_of.Pass tag g to) i open_it = reply_keeps (pass_token history s n g to) n tag (pass_token_keeps s n g to i)
 
-  pub commanded_keeps : (s : State) (n : ℕ) (c : Command) → I s → I (commanded history s n c)
-  commanded_keeps s n (command.Request q) i =
-      keeps_if I (is_open (s.session n)) (requested history s n q) s (requested_keeps s n q i) (λ _. i)
-  commanded_keeps s n command.Bad i =
+  pub on_command_keeps : (s : State) (n : ℕ) (c : Command) → I s → I (on_command history s n c)
+  on_command_keeps s n (command.Request q) i =
+      keeps_if I (is_open (s.session n)) (on_request history s n q) s (on_request_keeps s n q i) (λ _. i)
+  on_command_keeps s n command.Bad i =
       keeps_if I (is_open (s.session n)) (close_session history s n BadFrame) s (λ _. close_session_keeps I t s n BadFrame i) (λ _. i)
 
   -- Messages of other sites
@@ -573,8 +573,9 @@ module _ (I : State → Type 0) (Between : GroupNo → State → Type 0) (During
   on_frame_keeps s from (frame.Installed g view) i came known = on_installed_keeps s from g view i
   on_frame_keeps s from (frame.Out g view) i came known = on_out_keeps s from g view i came
 
-  pub framed_keeps : (s : State) (from : SiteNo) (f : SiteFrame) → I s → Came from f → I (framed history s from f)
-  framed_keeps s from f i came = keeps_if I (is_among site_eq from s.config.sites) _ s (λ _. place (is_group s (group_of f)) refl) (λ _. i)
+  pub on_site_frame_keeps : (s : State) (from : SiteNo) (f : SiteFrame) → I s → Came from f → I (on_site_frame history s from f)
+  on_site_frame_keeps s from f i came =
+      keeps_if I (is_among site_eq from s.config.sites) _ s (λ _. place (is_group s (group_of f)) refl) (λ _. i)
     where
       place : (b : Bool) → is_group s (group_of f) ≡ b →
           I (option_map_or (λ h. on_frame history s h from f) (if b then Some (group_of f) else None) s)

@@ -32,7 +32,7 @@ use Rattle.cast_rules.specs.Rules.Sending.{may_raise, send_data}
 use Rattle.cast_rules.specs.Rules.Asking.{request}
 use Rattle.cast_rules.specs.Rules.Leaving.{Attempt, named_here, leave_at, close_session, tell}
 use Rattle.cast_rules.specs.Rules.Commands.{body_of, body_handing, join_at, join, leave, message_sent, send_own}
-use Rattle.cast_rules.specs.Rules.Commands.{cast_at, cast, hand_over, pass_at, pass_token, reply, requested, commanded}
+use Rattle.cast_rules.specs.Rules.Commands.{cast_at, cast, hand_over, pass_at, pass_token, reply, on_request, on_command}
 use Rattle.cast_rules.proofs.Rules.Follows.{FollowsAll, AtBoth, IsSent, sent_here, choose}
 use Rattle.cast_rules.proofs.Rules.Follows.{IsInvariantOfAll, AlsoHolds, SamePlace, follows_itself_in_all}
 use Rattle.cast_rules.proofs.Rules.Room.{receive_same, order_same}
@@ -226,7 +226,7 @@ module _ {R S H K : Type 0} (a : Site R H) (b : Site S K) (fits : R → S → Ty
       (tell_follows a b fits stands all x.0 y.0 same.0 k (push.Reply tag y.1))
 
   requested_follows : (r : R) (s : S) → fits r s → (k : ℕ) → b.is_open s k ≡ true → (q : Request) →
-      fits (requested a r k q) (requested b s k q)
+      fits (on_request a r k q) (on_request b s k q)
   requested_follows r s f k given (Join tag g) = replied k tag (join a r k g) (join b s k g) (join_follows r s f k given g)
   requested_follows r s f k given (Leave tag g) = replied k tag (leave a r k g) (leave b s k g) (leave_follows r s f k g)
   requested_follows r s f k given (Cast tag g kind payload) =
@@ -234,18 +234,18 @@ module _ {R S H K : Type 0} (a : Site R H) (b : Site S K) (fits : R → S → Ty
   requested_follows r s f k given (Pass tag g to) =
       replied k tag (pass_token a r k g to) (pass_token b s k g to) (pass_follows r s f k given g to)
 
-  pub commanded_follows : (r : R) (s : S) → fits r s → (k : ℕ) (c : Command) → fits (commanded a r k c) (commanded b s k c)
-  commanded_follows r s f k (command.Request q) =
-      choose fits (a.is_open r k) (b.is_open s k) (requested a r k q) r (requested b s k q) s (all.is_open r s f k)
+  pub on_command_follows : (r : R) (s : S) → fits r s → (k : ℕ) (c : Command) → fits (on_command a r k c) (on_command b s k c)
+  on_command_follows r s f k (command.Request q) =
+      choose fits (a.is_open r k) (b.is_open s k) (on_request a r k q) r (on_request b s k q) s (all.is_open r s f k)
       (λ given. requested_follows r s f k given q)
       (λ _. f)
-  commanded_follows r s f k command.Bad =
+  on_command_follows r s f k command.Bad =
       choose fits (a.is_open r k) (b.is_open s k) (close_session a r k BadFrame) r (close_session b s k BadFrame) s (all.is_open r s f k)
       (λ given. close_session_follows a b fits stands all r s f k given BadFrame)
       (λ _. f)
 
 -- an invariant of the moves holds after each command
-pub commanded_keeps : {S H : Type 0} (d : Site S H) (holds : S → Type 0) → IsInvariantOfAll d holds → (s : S) → holds s →
-    (k : ℕ) (c : Command) → holds (commanded d s k c)
-commanded_keeps d holds keeps s l k c =
-    (commanded_follows d d (AlsoHolds holds) SamePlace (follows_itself_in_all d holds keeps) s s (refl, l) k c).1
+pub on_command_keeps : {S H : Type 0} (d : Site S H) (holds : S → Type 0) → IsInvariantOfAll d holds → (s : S) → holds s →
+    (k : ℕ) (c : Command) → holds (on_command d s k c)
+on_command_keeps d holds keeps s l k c =
+    (on_command_follows d d (AlsoHolds holds) SamePlace (follows_itself_in_all d holds keeps) s s (refl, l) k c).1

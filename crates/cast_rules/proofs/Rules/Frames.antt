@@ -9,7 +9,7 @@ use Rattle.cast_message.specs.declared.site.SiteFrame.TheVariants as frame
 use Rattle.cast_rules.specs.Lawful.{IsTypedFrame}
 use Rattle.cast_rules.specs.Rules.Interface.{Site}
 use Rattle.cast_rules.specs.Rules.Flushes.{on_wanted}
-use Rattle.cast_rules.specs.Rules.Frames.{group_of, on_frame, framed}
+use Rattle.cast_rules.specs.Rules.Frames.{group_of, on_frame, on_site_frame}
 use Rattle.cast_rules.proofs.Rules.Follows.{FollowsAll, AtBoth, choose, IsInvariantOfAll, AlsoHolds, SamePlace, follows_itself_in_all}
 use Rattle.cast_rules.proofs.Rules.Data.{data_follows}
 use Rattle.cast_rules.proofs.Rules.Stability.{ack_follows, stable_follows}
@@ -40,9 +40,9 @@ module _ {R S H K : Type 0} (a : Site R H) (b : Site S K) (fits : R → S → Ty
   frame_follows r s f h k at from (frame.Installed g view) there typed = installed_follows a b fits stands all r s f h k at from view
   frame_follows r s f h k at from (frame.Out g view) there typed = out_follows a b fits stands all r s f h k at g there view
 
-  pub framed_follows : (r : R) (s : S) → fits r s → (from : SiteNo) (x : SiteFrame) → IsTypedFrame x →
-      fits (framed a r from x) (framed b s from x)
-  framed_follows r s f from x typed =
+  pub on_site_frame_follows : (r : R) (s : S) → fits r s → (from : SiteNo) (x : SiteFrame) → IsTypedFrame x →
+      fits (on_site_frame a r from x) (on_site_frame b s from x)
+  on_site_frame_follows r s f from x typed =
       choose fits (is_among site_eq from (a.config r).sites) (is_among site_eq from (b.config s).sites) _ r _ s
       (λ j. is_among site_eq from (all.follows.config r s f j).sites)
       (λ _. placed (a.place r (group_of x)) (b.place s (group_of x)) (all.follows.place r s f (group_of x)) refl)
@@ -56,7 +56,7 @@ module _ {R S H K : Type 0} (a : Site R H) (b : Site S K) (fits : R → S → Ty
       placed None None at there = f
 
 -- an invariant of the moves holds after each frame
-pub framed_keeps : {S H : Type 0} (d : Site S H) (holds : S → Type 0) → IsInvariantOfAll d holds → (s : S) → holds s →
-    (from : SiteNo) (x : SiteFrame) → IsTypedFrame x → holds (framed d s from x)
-framed_keeps d holds keeps s l from x typed =
-    (framed_follows d d (AlsoHolds holds) SamePlace (follows_itself_in_all d holds keeps) s s (refl, l) from x typed).1
+pub on_site_frame_keeps : {S H : Type 0} (d : Site S H) (holds : S → Type 0) → IsInvariantOfAll d holds → (s : S) → holds s →
+    (from : SiteNo) (x : SiteFrame) → IsTypedFrame x → holds (on_site_frame d s from x)
+on_site_frame_keeps d holds keeps s l from x typed =
+    (on_site_frame_follows d d (AlsoHolds holds) SamePlace (follows_itself_in_all d holds keeps) s s (refl, l) from x typed).1

@@ -116,13 +116,13 @@ module _ {S H : Type 0} (d : Site S H) where
   abbrev pub reply : Attempt S → ℕ → ℕ → S
   reply a k tag = tell d a.0 k (push.Reply tag a.1)
 
-  abbrev pub requested : S → ℕ → Request → S
-  requested s k (Join tag g) = reply (join s k g) k tag
-  requested s k (Leave tag g) = reply (leave s k g) k tag
-  requested s k (Cast tag g kind payload) = reply (cast s k g kind payload) k tag
-  requested s k (Pass tag g to) = reply (pass_token s k g to) k tag
+  abbrev pub on_request : S → ℕ → Request → S
+  on_request s k (Join tag g) = reply (join s k g) k tag
+  on_request s k (Leave tag g) = reply (leave s k g) k tag
+  on_request s k (Cast tag g kind payload) = reply (cast s k g kind payload) k tag
+  on_request s k (Pass tag g to) = reply (pass_token s k g to) k tag
 
   -- bytes that are no frame close the session; what is said in one that is not open is ignored
-  abbrev pub commanded : S → ℕ → Command → S
-  commanded s k (command.Request q) = if d.is_open s k then requested s k q else s
-  commanded s k command.Bad = if d.is_open s k then close_session d s k BadFrame else s
+  abbrev pub on_command : S → ℕ → Command → S
+  on_command s k (command.Request q) = if d.is_open s k then on_request s k q else s
+  on_command s k command.Bad = if d.is_open s k then close_session d s k BadFrame else s

@@ -49,8 +49,8 @@ module _ {S H : Type 0} (d : Site S H) where
   on_frame s h from (frame.Out g view) = on_out d s h view
 
   -- one from a site or for a group that is not configured is ignored
-  abbrev pub framed : S → SiteNo → SiteFrame → S
-  framed s from f =
+  abbrev pub on_site_frame : S → SiteNo → SiteFrame → S
+  on_site_frame s from f =
       if is_among site_eq from (d.config s).sites
       then option_map_or (λ h. on_frame s h from f) (d.place s (group_of f)) s
       else s
