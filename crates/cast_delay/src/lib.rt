@@ -2,7 +2,8 @@
 //!
 //! Whether a process may deliver a message is the rule of `cast_ready`. An ABCAST also waits for
 //! its turn, which each question supplies (`Turn`). The rule speaks of the ids that a process
-//! delivered; the queue keeps counts. If memory is refused, the queue is of no further use.
+//! delivered; the queue keeps counts. If a call that changes the queue is refused memory, the queue
+//! is of no further use.
 //!
 //! # What is proved
 //!

@@ -1,8 +1,8 @@
 use crate::shared::Shared;
 use cast_events::Outs;
 
-/// What a domain is lent for a step: what all domains share, and what gathers the frames and
-/// deliveries of the step.
+/// What a domain is lent for a step: what all domains share, and what gathers the step's frames,
+/// deliveries and pushes.
 #[derive(Drop)]
 pub struct Lent<'a> {
     pub shared: &'a mut Shared,

@@ -6,8 +6,8 @@
 //!   4](../../../docs/PROOFS.md#4-isolation-and-causal-delivery-the-headline); a domain halts at an
 //!   event of its own alone. Each event has one answer, "no domain" exactly where none is
 //!   configured (`all`, `no_domain`).
-//! - Two replays that agree on a domain's configuration and own events, and halt it in neither,
-//!   give it the same: `laws::own_events_decide`.
+//! - In two replays that have the same configuration and the same events for a domain, and halt it
+//!   in neither, the domain answers, sends and pushes the same: `laws::own_events_decide`.
 #![tactic(auto)]
 
 pub mod laws;

@@ -1,4 +1,4 @@
-//! Where what is asked comes from, and where what came of it goes.
+//! Where a worker takes what is asked, and where it sends the answers.
 ghost use Rattle.std.specs.Prelude.{[], ◌∷◌, List, None, IfSome, IfNone};
 ghost use Rattle.std.specs.declared.option.Option.{Option};
 ghost use Rattle.cast_pool.specs.declared.kept.Done.{Done};
@@ -10,7 +10,8 @@ use cast_events::Raw;
 use crossbeam_channel::{Receiver, Sender};
 use std::sync::Wait;
 
-/// What a worker takes from, and sends to.
+/// The two ends that a worker has: one from which it takes what is asked, one to which it sends
+/// the answers.
 pub trait Post {
     // All that was taken, at a type that tells of it.
     ghost taken: { Self → Option (List Raw) } = { λ _. None };
@@ -21,7 +22,7 @@ pub trait Post {
     // Nothing more can be taken, at a type that tells of it.
     ghost is_over: { Self → Type 0 } = { λ _. Unit {0} };
 
-    /// Takes what is asked next. `None` where nothing more can come.
+    /// Takes what is asked next, and waits for it. `None` where nothing more can come.
     fn take(&mut self) -> Option<Raw>
         ensures some { IfSome result (λ raw. Adds (taken self.old) (taken self.new) (raw ∷ [])) }
         ensures none { IfNone result (Adds (taken self.old) (taken self.new) []) }

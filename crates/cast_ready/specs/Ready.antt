@@ -100,8 +100,8 @@ is_causally_ready groups gate p m =
     && (list_all (λ h. group_allows (p.standing h) p (gate h) m h) groups
     && has_room (join p.time m.times)))))
 
--- whether it is an ABCAST's turn. Where the order is held here, each gets the next place while
--- there is room; elsewhere it must be the one that stands next in the known order
+-- whether it is an ABCAST's turn for a process. Where the process sets the order, each gets the
+-- next place while there is room; else it must be the one that stands next in the known order
 abbrev pub has_turn : Turn → Entry → Bool
 has_turn (Holding room) e = room
 has_turn (Following None) e = false

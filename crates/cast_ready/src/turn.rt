@@ -10,11 +10,12 @@ use cast_types::{GroupNo, Proc};
 /// its process and its count, from 1 on, in the group's current view.
 #[derive(Clone, Copy, Debug, PartialEq, Eq)]
 pub enum Turn {
-    /// The order is held here: an ABCAST gets the next place as it is delivered. Whether there is
-    /// room for one more.
+    /// The process sets the order: an ABCAST gets the next place as the process delivers it.
+    /// Whether there is room for one more.
     Holding(bool),
-    /// The order is held elsewhere: the ABCAST that stands next in the order that is known here,
-    /// after those that the process has delivered. `None` where no place after them is known.
+    /// Another process sets the order, or none does: the ABCAST that stands next in the order that
+    /// is known here, after those that the process has delivered. `None` where no place after them
+    /// is known.
     Following(Option<(Proc, u32)>),
 }
 

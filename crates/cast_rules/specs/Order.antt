@@ -127,13 +127,13 @@ settled_to s g k =
     (last_listed
     (filter (λ x. is_stable s (uid_in g (s.group g).number (local s k, x.0))) (lists_of s g k)))
 
--- the ids past those that it has delivered
+-- of the ids behind the places that it has settled, those that it has delivered
 abbrev pub unsettled_ids : State → GroupNo → ℕ → List Entry
 unsettled_ids s g k =
     filter (λ e. has_delivered (s.process k) (uid_in g (s.group g).number e))
     (drop (settled_to s g k) (order_by s g k))
 
--- there is a place after these
+-- there is a place behind an order
 abbrev pub has_place : List Entry → Bool
 has_place order = nat_lt (length order) MAX_POSITION
 

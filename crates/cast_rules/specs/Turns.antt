@@ -13,8 +13,8 @@ use Rattle.cast_rules.specs.Order.{order_of, order_by, unsettled_ids, has_place,
 use Rattle.cast_rules.specs.Rules.Room.{may_order}
 use Rattle.cast_rules.specs.History.{history}
 
--- who holds the token may deliver one more ABCAST: fewer than 512 are unsettled, and there is a
--- place for it
+-- who holds the token may deliver one more ABCAST: the site has room for a set-order message, fewer
+-- than 512 are unsettled, and there is a place for it
 abbrev pub has_room_for_order : State → GroupNo → ℕ → Bool
 has_room_for_order s g k =
     may_order history s

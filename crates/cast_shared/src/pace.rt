@@ -1,15 +1,14 @@
 //! How far the programs of a domain may run ahead of its other sites.
 //!
-//! A site has room for a limited number of messages of a domain. What follows a message that was
-//! lost on the way waits there, and takes room, until the lost one is sent again; if there is no
-//! room then, it is refused each time. A message is kept at each site that has received it until
-//! all have. So a site that lets few casts follow the oldest message that it keeps leaves the
-//! others room for the one that they lack. A cast that would be one too many waits until messages
-//! are released, but not for long: a site that is lost, and that nobody suspects, must not stop a
-//! program.
+//! A site keeps a limited number of messages of a domain, each until all sites have it. Where one
+//! is lost on its way, those behind it wait at the receiver and take room there until the lost one
+//! is sent again. Where they take all the room, the lost one is refused each time it comes. So a
+//! site lets only some casts follow the oldest message that it keeps, and the others have room for
+//! the one that they lack. A cast that would be one too many waits until messages are released,
+//! but not for long: a site that is lost, and that nobody suspects, must not stop a program.
 //!
-//! Where the configuration says for how long casts may queue on their way, fewer may follow: so
-//! many as `Speed` says.
+//! Where the configuration says for how long casts may queue on their way, fewer may follow:
+//! `Speed` says how many.
 use crate::speed::Speed;
 use cast_edge::Took;
 use cast_events::{Backlog, DomainConfig};

@@ -24,10 +24,10 @@ use cast_rest::rest::rest;
 use cast_stable::Acks;
 use cast_types::{NoMemory, Refusal, Source, source_of};
 
-/// Makes one step: the event, and then what follows from it until nothing changes. What is sent and
-/// delivered is added to `outs`. Of what is `shared` the parts of other domains stay as they are.
-/// `NoMemory` halts the domain: it gives back all that it kept, owed and had to push, and from then
-/// on answers each event `Refused(Halted)`.
+/// Makes one step: the event, and then what follows from it until nothing changes. What is sent,
+/// delivered and pushed is added to `outs`. Of what is `shared` the parts of other domains stay as
+/// they are. `NoMemory` halts the domain: it gives back all that it kept, owed and had to push, and
+/// from then on answers each event `Refused(Halted)`.
 pub fn step(
     domain: &mut Domain,
     shared: &mut Shared,

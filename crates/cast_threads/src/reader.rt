@@ -14,7 +14,8 @@ use std::os::unix::net::UnixStream;
 use std::rt::Clock;
 use std::sync::{Mutex, Wait};
 
-// So many answers of a session may lie in its outbox before its reader waits.
+// After so many answered commands a reader takes what the session's outbox holds, and waits where
+// another thread takes it just then.
 const UNTAKEN: u32 = 32;
 
 // How often at most the outbox is taken after the end of what a program writes, while the program

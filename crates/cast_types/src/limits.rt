@@ -31,7 +31,8 @@ pub const MAX_KEPT: usize = 2_048;
 /// Most ids whose places in a view's order one message sets.
 pub const MAX_PLACED: usize = 64;
 
-/// Most ABCASTs that a holder delivers beyond those that its stable set-order messages list.
+/// Most ABCASTs that a process delivers beyond the places that it has settled: those before its
+/// first place, and those that its stable set-order messages set.
 pub const MAX_UNSETTLED: usize = 512;
 
 /// The last place of a view's order.

@@ -13,7 +13,7 @@ use Rattle.cast_message.specs.Tail.{Tail}
 use Rattle.cast_flush.specs.declared.report.Report.{Report}
 use Rattle.cast_view.specs.declared.phase.Phase.TheVariants.{Installing}
 use Rattle.cast_view.specs.Home.{Home, first_home, answer_to, after_ask, after_suspicion, after_start}
-use Rattle.cast_view.specs.Home.{after_reply, after_body, wants_in, after_decision, after_installed}
+use Rattle.cast_view.specs.Home.{after_report, after_body, wants_in, after_decision, after_installed}
 
 abbrev site : ℕ → SiteNo
 site n = record { 0 = n }
@@ -54,7 +54,7 @@ suspected = after_start (after_suspicion three (site 3))
 
 reported : Home
 reported =
-    after_reply (after_reply suspected (site 1) 3 (report [] [] (((first_of 3, 2), false) ∷ []))) (site 2) 3
+    after_report (after_report suspected (site 1) 3 (report [] [] (((first_of 3, 2), false) ∷ []))) (site 2) 3
     (report ((first_of 3, 1) ∷ []) [] (((first_of 3, 1), false) ∷ []))
 
 wants_from_site_2 : wants_in group reported reported.phase ≡ (site 2, (first_of 3, 1)) ∷ []
@@ -91,7 +91,7 @@ first_view = refl
 joined_again : Home
 joined_again =
     after_decision group
-    (after_reply (after_ask (after_start (after_ask joined (site 1) 2 change.Leave (first_of 1))) (site 1) 3 change.Join (first_of 1))
+    (after_report (after_ask (after_start (after_ask joined (site 1) 2 change.Leave (first_of 1))) (site 1) 3 change.Join (first_of 1))
     (site 1) 1 nothing)
 
 second_view : joined_again.members ≡ record { list = first_of 1 ∷ []; holder = Some (first_of 1) }
@@ -125,7 +125,7 @@ refused_again = refl
 
 ordered : Home
 ordered =
-    after_reply (after_reply suspected (site 1) 3
+    after_report (after_report suspected (site 1) 3
     (report ((first_of 1, 1) ∷ (first_of 2, 1) ∷ []) [] (((first_of 1, 1), false) ∷ ((first_of 2, 1), true) ∷ []))) (site 2) 3
     (report ((first_of 1, 1) ∷ (first_of 2, 2) ∷ []) ((first_of 2, 1) ∷ [])
     (((first_of 1, 1), false) ∷ ((first_of 2, 1), false) ∷ ((first_of 2, 2), false) ∷ []))

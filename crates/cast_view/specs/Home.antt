@@ -203,8 +203,9 @@ phase_with_report s r (Installing waiting decision bodies) = Installing waiting 
 abbrev pub takes_report : Home → SiteNo → ℕ → Bool
 takes_report h s view = (view == h.number) && awaits_report h.phase s
 
-abbrev pub after_reply : Home → SiteNo → ℕ → Report → Home
-after_reply h s view r =
+-- the home once a report came
+abbrev pub after_report : Home → SiteNo → ℕ → Report → Home
+after_report h s view r =
     if takes_report h s view then record h { phase = phase_with_report s r h.phase } else h
 
 abbrev pub phase_with_body : Message → Phase → Phase
@@ -294,7 +295,7 @@ decide_view h =
 abbrev pub after_decision : GroupNo → Home → Home
 after_decision g h = if may_decide g h then decide_view h else h
 
--- a site has answered that the view is installed
+-- a site is still to answer that it has installed the view
 abbrev pub awaits_installed : Phase → SiteNo → Bool
 awaits_installed Idle s = false
 awaits_installed (Gathering awaited reports bodies) s = false
@@ -329,7 +330,7 @@ abbrev pub apply_move : HomeMove → Home → Home
 apply_move (Asked from number what p) h = after_ask h from number what p
 apply_move (Suspected site) h = after_suspicion h site
 apply_move Started h = after_start h
-apply_move (Reported from view report) h = after_reply h from view report
+apply_move (Reported from view report) h = after_report h from view report
 apply_move (Brought message) h = after_body h message
 apply_move Decided h = decide_view h
 apply_move (Installed from view) h = after_installed h from view

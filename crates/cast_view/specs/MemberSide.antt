@@ -51,7 +51,8 @@ no_group = record {
 abbrev pub members_of : MemberSide → List Proc
 members_of g = elim g.view [ Some m ↦ m.list | None ↦ [] ]
 
--- the member that sets the order of the view's ABCASTs
+-- the member that the Install of the view named to set the order of its ABCASTs. It may have handed
+-- that over since
 abbrev pub holder_of : MemberSide → Option Proc
 holder_of g = elim g.view [ Some m ↦ m.holder | None ↦ None ]
 
@@ -59,7 +60,7 @@ abbrev pub is_process : Proc → Option Proc → Bool
 is_process p None = false
 is_process p (Some q) = proc_eq q p
 
--- the holder, where it is a process of a site
+-- that member, where it is a process of a site
 abbrev pub holder_at : SiteNo → MemberSide → Option Proc
 holder_at here g = elim (holder_of g) [
   | Some p ↦ if site_eq p.site here then Some p else None

@@ -65,7 +65,7 @@ impl HomeSide {
     ghost use Rattle.cast_view.specs.Home.{is_refused, is_crowded, expected_members, stays};
     ghost use Rattle.cast_view.specs.Home.{marked_leaving, with_suspect, changed_by, after_request};
     ghost use Rattle.cast_view.specs.Home.{after_ask, after_suspicion, may_start, after_start};
-    ghost use Rattle.cast_view.specs.Home.{takes_report, after_reply, after_body, bodies_of};
+    ghost use Rattle.cast_view.specs.Home.{takes_report, after_report, after_body, bodies_of};
     ghost use Rattle.cast_view.specs.Home.{wants_in, may_decide, decided_list, decided_holder};
     ghost use Rattle.cast_view.specs.Home.{decided_phase, decide_view, has_next_number};
     ghost use Rattle.cast_view.specs.Home.{after_decision, takes_installed, after_installed};
@@ -352,7 +352,7 @@ impl HomeSide {
     /// report of this view from a site that is awaited.
     pub fn reply(&mut self, site: SiteNo, view: u32, report: Report) -> Result<bool, NoMemory>
         ensures value { IfOk result (λ taken. taken ≡ takes_report self.old site view) }
-        ensures new { OnOk result (self.new ≡ after_reply self.old site view report) }
+        ensures new { OnOk result (self.new ≡ after_report self.old site view report) }
     {
         if !self.takes_report(site, view) {
             return Ok(false);

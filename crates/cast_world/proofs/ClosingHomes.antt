@@ -15,7 +15,7 @@ use Rattle.cast_types.specs.Sets.{with_items}
 use Rattle.cast_types.specs.declared.names.GroupNo.{GroupNo}
 use Rattle.cast_types.specs.declared.names.Proc.{Proc}
 use Rattle.cast_types.specs.declared.names.SiteNo.{SiteNo}
-use Rattle.cast_view.specs.Home.{Home, HomeMove, after_ask, after_body, after_installed, after_reply, after_start, after_suspicion}
+use Rattle.cast_view.specs.Home.{Home, HomeMove, after_ask, after_body, after_installed, after_report, after_start, after_suspicion}
 use Rattle.cast_view.specs.Home.{decide_view, decided_list, decided_phase, decision_of, may_decide_in, apply_move}
 use Rattle.cast_view.specs.Home.HomeMove.{Asked, Brought, Decided, Installed, Reported, Started, Suspected}
 use Rattle.cast_view.specs.Sites.{sites_of}
@@ -30,7 +30,7 @@ use Rattle.cast_world.proofs.Closings.{SiteClosing, Stops, abcast_later, end_tai
 use Rattle.cast_world.proofs.Flush.{Chosen, IsChosen, numbers}
 use Rattle.cast_world.proofs.FlushLaters.{Extends}
 use Rattle.cast_world.proofs.FlushSteps.{has_reported, no_reports, not_suspected, own_agrees}
-use Rattle.cast_world.proofs.Homes.{HomeFollows, brought_follows, left_follows, replied_follows}
+use Rattle.cast_world.proofs.Homes.{HomeFollows, brought_follows, left_follows, reported_follows}
 use Rattle.cast_world.proofs.Homes.{reports_of, request_follows, started_follows, suspicion_follows}
 use Rattle.cast_world.proofs.Invariants.{Sites}
 use Rattle.cast_world.proofs.Kept.{MayMove}
@@ -300,9 +300,9 @@ module _ (home : SiteNo) (w : Network) (a : SiteNo) where
       ((flush home w a t i.0.0).homes t g Started (begin home w a t i.0.0) may).3 refl refl refl
       (started_follows (Arrived home w a) g (t.home g))
   homes_closing t g (Reported from view r) i may =
-      follows_closing t g (after_reply (t.home g) from view r) i ((kept_window home w a).homes t g (Reported from view r) i.0 may)
+      follows_closing t g (after_report (t.home g) from view r) i ((kept_window home w a).homes t g (Reported from view r) i.0 may)
       ((flush home w a t i.0.0).homes t g (Reported from view r) (begin home w a t i.0.0) may).3 refl refl refl
-      (replied_follows (Arrived home w a) g (t.home g) from view r may)
+      (reported_follows (Arrived home w a) g (t.home g) from view r may)
   homes_closing t g (Brought m) i may =
       follows_closing t g (after_body (t.home g) m) i ((kept_window home w a).homes t g (Brought m) i.0 may)
       ((flush home w a t i.0.0).homes t g (Brought m) (begin home w a t i.0.0) may).3 refl refl refl

@@ -32,7 +32,7 @@ use Rattle.cast_types.specs.declared.names.GroupNo.{GroupNo}
 use Rattle.cast_types.specs.declared.names.Proc.{Proc}
 use Rattle.cast_types.specs.declared.names.SiteNo.{SiteNo}
 use Rattle.cast_types.specs.declared.names.Standing.TheVariants.{Joining}
-use Rattle.cast_view.specs.Home.{Home, HomeMove, after_ask, after_body, after_installed, after_reply, after_start}
+use Rattle.cast_view.specs.Home.{Home, HomeMove, after_ask, after_body, after_installed, after_report, after_start}
 use Rattle.cast_view.specs.Home.{after_suspicion, decide_view, decided_list, decided_members, decided_phase}
 use Rattle.cast_view.specs.Home.{decision_of, installing, is_suspected, may_decide, may_decide_in, apply_move, stays}
 use Rattle.cast_view.specs.Home.HomeMove.{Asked, Brought, Decided, Installed, Reported, Started, Suspected}
@@ -53,7 +53,7 @@ use Rattle.cast_world.proofs.FlushSites.{all_part_agrees, delivered_agrees, emit
 use Rattle.cast_world.proofs.FlushSites.{home_agrees, join_agrees, members_chosen, opened_agrees, part_agrees}
 use Rattle.cast_world.proofs.FlushSites.{proc_among, ready_within, received_agrees, sent_agrees, view_agrees}
 use Rattle.cast_world.proofs.Homes.{Awaits, HomeFollows, brought_follows, idle_not, is_gathering}
-use Rattle.cast_world.proofs.Homes.{left_follows, not_gathering, replied_follows, reports_of, request_follows}
+use Rattle.cast_world.proofs.Homes.{left_follows, not_gathering, reported_follows, reports_of, request_follows}
 use Rattle.cast_world.proofs.Homes.{same_decision, same_sites, set_had, started_follows, suspicion_follows}
 use Rattle.cast_world.proofs.Invariants.{Later, SiteHolds, Sites}
 use Rattle.cast_world.proofs.Kept.{Comes, Kept, KeptByTelling, MayMove, completes, ends, installs, skips}
@@ -495,8 +495,8 @@ module _ (home : SiteNo) (w : Network) (a : SiteNo) where
     homes_flush t g Started i may =
         follows_flush t g (after_start (t.home g)) i (k.homes t g Started i.0 may) (started_follows (Arrived home w a) g (t.home g))
     homes_flush t g (Reported from view r) i may =
-        follows_flush t g (after_reply (t.home g) from view r) i (k.homes t g (Reported from view r) i.0 may)
-        (replied_follows (Arrived home w a) g (t.home g) from view r may)
+        follows_flush t g (after_report (t.home g) from view r) i (k.homes t g (Reported from view r) i.0 may)
+        (reported_follows (Arrived home w a) g (t.home g) from view r may)
     homes_flush t g (Brought m) i may =
         follows_flush t g (after_body (t.home g) m) i (k.homes t g (Brought m) i.0 may)
         (brought_follows (Arrived home w a) g (t.home g) may.0 m may.1)

@@ -1,7 +1,7 @@
 -- Lists of sites, and homes that change without a decision.
 -- `HomeFollows` says how a home may change as frames come: its number and its members stay, and
 -- all that is new in it came in a frame. One lemma for each change says that it does so
--- (`replied_follows`, `suspicion_follows`, `request_follows`). A change touches either the phase,
+-- (`reported_follows`, `suspicion_follows`, `request_follows`). A change touches either the phase,
 -- of which `PhaseFollows` asks the same, or the requests; and who was awaited is awaited still, or
 -- reported, or is suspected.
 use Rattle.std.proofs.Common.{Equal, Greater, Less, Ordering, ap, arith, inl, inr, subst, sym, ◌∙◌}
@@ -26,7 +26,7 @@ use Rattle.cast_types.specs.Sets.{at_order, is_among, set_of, with_item, with_it
 use Rattle.cast_types.specs.declared.names.GroupNo.{GroupNo}
 use Rattle.cast_types.specs.declared.names.Proc.{Proc}
 use Rattle.cast_types.specs.declared.names.SiteNo.{SiteNo}
-use Rattle.cast_view.specs.Home.{Home, after_ask, after_body, after_change, after_installed, after_reply, after_request}
+use Rattle.cast_view.specs.Home.{Home, after_ask, after_body, after_change, after_installed, after_report, after_request}
 use Rattle.cast_view.specs.Home.{after_start, after_suspicion, answer_of, awaited_of, awaits_installed, bodies_of, changed_by}
 use Rattle.cast_view.specs.Home.{installing, is_next, is_refused, is_suspected, marked_leaving, may_start, phase_with_body}
 use Rattle.cast_view.specs.Home.{phase_with_report, phase_without, sites_to_await, takes_installed, takes_report}
@@ -310,9 +310,9 @@ module _ (Came : SiteNo → SiteFrame → Type 0) (g : GroupNo) where
       one_follows h (record h { phase = Gathering (sites_to_await h) [] [] }) h (may_start h)
       (λ _. follows h (Gathering (sites_to_await h) [] []) (gathers h)) (λ _. stays_follows h)
 
-  pub replied_follows : (h : Home) (s : SiteNo) (view : ℕ) (r : Report) → Came s (frame.Flushed g view r.counts r.tail r.kept) →
-      HomeFollows Came g h (after_reply h s view r)
-  replied_follows h s view r came = one_follows h (record h { phase = phase_with_report s r h.phase }) h (takes_report h s view)
+  pub reported_follows : (h : Home) (s : SiteNo) (view : ℕ) (r : Report) → Came s (frame.Flushed g view r.counts r.tail r.kept) →
+      HomeFollows Came g h (after_report h s view r)
+  reported_follows h s view r came = one_follows h (record h { phase = phase_with_report s r h.phase }) h (takes_report h s view)
       (λ takes. follows h (phase_with_report s r h.phase) (report_follows h s r
       (subst (λ v. Came s (frame.Flushed g v r.counts r.tail r.kept)) (eqb-true view h.number (and_parts (view == h.number) _ takes).0)
       came) h.phase)) (λ _. stays_follows h)

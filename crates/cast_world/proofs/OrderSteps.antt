@@ -27,7 +27,7 @@ use Rattle.cast_types.specs.declared.names.Proc.{Proc}
 use Rattle.cast_types.specs.declared.names.SiteNo.{SiteNo}
 use Rattle.cast_types.specs.declared.names.Standing.TheVariants.{Joining, Member}
 use Rattle.cast_view.specs.Home.{Home, HomeMove, after_ask, after_body, after_installed}
-use Rattle.cast_view.specs.Home.{after_reply, after_start, after_suspicion, apply_move}
+use Rattle.cast_view.specs.Home.{after_report, after_start, after_suspicion, apply_move}
 use Rattle.cast_view.specs.Home.HomeMove.{Asked, Brought, Decided, Installed, Reported, Started, Suspected}
 use Rattle.cast_view.specs.MemberSide.{MemberSide, frozen_side, is_pending, with_answer, with_pending, with_request}
 use Rattle.cast_world.proofs.Entries.{delivery_sends_none, part_sends_none, passing_sends_none}
@@ -35,7 +35,7 @@ use Rattle.cast_world.proofs.Facts.{HasDone}
 use Rattle.cast_world.proofs.Flush.{numbers}
 use Rattle.cast_world.proofs.FlushLaters.{extends_same}
 use Rattle.cast_world.proofs.FlushSteps.{FlushNow, kept_flush}
-use Rattle.cast_world.proofs.Homes.{HomeFollows, brought_follows, left_follows, replied_follows}
+use Rattle.cast_world.proofs.Homes.{HomeFollows, brought_follows, left_follows, reported_follows}
 use Rattle.cast_world.proofs.Homes.{request_follows, started_follows, suspicion_follows}
 use Rattle.cast_world.proofs.Invariants.{Later, Sites}
 use Rattle.cast_world.proofs.Kept.{Kept, MayMove, MaySend, casts, hands, lists}
@@ -241,7 +241,7 @@ module _ (home : SiteNo) (w : Network) (a : SiteNo) where
       follows_up t g (after_suspicion (t.home g) site) (suspicion_follows (Arrived home w a) g (t.home g) site)
   moves_up t g Started may = follows_up t g (after_start (t.home g)) (started_follows (Arrived home w a) g (t.home g))
   moves_up t g (Reported from view r) may =
-      follows_up t g (after_reply (t.home g) from view r) (replied_follows (Arrived home w a) g (t.home g) from view r may)
+      follows_up t g (after_report (t.home g) from view r) (reported_follows (Arrived home w a) g (t.home g) from view r may)
   moves_up t g (Brought m) may = follows_up t g (after_body (t.home g) m) (brought_follows (Arrived home w a) g (t.home g) may.0 m may.1)
   moves_up t g Decided may = omega arith
   moves_up t g (Installed from view) may =

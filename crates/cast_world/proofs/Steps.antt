@@ -19,11 +19,11 @@ use Rattle.cast_types.specs.Sets.{is_among, set_at}
 use Rattle.cast_types.specs.declared.names.GroupNo.{GroupNo}
 use Rattle.cast_types.specs.declared.names.SiteNo.{SiteNo}
 use Rattle.cast_types.specs.declared.names.Standing.TheVariants.{Joining}
-use Rattle.cast_view.specs.Home.{Home, HomeMove, after_ask, after_body, after_installed, after_reply}
+use Rattle.cast_view.specs.Home.{Home, HomeMove, after_ask, after_body, after_installed, after_report}
 use Rattle.cast_view.specs.Home.{after_start, after_suspicion, answer_of, decide_view, may_decide, apply_move}
 use Rattle.cast_view.specs.Home.HomeMove.{Asked, Brought, Decided, Installed, Reported, Started, Suspected}
 use Rattle.cast_view.specs.MemberSide.{frozen_side, with_answer, with_pending, with_request}
-use Rattle.cast_world.proofs.Homes.{HomeFollows, brought_follows, left_follows, replied_follows}
+use Rattle.cast_world.proofs.Homes.{HomeFollows, brought_follows, left_follows, reported_follows}
 use Rattle.cast_world.proofs.Homes.{request_follows, started_follows, suspicion_follows}
 use Rattle.cast_world.proofs.Invariants.{Ahead, IsDecided, IsSound, Later, SiteHolds, Sites, TakesIn}
 use Rattle.cast_world.proofs.Kept.{Comes, Kept, KeptByTelling, MayMove, completes, ends, installs, skips}
@@ -211,7 +211,7 @@ module _ (home : SiteNo) (w : Network) (a : SiteNo) where
       follows_kept t g (after_suspicion (t.home g) site) now (suspicion_follows Arrived g (t.home g) site)
   homes_kept t g Started now may = follows_kept t g (after_start (t.home g)) now (started_follows Arrived g (t.home g))
   homes_kept t g (Reported from view r) now may =
-      follows_kept t g (after_reply (t.home g) from view r) now (replied_follows Arrived g (t.home g) from view r may)
+      follows_kept t g (after_report (t.home g) from view r) now (reported_follows Arrived g (t.home g) from view r may)
   homes_kept t g (Brought m) now may = follows_kept t g (after_body (t.home g) m) now (brought_follows Arrived g (t.home g) may.0 m may.1)
   homes_kept t g Decided now may = decides_kept t g now may.0 may.1
   homes_kept t g (Installed from view) now may =

@@ -8,8 +8,9 @@ ghost use Rattle.cast_world.specs.Laws.{AllStartsAreKnown, AllViewsAreDecided, C
 ghost use Rattle.cast_world.specs.Worlds.{AllAnswersAreLists, AllRunsAreNetworks, AllTellInOrder};
 ghost use Rattle.cast_world.specs.Worlds.{AllTellOneOrder, AllTellTheSame, AllToldOrdersAgree};
 
-/// No process delivers a message before one that happened before it and is due to it: that one
-/// stands earlier among what the process did, and in the list of what it delivered.
+/// Where one message happened before another, and both are due to a process, the process does not
+/// deliver the later one first: the earlier one stands before it among what the process did, and in
+/// the list of what it delivered.
 pub fn causal_delivery()
     ensures acts { CausalDelivery }
     ensures listed { AllListsAreInOrder }

@@ -49,7 +49,8 @@ module _ {S H : Type 0} (d : Site S H) where
   decide s h =
       if may_decide (d.name s h) (d.home s h) then announce (d.move_home s h Decided) h else s
 
-  -- the messages that some of the sites lack, each with the site that it is wanted from
+  -- of the messages that some site lacks and that have not come, the first 64, each with the site
+  -- that it is wanted from
   abbrev pub wants : S → H → List (SiteNo × Entry)
   wants s h = wants_in (d.name s h) (d.home s h) (d.home s h).phase
 

@@ -22,7 +22,8 @@ no_members = record { list = []; holder = None }
 
 -- each rule is of the group that stands at h
 module _ {S H : Type 0} (d : Site S H) where
-  -- a process was put out of a group; another is in a view of it
+  -- the program of a process that was put out of a group is told so, and that of a member of a
+  -- view is told the view
   abbrev pub tell_out : GroupNo → ℕ → S → ℕ → S
   tell_out g n s k = tell d s k (push.Ejected g n)
 
