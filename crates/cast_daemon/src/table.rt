@@ -6,7 +6,7 @@ use cast_console::{Answer, Line, LineFault, answer, parse};
 use cast_edge::{Heard, heard_in};
 use cast_events::{Asked, Event, Fault, Outs, Raw, Told};
 use cast_pool::{Channels, Done, Gate, Job, Kept, Outcome, Task, decode, work};
-use cast_shared::{Came, Instruction, Pace, Reply, SharedTable, Turn, Wanted};
+use cast_shared::{Came, Instruction, Pace, Reply, SharedTable, Wakings, Wanted};
 use cast_types::{DomainNo, SiteNo};
 use crossbeam_channel::{Receiver, Sender};
 use std::alloc::Global;
@@ -86,12 +86,12 @@ fn cast_and_look<L: Ledger, C: Clock, R: Wait>(
     job: Job,
     pace: &Pace,
     asks: Option<Wanted>,
-) -> Result<Done, (Job, Turn)> {
+) -> Result<Done, (Job, Wakings)> {
     let before = kept.table().backlog(pace.domain);
     if let (Some(backlog), Some(wanted)) = (before, asks)
-        && let Some(turn) = pace.turn(rt, backlog, wanted)
+        && let Some(wakings) = pace.must_wait(rt, backlog, wanted)
     {
-        return Err((job, turn));
+        return Err((job, wakings));
     }
     let done = complete(rt, trimmer, kept, share, job);
     if let (Some(before), Some(after)) = (before, kept.table().backlog(pace.domain)) {
@@ -279,7 +279,7 @@ impl<L: Ledger + Send + Sync, C: Clock + Sync> SharedTable for LockedTable<'_, L
         job: Job,
         pace: &Pace,
         asks: Option<Wanted>,
-    ) -> Result<Came, (Job, Turn)> {
+    ) -> Result<Came, (Job, Wakings)> {
         let served = {
             let _lane = self.lanes.enter(rt, domain_of(&job));
             let mut kept = self.lock(rt);

@@ -13,10 +13,10 @@ use Rattle.cast_message.specs.declared.client.Push.{Push}
 use Rattle.cast_message.specs.declared.client.Request.{Request}
 use Rattle.cast_client.specs.Reading.{client_of}
 use Rattle.cast_client.proofs.Stays.{frame_stays, fault_stays}
-use Rattle.cast_session.specs.declared.frames.Turn.TheVariants as turn
+use Rattle.cast_session.specs.declared.frames.ReadStep.TheVariants as step
 use Rattle.cast_session.specs.declared.client.PushFault.TheVariants as faults
 use Rattle.cast_session.specs.Known.{Between}
-use Rattle.cast_session.specs.Turns.{Turned}
+use Rattle.cast_session.specs.ReadSteps.{HasRead}
 use Rattle.cast_session.specs.Pushes.{push_at, push_or_fault, IsCut, ReadsPush}
 use Rattle.cast_session.proofs.Pumping.{consumes_more}
 
@@ -68,57 +68,57 @@ pub ends_at_last_turn : {a b : Option (List ℕ)} {old : List ℕ} {n : ℕ} →
 ends_at_last_turn {a} {b} {old} {n} p e = from_read a b old (ReadsPush (Err faults.ReadFault)) p.consumed (λ left. (old, refl, (n, e)))
 
 module _ {a b c : Option (List ℕ)} {old kept : List ℕ} where
-  pub ends_at_push : {push : Push} → Awaiting a b old → Turned b c old kept (turn.Frame (client.Push push)) →
+  pub ends_at_push : {push : Push} → Awaiting a b old → HasRead b c old kept (step.Frame (client.Push push)) →
       Between a c (ReadsPush (Ok (Some push)))
-  ends_at_push {push} p turned =
-      let all = old ++ turned.came in
-      from_read a c all (ReadsPush (Ok (Some push))) (consumes_more a b c old turned.came p.consumed turned.consumed)
+  ends_at_push {push} p has =
+      let all = old ++ has.came in
+      from_read a c all (ReadsPush (Ok (Some push))) (consumes_more a b c old has.came p.consumed has.consumed)
       (λ left.
       at_front (all ++ left) (Ok (read.Frame (client.Push push) (length all)))
-      (frame_stays all left (client.Push push) (length all) turned.is.0)
+      (frame_stays all left (client.Push push) (length all) has.is.0)
       ∙ ap (λ (l : List ℕ). Ok (Some push, l)) (drop-append_seam all left))
 
-  pub ends_at_request : {r : Request} → Awaiting a b old → Turned b c old kept (turn.Frame (client.Request r)) →
+  pub ends_at_request : {r : Request} → Awaiting a b old → HasRead b c old kept (step.Frame (client.Request r)) →
       Between a c (ReadsPush (Err (faults.Frame WrongType)))
-  ends_at_request {r} p turned =
-      let all = old ++ turned.came in
-      from_read a c all (ReadsPush (Err (faults.Frame WrongType))) (consumes_more a b c old turned.came p.consumed turned.consumed)
+  ends_at_request {r} p has =
+      let all = old ++ has.came in
+      from_read a c all (ReadsPush (Err (faults.Frame WrongType))) (consumes_more a b c old has.came p.consumed has.consumed)
       (λ left other.
-      let stays = frame_stays all left (client.Request r) (length all) turned.is.0 in (
+      let stays = frame_stays all left (client.Request r) (length all) has.is.0 in (
         at_front (all ++ left) (Ok (read.Frame (client.Request r) (length all))) stays,
         λ cut. absurd (frame_is_not_cut (all ++ left) (client.Request r) (length all) stays cut),
       ))
 
-  pub ends_at_fault : {e : FrameFault} → Awaiting a b old → Turned b c old kept (turn.Fault e) →
+  pub ends_at_fault : {e : FrameFault} → Awaiting a b old → HasRead b c old kept (step.Fault e) →
       Between a c (ReadsPush (Err (faults.Frame e)))
-  ends_at_fault {e} p turned =
-      let all = old ++ turned.came in
-      from_read a c all (ReadsPush (Err (faults.Frame e))) (consumes_more a b c old turned.came p.consumed turned.consumed)
+  ends_at_fault {e} p has =
+      let all = old ++ has.came in
+      from_read a c all (ReadsPush (Err (faults.Frame e))) (consumes_more a b c old has.came p.consumed has.consumed)
       (λ left other.
-      let stays = fault_stays all left e (turned.is other) in
+      let stays = fault_stays all left e (has.is other) in
       (at_front (all ++ left) (Err e) stays, λ cut. absurd (fault_is_not_cut (all ++ left) e stays cut)))
 
   -- the bytes that had come are all
-  all_came : Awaiting a b old → (turned : Turned b c old kept turn.End) → (Consumes a c old) × (kept ≡ old)
-  all_came p turned =
-      let consumed = consumes_more a b c old turned.came p.consumed turned.consumed in
-      (rw (turned.is.0, append-nil) at consumed, rw (turned.is.0, append-nil) at turned.is.1)
+  all_came : Awaiting a b old → (has : HasRead b c old kept step.End) → (Consumes a c old) × (kept ≡ old)
+  all_came p has =
+      let consumed = consumes_more a b c old has.came p.consumed has.consumed in
+      (rw (has.is.0, append-nil) at consumed, rw (has.is.0, append-nil) at has.is.1)
 
-  pub ends_before_a_frame : {n : ℕ} → Awaiting a b old → client_of old ≡ Ok (read.More n) → Turned b c old kept turn.End → kept ≡ [] →
+  pub ends_before_a_frame : {n : ℕ} → Awaiting a b old → client_of old ≡ Ok (read.More n) → HasRead b c old kept step.End → kept ≡ [] →
       Between a c (ReadsPush (Ok None))
-  ends_before_a_frame {n} p e turned none =
-      let all = all_came p turned in
-      from_all a c old (ReadsPush (Ok None)) all.0 turned.is.2 (none_at old n e (sym all.1 ∙ none))
+  ends_before_a_frame {n} p e has none =
+      let all = all_came p has in
+      from_all a c old (ReadsPush (Ok None)) all.0 has.is.2 (none_at old n e (sym all.1 ∙ none))
 
-  pub ends_within_a_frame : {n : ℕ} → Awaiting a b old → client_of old ≡ Ok (read.More n) → Turned b c old kept turn.End → kept ≢ [] →
+  pub ends_within_a_frame : {n : ℕ} → Awaiting a b old → client_of old ≡ Ok (read.More n) → HasRead b c old kept step.End → kept ≢ [] →
       Between a c (ReadsPush (Err (faults.Frame Short)))
-  ends_within_a_frame {n} p e turned some =
-      let all = all_came p turned in
+  ends_within_a_frame {n} p e has some =
+      let all = all_came p has in
       from_all a c old (ReadsPush (Err (faults.Frame Short)))
-      all.0 turned.is.2 (λ other. (short_at old n e (λ none. some (all.1 ∙ none)), λ cut. refl))
+      all.0 has.is.2 (λ other. (short_at old n e (λ none. some (all.1 ∙ none)), λ cut. refl))
 
-  pub ends_at_read_fault : {n : ℕ} → Awaiting a b old → client_of old ≡ Ok (read.More n) → Turned b c old kept turn.ReadFault →
+  pub ends_at_read_fault : {n : ℕ} → Awaiting a b old → client_of old ≡ Ok (read.More n) → HasRead b c old kept step.ReadFault →
       Between a c (ReadsPush (Err faults.ReadFault))
-  ends_at_read_fault {n} p e turned =
-      let consumed = rw (turned.is, append-nil) at (consumes_more a b c old turned.came p.consumed turned.consumed) in
+  ends_at_read_fault {n} p e has =
+      let consumed = rw (has.is, append-nil) at (consumes_more a b c old has.came p.consumed has.consumed) in
       from_read a c old (ReadsPush (Err faults.ReadFault)) consumed (λ left. (old, refl, (n, e)))

@@ -1,7 +1,7 @@
 pub mod Known
 pub mod Commands
 pub mod Incoming
-pub mod Turns
+pub mod ReadSteps
 pub mod Outgoing
 pub mod Pushes
 pub mod Laws

@@ -6,7 +6,7 @@ ghost use Rattle.cast_device.specs.Writing.{Writes};
 ghost use Rattle.cast_session.specs.Known.{Between};
 ghost use Rattle.cast_session.specs.Pushes.{ReadsPush};
 
-use crate::frames::{Incoming, Turn};
+use crate::frames::{Incoming, ReadStep};
 use crate::outgoing::OutFault;
 use cast_client::encode_client;
 use cast_device::{PATIENCE, Watched, write_whole};
@@ -41,16 +41,16 @@ pub fn read_push<R: Read>(alloc: Global, reader: &mut Watched<R>) -> Result<Opti
     let mut incoming = Incoming::new(alloc);
     reader.begin();
     for _turn in 0..PATIENCE {
-        match incoming.turn(alloc, reader) {
-            Turn::Part => {}
-            Turn::Frame(ClientFrame::Push(push)) => return Ok(Some(push)),
-            Turn::Frame(ClientFrame::Request(_)) => {
+        match incoming.read_more(alloc, reader) {
+            ReadStep::Part => {}
+            ReadStep::Frame(ClientFrame::Push(push)) => return Ok(Some(push)),
+            ReadStep::Frame(ClientFrame::Request(_)) => {
                 return Err(PushFault::Frame(FrameFault::WrongType));
             }
-            Turn::Fault(fault) => return Err(PushFault::Frame(fault)),
-            Turn::End if incoming.is_empty() => return Ok(None),
-            Turn::End => return Err(PushFault::Frame(FrameFault::Short)),
-            Turn::ReadFault => return Err(PushFault::ReadFault),
+            ReadStep::Fault(fault) => return Err(PushFault::Frame(fault)),
+            ReadStep::End if incoming.is_empty() => return Ok(None),
+            ReadStep::End => return Err(PushFault::Frame(FrameFault::Short)),
+            ReadStep::ReadFault => return Err(PushFault::ReadFault),
         }
     }
     Err(PushFault::ReadFault)

@@ -17,7 +17,7 @@ const CHUNK: usize = 4096;
 
 /// What one call of `read` came to.
 #[derive(Drop)]
-pub enum Turn {
+pub enum ReadStep {
     /// The frame is whole.
     Frame(ClientFrame),
     /// It is not, and no fault stands there. Also where the call was interrupted.
@@ -41,7 +41,7 @@ pub struct Incoming {
 
 impl Incoming {
     ghost use Rattle.cast_device.specs.Watching.{HasFailed, calls_of};
-    ghost use Rattle.cast_session.specs.Turns.{Added, Turned};
+    ghost use Rattle.cast_session.specs.ReadSteps.{Added, HasRead};
 
     /// No byte of a frame.
     #[tactic(auto, using(crate::proofs::Fronts::no_front))]
@@ -62,45 +62,45 @@ impl Incoming {
     }
 
     /// One call of `read`, for no more bytes than are wanting.
-    pub fn turn<R: Read>(&mut self, alloc: Global, reader: &mut Watched<R>) -> Turn
+    pub fn read_more<R: Read>(&mut self, alloc: Global, reader: &mut Watched<R>) -> ReadStep
         requires { calls_of reader.old < PATIENCE }
-        ensures turned { Turned (R.remaining reader.old.device) (R.remaining reader.new.device)
+        ensures read { HasRead (R.remaining reader.old.device) (R.remaining reader.new.device)
             self.old.bytes.items self.new.bytes.items result }
         ensures calls { calls_of reader.new ≡ calls_of reader.old + 1 }
-        ensures failed { HasFailed reader.new ↔ (HasFailed reader.old ⊎ (result ≡ Turn.ReadFault)) }
+        ensures failed { HasFailed reader.new ↔ (HasFailed reader.old ⊎ (result ≡ ReadStep.ReadFault)) }
     {
         let mut chunk = [0; CHUNK];
         let room = &mut chunk[..self.wanting.min(CHUNK)];
         match reader.read(room) {
-            Ok(0) => Turn::End,
+            Ok(0) => ReadStep::End,
             Ok(count) => self.add(alloc, &room[..count]),
-            Err(error) if error.kind() == ErrorKind::Interrupted => Turn::Part,
-            Err(_) => Turn::ReadFault,
+            Err(error) if error.kind() == ErrorKind::Interrupted => ReadStep::Part,
+            Err(_) => ReadStep::ReadFault,
         }
     }
 
     // Takes in bytes that came.
     #[tactic(auto, using(crate::proofs::Fronts::no_front))]
-    fn add(&mut self, alloc: Global, bytes: &[u8]) -> Turn
+    fn add(&mut self, alloc: Global, bytes: &[u8]) -> ReadStep
         ensures { Added result (self.old.bytes.items ++ bytes.now) self.new.bytes.items }
     {
         if self.bytes.extend_from_slice(bytes).is_err() {
-            return Turn::Fault(FrameFault::NoMemory);
+            return ReadStep::Fault(FrameFault::NoMemory);
         }
         match decode_client(alloc, &self.bytes) {
             Ok(ClientRead::More(wanting)) => {
                 self.wanting = wanting;
-                Turn::Part
+                ReadStep::Part
             }
             Ok(ClientRead::Frame(frame, _)) => {
                 self.bytes.clear();
                 self.wanting = LENGTH;
-                Turn::Frame(frame)
+                ReadStep::Frame(frame)
             }
             Err(fault) => {
                 self.bytes.clear();
                 self.wanting = LENGTH;
-                Turn::Fault(fault)
+                ReadStep::Fault(fault)
             }
         }
     }

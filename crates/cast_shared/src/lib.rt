@@ -16,7 +16,7 @@ mod table;
 mod udp;
 
 pub use desk::{Desk, Opened, Opening, Purpose};
-pub use pace::{Pace, Patience, Turn, Wanted};
+pub use pace::{Pace, Patience, Wakings, Wanted};
 pub use record::{CUT, Record, Tape, run_recorder};
 pub use shared::{Shared, Traffic, Turnstile};
 pub use speed::Speed;

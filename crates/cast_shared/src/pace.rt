@@ -29,9 +29,9 @@ const OVERHEAD: u64 = 1_024;
 // No cast waits.
 const NONE: u64 = u64::MAX;
 
-/// Which time the readers were woken, as a reader saw it that waits.
+/// How often the readers had been woken when a cast began to wait.
 #[derive(Clone, Copy, Debug, PartialEq, Eq)]
-pub struct Turn(u64);
+pub struct Wakings(u64);
 
 /// What a cast asks for.
 #[derive(Clone, Copy, Debug, PartialEq, Eq)]
@@ -70,7 +70,7 @@ impl Patience {
 #[derive(Drop)]
 struct Casts {
     latest: VecDeque<u64>,
-    turn: u64,
+    wakings: u64,
     is_over: bool,
 }
 
@@ -85,7 +85,7 @@ pub struct Pace {
     // Readers wait until the oldest message that is kept has this key.
     awaited: AtomicU64,
     casts: Mutex<Casts>,
-    has_turned: Condvar,
+    were_woken: Condvar,
     // None if casts may queue for as long as they like.
     speed: Option<Mutex<Speed>>,
 }
@@ -104,7 +104,7 @@ impl Pace {
     pub fn new(alloc: Global, config: &DomainConfig, room: u64, delay: u32) -> Self {
         let casts = Casts {
             latest: VecDeque::new(alloc),
-            turn: 0,
+            wakings: 0,
             is_over: false,
         };
         Pace {
@@ -113,7 +113,7 @@ impl Pace {
             room,
             awaited: AtomicU64::new(NONE),
             casts: Mutex::new(casts),
-            has_turned: Condvar::new(),
+            were_woken: Condvar::new(),
             speed: if delay > 0 {
                 Some(Mutex::new(Speed::new(delay)))
             } else {
@@ -161,8 +161,9 @@ impl Pace {
         (fitting.max(2) as usize).min(window_of(limit, self.sites))
     }
 
-    /// Whether a cast has to wait, and for which turn, where the domain is so far behind.
-    pub fn turn<R: Wait>(&self, rt: &R, backlog: Backlog, wanted: Wanted) -> Option<Turn> {
+    /// Whether a cast has to wait, where the domain is so far behind: then how often the readers
+    /// were woken before.
+    pub fn must_wait<R: Wait>(&self, rt: &R, backlog: Backlog, wanted: Wanted) -> Option<Wakings> {
         let oldest = backlog.oldest?.0 as u64;
         let allowed = self.allowed(rt, wanted.at_once);
         let window = self.window(backlog.limit, wanted.len).min(allowed);
@@ -174,7 +175,7 @@ impl Pace {
         let awaited = *casts.latest.get(first + window / 4)?;
         self.awaited.fetch_min(awaited, Ordering::SeqCst);
         self.use_up(rt);
-        Some(Turn(casts.turn))
+        Some(Wakings(casts.wakings))
     }
 
     /// Notes that a cast was served. The domain was so far behind before it, and is so far after
@@ -208,10 +209,10 @@ impl Pace {
     /// Wakes the readers that wait.
     pub fn wake<R: Wait>(&self, rt: &R) {
         let mut casts = self.casts.lock(rt);
-        casts.turn = casts.turn.wrapping_add(1);
+        casts.wakings = casts.wakings.wrapping_add(1);
         self.awaited.store(NONE, Ordering::SeqCst);
         drop(casts);
-        self.has_turned.notify_all();
+        self.were_woken.notify_all();
     }
 
     /// Wakes the readers if any wait.
@@ -227,11 +228,11 @@ impl Pace {
         self.wake(rt);
     }
 
-    /// Waits until the readers are woken the next time, at most for so long.
-    pub fn wait<R: Wait + Clock>(&self, rt: &R, turn: Turn, most: Duration) {
+    /// Waits until the readers are woken once more, at most for so long.
+    pub fn wait<R: Wait + Clock>(&self, rt: &R, before: Wakings, most: Duration) {
         let casts = self.casts.lock(rt);
-        if casts.turn == turn.0 && !casts.is_over {
-            let (casts, _) = self.has_turned.wait_timeout(rt, casts, most);
+        if casts.wakings == before.0 && !casts.is_over {
+            let (casts, _) = self.were_woken.wait_timeout(rt, casts, most);
             drop(casts);
         }
     }

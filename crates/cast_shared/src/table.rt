@@ -1,5 +1,5 @@
 //! The table of a daemon behind its lock, as the threads use it.
-use crate::pace::{Pace, Turn, Wanted};
+use crate::pace::{Pace, Wakings, Wanted};
 use cast_edge::Heard;
 use cast_events::{Asked, Fault, Outs, Raw, Taken, Told};
 use cast_types::{DomainNo, NoMemory, SiteNo};
@@ -76,8 +76,8 @@ pub trait SharedTable {
         paces: &[Pace],
     ) -> (Came, Came, usize);
 
-    /// Does the job of a cast, unless its program has to wait: then the job comes back, with the
-    /// turn to wait for. A cast of which it is not said what it asks for does not wait.
+    /// Does the job of a cast, unless its program has to wait: then the job comes back, with
+    /// how often the readers were woken before. A cast of which it is not said what it asks for does not wait.
     fn cast<R: Wait>(
         &self,
         rt: &R,
@@ -85,7 +85,7 @@ pub trait SharedTable {
         job: Self::Job,
         pace: &Pace,
         asks: Option<Wanted>,
-    ) -> Result<Came, (Self::Job, Turn)>;
+    ) -> Result<Came, (Self::Job, Wakings)>;
 
     /// Serves as a worker until nothing can be asked any more.
     fn work<R: Wait>(

@@ -67,7 +67,7 @@ impl<'a, T: SharedTable> Reader<'a, T> {
             len,
             at_once: self.count.max(self.last_count),
         };
-        let (mut job, mut turn) = match self.server.cast(rt, job, pace, Some(wanted)) {
+        let (mut job, mut wakings) = match self.server.cast(rt, job, pace, Some(wanted)) {
             Ok(came) => return came,
             Err(back) => back,
         };
@@ -75,11 +75,11 @@ impl<'a, T: SharedTable> Reader<'a, T> {
         self.flush(rt);
         for _ in rt.forever() {
             let left = patience.left(rt);
-            pace.wait(rt, turn, left);
+            pace.wait(rt, wakings, left);
             let asks = if left.is_zero() { None } else { Some(wanted) };
             match self.server.cast(rt, job, pace, asks) {
                 Ok(came) => return came,
-                Err(back) => (job, turn) = back,
+                Err(back) => (job, wakings) = back,
             }
         }
         unreachable!()

@@ -7,7 +7,7 @@ use cast_events::{Asked, Event, Fault, Outs, Taken};
 use cast_link::{Wire, send_all, send_bundled};
 use cast_message::Push;
 use cast_session::spell_out;
-use cast_shared::{Came, Pace, Shared, SharedTable, Turn, Udp, Wanted};
+use cast_shared::{Came, Pace, Shared, SharedTable, Udp, Wakings, Wanted};
 use cast_types::{DomainNo, List, Refusal, SiteNo};
 use std::mem;
 use std::rt::Clock;
@@ -89,15 +89,15 @@ impl<'a, T: SharedTable> Server<'a, T> {
         self.shared.tape.let_go(rt);
     }
 
-    /// Does the job of a cast at a pace. If it has to wait, the job comes back, with the turn to
-    /// wait for.
+    /// Does the job of a cast at a pace. If it has to wait, the job comes back, with how
+    /// often the readers were woken before.
     pub fn cast<R: Wait>(
         &mut self,
         rt: &R,
         job: T::Job,
         pace: &Pace,
         asks: Option<Wanted>,
-    ) -> Result<Came, (T::Job, Turn)> {
+    ) -> Result<Came, (T::Job, Wakings)> {
         let shared = self.shared;
         shared.turnstile.pass(rt);
         let served = shared.table.cast(rt, &mut self.share, job, pace, asks);
