@@ -5,3 +5,4 @@ pub mod Closed
 pub mod Logs
 pub mod Hands
 pub mod Steps
+pub mod Sizes

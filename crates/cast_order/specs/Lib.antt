@@ -3,3 +3,4 @@ pub mod Hand
 pub mod Log
 pub mod Fits
 pub mod Laws
+pub mod Sizes

@@ -11,6 +11,8 @@ ghost use Rattle.cast_order.specs.Laws.{PlaceKeepsOrder, CloseEndsTheOrder};
 ghost use Rattle.cast_order.specs.Laws.{ClosedLearnsNothing, PassKeepsClosed, MoreKeepsClosed};
 ghost use Rattle.cast_order.specs.Laws.{HandKeepsClosed, NextIsOfTheClosed, ChangeIsOfOneGroup};
 ghost use Rattle.cast_order.specs.Laws.{ForgetFirstIsOfOneGroup, ForgetIsOfOneGroup};
+ghost use Rattle.cast_order.specs.Sizes.{NewKeepsNone, LearnAddsItsFacts, PlacementTellsFew};
+ghost use Rattle.cast_order.specs.Sizes.{CloseAddsItsIds, ForgetAddsNone};
 
 /// The known order says what the rule says in words: each place has the first id told for it, and
 /// the order ends only before a place of which nothing was told, or at the last place.
@@ -85,4 +87,15 @@ pub fn groups_do_not_mix()
     ensures change { ChangeIsOfOneGroup }
     ensures forget_first { ForgetFirstIsOfOneGroup }
     ensures forget { ForgetIsOfOneGroup }
+{}
+
+/// What the log of an order keeps is bounded by what it was told. A new log keeps no ids. A
+/// set-order message adds at most as many as it tells, and it tells at most 64. The end of the
+/// order adds at most those that are told with it. Forgetting first ids adds none.
+pub fn what_is_kept_is_bounded()
+    ensures new { NewKeepsNone }
+    ensures learnt { LearnAddsItsFacts }
+    ensures few { PlacementTellsFew }
+    ensures closed { CloseAddsItsIds }
+    ensures forgot { ForgetAddsNone }
 {}

@@ -20,6 +20,8 @@
 //!   `Orders::{learn, pass, oldest, forget_first, forget}`.
 //! - Once a view's end is told, the order is the closed one, but for ids that were forgotten, and
 //!   it stays: `laws::a_closed_order_stays`; `Orders::close`.
+//! - A set-order message adds at most the ids that it tells to what is kept, and the end of the
+//!   order at most those told with it: `laws::what_is_kept_is_bounded`.
 #![tactic(auto)]
 
 mod hand;
