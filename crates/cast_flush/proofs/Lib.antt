@@ -4,3 +4,4 @@ pub mod Cuts
 pub mod Lacking
 pub mod Ends
 pub mod Kept
+pub mod Wanting

@@ -1,15 +1,18 @@
 -- What the reports of a flush decide, in words.
-use Rattle.std.specs.Prelude.{◌≡◌, ◌↔◌, ℕ, ◌≤◌, true, false, not, ◌&&◌}
-use Rattle.std.specs.Prelude.{nat_le, List, length, slice_get, ◌⊎◌, Some}
+use Rattle.std.specs.Prelude.{◌≡◌, ◌↔◌, ℕ, ◌≤◌, ◌<◌, true, false, not, ◌&&◌}
+use Rattle.std.specs.Prelude.{nat_le, List, [], ◌∷◌, ◌++◌, length, slice_get, ◌⊎◌, Some, sum_by}
 use Rattle.std.specs.List.{list_any, list_all}
 use Rattle.std.specs.Option.{option_map}
 use Rattle.cast_types.specs.declared.limits.TheConstants.{MAX_TAIL}
 use Rattle.cast_types.specs.declared.names.SiteNo.{SiteNo}
+use Rattle.cast_types.specs.declared.names.GroupNo.{GroupNo}
 use Rattle.cast_types.specs.declared.names.Proc.{Proc}
-use Rattle.cast_types.specs.Names.{Entry, site_eq, proc_eq, entry_eq}
+use Rattle.cast_types.specs.Names.{Entry, site_eq, proc_eq, entry_eq, entry_of, uid_in}
 use Rattle.cast_types.specs.Sets.{is_among}
 use Rattle.cast_types.specs.Counts.{CountList, count_of, is_within}
+use Rattle.cast_message.specs.declared.message.Message.{Message}
 use Rattle.cast_flush.specs.Reports.{Reports, cut_from, keeps, needed_entries, keeper_of}
+use Rattle.cast_flush.specs.Reports.{wanting}
 use Rattle.cast_flush.specs.Decisions.{end_of, no_stretch, longest}
 use Rattle.cast_flush.specs.Decisions.{unplaced_entries, ids_from, order_from}
 
@@ -70,3 +73,19 @@ abbrev pub OrderIsWithinTheCut : Type 0
 OrderIsWithinTheCut =
     (cut : CountList) (reports : Reports)
     → list_all (is_within cut) (order_from cut reports).ids ≡ true
+
+-- Each message that comes and is wanted leaves fewer that are
+abbrev pub EachBodyLeavesFewer : Type 0
+EachBodyLeavesFewer =
+    (g : GroupNo) (view : ℕ) (cut : CountList) (reports : Reports) (bodies : List Message)
+    (m : Message)
+    → m.id ≡ uid_in g view (entry_of m.id)
+    → is_among entry_eq (entry_of m.id) (wanting g view cut reports bodies) ≡ true
+    → length (wanting g view cut reports (bodies ++ m ∷ []))
+    < length (wanting g view cut reports bodies)
+
+-- At first no more are wanted than the reports name in all
+abbrev pub WantingIsNamed : Type 0
+WantingIsNamed =
+    (g : GroupNo) (view : ℕ) (cut : CountList) (reports : Reports) (bodies : List Message)
+    → length (wanting g view cut reports bodies) ≤ sum_by (λ r. length r.1.kept) reports

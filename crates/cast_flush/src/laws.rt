@@ -1,5 +1,6 @@
 ghost use Rattle.cast_flush.specs.Laws.{CutInWords, NeededInWords, KeeperInWords, LongestInWords};
 ghost use Rattle.cast_flush.specs.Laws.{UnplacedInWords, OrderIsWhole, OrderIsWithinTheCut};
+ghost use Rattle.cast_flush.specs.Laws.{EachBodyLeavesFewer, WantingIsNamed};
 
 /// The cut says what the rule says in words: of each member as many messages belong to the view as
 /// some awaited site has had, and no fewer than any of them.
@@ -22,4 +23,11 @@ pub fn order_is_the_rule_in_words()
     ensures unplaced { UnplacedInWords }
     ensures whole { OrderIsWhole }
     ensures within { OrderIsWithinTheCut }
+{}
+
+/// No more messages are wanted than the reports name, and each that comes leaves fewer: so no more
+/// come than the reports name.
+pub fn what_comes_is_bounded()
+    ensures fewer { EachBodyLeavesFewer }
+    ensures named { WantingIsNamed }
 {}

@@ -1,6 +1,6 @@
 -- The first entry behind a source, and that fewer stand behind its own.
-use Rattle.std.proofs.Common.{◌≡◌, ◌<◌, ◌≤◌, Bool, true, false, cond, not, List, [], ◌∷◌, length, filter, Ordering}
-use Rattle.std.proofs.Common.{Less, Equal, Greater, Option, Some, None, refl, sym, ap, subst, ◌∙◌, inl, inr, arith, Bor}
+use Rattle.std.proofs.Common.{◌≡◌, ◌<◌, Bool, true, false, cond, not, List, [], ◌∷◌, filter, Ordering}
+use Rattle.std.proofs.Common.{Less, Equal, Greater, Option, Some, None, refl, sym, ap, subst, ◌∙◌, inl, inr, Bor}
 use Rattle.std.specs.Prelude.{◌==◌, ◌&&◌, ◌||◌, IsTrue}
 use Rattle.std.specs.List.{list_any, find, AllByRecursion}
 use Rattle.std.specs.List.Sorted.{IsStrictlySortedBy}
@@ -14,6 +14,7 @@ use Rattle.cast_types.specs.declared.names.Key.{Key}
 use Rattle.cast_types.specs.declared.source.Source.{Source}
 use Rattle.cast_types.specs.Names.{uid_eq}
 use Rattle.cast_types.specs.Sources.{source_cmp, source_of}
+use Rattle.cast_types.proofs.Lengths.{filter_fewer}
 use Rattle.cast_types.proofs.Orders.{same_uid, uid_itself}
 use Rattle.cast_types.proofs.Rising.{less_is}
 use Rattle.cast_types.proofs.Sources.{source_total}
@@ -44,40 +45,6 @@ further (Some s) id u behind more =
 pub not_itself : (u : Uid) → is_behind (Some (source_of u)) u ≡ false
 not_itself u = ap is_lt (tied_itself source_total (source_of u))
 
--- a test that implies another keeps at most as many, and fewer where one that passes the other fails it
-module _ {X : Type 0} (p q : X → Bool) (implied : (x : X) → p x ≡ true → q x ≡ true) where
-  at_most : (xs : List X) → length (filter p xs) ≤ length (filter q xs)
-  at_most [] = omega arith
-  at_most (x ∷ xs) = let rest = at_most xs in elim (cases_Bool (p x)) [
-    | inl pass ↦ rw (pass, implied x pass) (omega (arith, rest))
-    | inr fail ↦ elim (cases_Bool (q x)) [
-      | inl more ↦ rw (fail, more) (omega (arith, rest))
-      | inr none ↦ rw (fail, none) rest
-    ]
-  ]
-
-  pub fewer : (xs : List X) → list_any (λ x. q x && not (p x)) xs ≡ true → length (filter p xs) < length (filter q xs)
-  fewer [] some = absurd (false≢true some)
-  fewer (x ∷ xs) some = elim (or_cases (q x && not (p x)) (list_any (λ y. q y && not (p y)) xs) some) [
-    | inl here ↦
-        let parts = and_parts (q x) (not (p x)) here in
-        let rest = at_most xs in
-        rw (parts.0, is_not (p x) parts.1) (omega (arith, rest))
-    | inr later ↦
-        let rest = fewer xs later in
-        elim (cases_Bool (p x)) [
-          | inl pass ↦ rw (pass, implied x pass) (omega (arith, rest))
-          | inr fail ↦ elim (cases_Bool (q x)) [
-            | inl more ↦ rw (fail, more) (omega (arith, rest))
-            | inr none ↦ rw (fail, none) rest
-          ]
-        ]
-  ]
-    where
-      is_not : (b : Bool) → not b ≡ true → b ≡ false
-      is_not true h = absurd (false≢true h)
-      is_not false h = refl
-
 any_from : (entries : List Entry) (u : Uid) (k : Key) (test : Entry → Bool) → has entries u k ≡ true →
     test (record { id = u; number = k.0 }) ≡ true → list_any test entries ≡ true
 any_from [] u k test there passes = absurd (false≢true there)
@@ -97,7 +64,7 @@ any_from (e ∷ es) u k test there passes = elim (or_cases (uid_eq u e.id && (k.
 pub fewer_left : (entries : List Entry) (after : Option Source) (e : Entry) → IsFirstEntry entries (λ x. is_behind after x.id) e →
     behind_count entries (Some (source_of e.id)) < behind_count entries after
 fewer_left entries after e first =
-    fewer (λ x. is_behind (Some (source_of e.id)) x.id) (λ x. is_behind after x.id)
+    filter_fewer (λ x. is_behind (Some (source_of e.id)) x.id) (λ x. is_behind after x.id)
     (λ x more. further after e.id x.id first.passes more)
     entries
     (any_from entries e.id (record { 0 = e.number }) (λ x. is_behind after x.id && not (is_behind (Some (source_of e.id)) x.id)) first.there

@@ -21,8 +21,8 @@ some_is_wanting bytes n e =
     ]
 
 -- where no more bytes came than were wanting, a frame ends with them
-pub came_to : (step : ReadStep) (old came kept : List ℕ) (n : ℕ) (left : Option (List ℕ)) → client_of old ≡ Ok (read.More n) → length came ≤ n →
-    Added step (old ++ came) kept → CameTo step (old ++ came) kept came left
+pub came_to : (step : ReadStep) (old came kept : List ℕ) (n : ℕ) (left : Option (List ℕ)) →
+    client_of old ≡ Ok (read.More n) → length came ≤ n → Added step (old ++ came) kept → CameTo step (old ++ came) kept came left
 came_to (Frame f) old came kept n left wants few added =
     let whole = ends_with_them old came n f added.0 wants few added.1 in
     (added.1 ∙ ap (λ (k : ℕ). Ok (read.Frame f k)) whole, added.2)

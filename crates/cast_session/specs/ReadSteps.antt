@@ -5,7 +5,8 @@ use Rattle.cast_field.specs.declared.fault.FrameFault.TheVariants.{NoMemory}
 use Rattle.cast_client.specs.declared.front.ClientRead.TheVariants as read
 use Rattle.cast_client.specs.Reading.{client_of}
 use Rattle.cast_session.specs.declared.frames.ReadStep.{ReadStep}
-use Rattle.cast_session.specs.declared.frames.ReadStep.TheVariants.{Frame, Part, End, Fault, ReadFault}
+use Rattle.cast_session.specs.declared.frames.ReadStep.TheVariants.{Frame, Part, End, Fault}
+use Rattle.cast_session.specs.declared.frames.ReadStep.TheVariants.{ReadFault}
 
 -- what it is by all bytes of the frame that have come, and which bytes are kept for the next call
 abbrev pub Added : ReadStep → List ℕ → List ℕ → Type 0
@@ -24,7 +25,8 @@ CameTo (Fault e) all kept came left = e ≢ NoMemory → client_of all ≡ Err e
 CameTo End all kept came left = (came ≡ []) × (kept ≡ all) × IsAtEnd left
 CameTo ReadFault all kept came left = came ≡ []
 
-pub record HasRead (before left : Option (List ℕ)) (old kept : List ℕ) (step : ReadStep) : Type 0 where
+pub record HasRead (before left : Option (List ℕ)) (old kept : List ℕ)
+    (step : ReadStep) : Type 0 where
   -- the bytes that came
   pub came : List ℕ
   pub consumed : Consumes before left came

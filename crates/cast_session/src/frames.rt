@@ -67,7 +67,8 @@ impl Incoming {
         ensures read { HasRead (R.remaining reader.old.device) (R.remaining reader.new.device)
             self.old.bytes.items self.new.bytes.items result }
         ensures calls { calls_of reader.new ≡ calls_of reader.old + 1 }
-        ensures failed { HasFailed reader.new ↔ (HasFailed reader.old ⊎ (result ≡ ReadStep.ReadFault)) }
+        ensures failed { HasFailed reader.new
+            ↔ (HasFailed reader.old ⊎ (result ≡ ReadStep.ReadFault)) }
     {
         let mut chunk = [0; CHUNK];
         let room = &mut chunk[..self.wanting.min(CHUNK)];

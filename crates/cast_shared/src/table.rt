@@ -76,8 +76,9 @@ pub trait SharedTable {
         paces: &[Pace],
     ) -> (Came, Came, usize);
 
-    /// Does the job of a cast, unless its program has to wait: then the job comes back, with
-    /// how often the readers were woken before. A cast of which it is not said what it asks for does not wait.
+    /// Does the job of a cast, unless its program has to wait: then the job comes back, with how
+    /// often the readers were woken before. A cast of which it is not said what it asks for does
+    /// not wait.
     fn cast<R: Wait>(
         &self,
         rt: &R,

@@ -13,9 +13,10 @@ use Rattle.cast_types.specs.declared.names.SiteNo.{SiteNo}
 use Rattle.cast_types.specs.declared.names.GroupNo.{GroupNo}
 use Rattle.cast_types.specs.declared.names.Uid.{Uid}
 use Rattle.cast_types.specs.declared.source.Source.{Source}
-use Rattle.cast_types.specs.Sets.{with_item, at_order}
+use Rattle.cast_types.specs.Sets.{with_item}
 use Rattle.cast_types.specs.Sources.{source_cmp, source_of, is_ended}
 use Rattle.cast_types.proofs.CountLists.{true_of}
+use Rattle.cast_types.proofs.Lengths.{with_item_length}
 use Rattle.cast_types.proofs.Rising.{less_is}
 use Rattle.cast_types.proofs.Sources.{source_total}
 use Rattle.cast_stable.specs.declared.witness.Witness.{Witness}
@@ -27,16 +28,6 @@ use Rattle.cast_stable.specs.Sizes.{runs_size, size, is_in_order, HasNoneEnded}
 use Rattle.cast_stable.specs.Sizes.{IsAfter, opens, receives, takes_ack, learns, enters}
 use Rattle.cast_stable.proofs.Witnesses.{witness_total}
 
--- a set has at most one item more
-length-with_item : (m : ℕ) (ms : List ℕ) → length (with_item nat_cmp m ms) ≤ length ms + 1
-length-with_item m [] = omega arith
-length-with_item m (x ∷ ms) =
-    elim (nat_cmp m x) as (λ o. length (at_order o (m ∷ x ∷ ms) (x ∷ ms) (x ∷ with_item nat_cmp m ms)) ≤ suc (length ms) + 1) [
-      | Less ↦ omega arith
-      | Equal ↦ omega arith
-      | Greater ↦ omega (arith, length-with_item m ms)
-    ]
-
 -- a count adds at most one above the gaps
 inserted_above : (r : Run) (m : ℕ) → length (insert_count r m).above ≤ length r.above + 1
 inserted_above r m =
@@ -47,7 +38,7 @@ inserted_above r m =
           elim (m == r.upto + 1)
           as (λ b. length (if b then absorb m r.above else record r { above = with_item nat_cmp m r.above }).above ≤ length r.above + 1) [
             | true ↦ omega (arith, length-drop (run_after m r.above).1 r.above)
-            | false ↦ length-with_item m r.above
+            | false ↦ with_item_length nat_cmp m r.above
           ]
     ]
 

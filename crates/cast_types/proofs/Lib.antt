@@ -10,3 +10,4 @@ pub mod Rising
 pub mod Contains
 pub mod Results
 pub mod Maps
+pub mod Lengths
