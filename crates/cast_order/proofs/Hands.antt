@@ -27,7 +27,7 @@ use Rattle.cast_order.specs.Hand.{Hand, new_hand, note_placed, hand_of, hand_in,
 use Rattle.cast_order.specs.Log.{hand_here}
 use Rattle.cast_order.specs.Laws.{NewHandFits, HoldKeepsHand, HandOverKeepsHand, TellKeepsHand, FollowKeepsHand, PlaceKeepsHand}
 use Rattle.cast_order.specs.Laws.{NoteKeepsHand, SettledIsTheRule, HandChangeIsOfOne, LearntIsOfAll, ChangeKeepsOrder, PlaceKeepsOrder}
-use Rattle.cast_order.proofs.Meanings.{added, learnt_open, order_on}
+use Rattle.cast_order.proofs.Meanings.{added, with_placement_open, order_on}
 
 abbrev of_process : Proc → Hand → Bool
 of_process g l = proc_eq l.process g
@@ -359,7 +359,7 @@ learnt_each facts goes_on has_passed l fits s = (
   added s l,
   sym (order_on facts goes_on has_passed l fits s),
   λ p.
-      ap (λ x. hand_here x p) (learnt_open s l fits.still_open)
+      ap (λ x. hand_here x p) (with_placement_open s l fits.still_open)
       ∙ placed_each (drop (length l.window) (l.window ++ added s l)) l.hands p
       ∙ ap (λ ids. note_placed ids (hand_here l p)) (drop_at l.window (added s l) (length l.window) refl),
 )
