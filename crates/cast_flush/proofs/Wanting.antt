@@ -4,7 +4,7 @@ use Rattle.std.proofs.Common.{inl, inr, arith, map, sum_by, length-append}
 use Rattle.std.proofs.lemmas.List.{length-map}
 use Rattle.std.specs.Prelude.{◌&&◌, ◌||◌}
 use Rattle.std.specs.List.{list_any, flat_map}
-use Rattle.std.proofs.lemmas.Bool.{cases_Bool, or_cases, false≢true}
+use Rattle.std.proofs.lemmas.Bool.{cases_Bool, or_cases, or_right, false≢true}
 use Rattle.std.proofs.lemmas.List.Folds.{list_any-append}
 use Rattle.std.proofs.lemmas.List.Sums.{sum_by-cons}
 use Rattle.cast_types.specs.declared.names.SiteNo.{SiteNo}
@@ -19,10 +19,6 @@ use Rattle.cast_flush.specs.declared.report.Report.{Report}
 use Rattle.cast_flush.specs.Reports.{Reports, has_body, is_needed, all_kept, needed_entries, wanting}
 use Rattle.cast_flush.proofs.Each.{length_filter}
 
-or_true : (b : Bool) → (b || true) ≡ true
-or_true true = refl
-or_true false = refl
-
 -- an item of a filtered list that fails a second test is one that passes the first alone
 module _ {X : Type 0} (eq : X → X → Bool) (x : X) (p q : X → Bool) (fails : (y : X) → eq x y ≡ true → p y ≡ false) where
   one_fails : (xs : List X) → is_among eq x (filter q xs) ≡ true → list_any (λ y. q y && not (p y)) xs ≡ true
@@ -32,7 +28,7 @@ module _ {X : Type 0} (eq : X → X → Bool) (x : X) (p q : X → Bool) (fails 
         rw (none) (one_fails xs (rw (none) at there))
     | inl passes ↦ elim (or_cases (eq x y) (is_among eq x (filter q xs)) (rw (passes) at there)) [
       | inl here ↦ rw (passes, fails y here) refl
-      | inr later ↦ rw (one_fails xs later) (or_true (q y && not (p y)))
+      | inr later ↦ rw (one_fails xs later) (or_right (q y && not (p y)) true refl)
     ]
   ]
 
@@ -57,7 +53,7 @@ module _ (g : GroupNo) (view : ℕ) (bodies : List Message) (m : Message) where
   wanting_no_more of_view e same =
       let is : uid_eq m.id (uid_in g view e) ≡ true =
       ap (uid_eq m.id) (ap (uid_in g view) (sym (same_entry (entry_of m.id) e same)) ∙ sym of_view) ∙ uid_itself m.id in
-      ap not (is_there e ∙ ap (λ b. has_body g view bodies e || (b || false)) is ∙ or_true (has_body g view bodies e))
+      ap not (is_there e ∙ ap (λ b. has_body g view bodies e || (b || false)) is ∙ or_right (has_body g view bodies e) true refl)
 
 pub leaves_fewer : (g : GroupNo) (view : ℕ) (cut : CountList) (reports : Reports) (bodies : List Message) (m : Message) →
     m.id ≡ uid_in g view (entry_of m.id) → is_among entry_eq (entry_of m.id) (wanting g view cut reports bodies) ≡ true →

@@ -25,8 +25,8 @@ pub fn order_is_the_rule_in_words()
     ensures within { OrderIsWithinTheCut }
 {}
 
-/// No more messages are wanted than the reports name, and each that comes leaves fewer: so no more
-/// come than the reports name.
+/// No more messages are wanted than the reports name, and each that comes leaves fewer. So with
+/// these reports no more come than they name. A report that is taken away changes what is wanted.
 pub fn what_comes_is_bounded()
     ensures fewer { EachBodyLeavesFewer }
     ensures named { WantingIsNamed }

@@ -10,7 +10,8 @@
 //! - The cut, what is wanted from whom, and the order that ends a view are the definition's:
 //!   `cut_from`, `wanted_ids`, `wants_of`, `order_from`;
 //!   `laws::{cut_is_the_rule_in_words, needed_is_the_rule_in_words, order_is_the_rule_in_words}`.
-//! - No more messages come to the home than the reports name: `laws::what_comes_is_bounded`.
+//! - While the reports stay as they are, no more messages come to the home than they name:
+//!   `laws::what_comes_is_bounded`.
 #![tactic(auto)]
 
 mod decisions;
