@@ -1,13 +1,14 @@
 -- What is new, put in, makes the join; and whether a join has room is asked of the second time's groups alone.
-use Rattle.std.proofs.Common.{◌≡◌, ℕ, suc, ◌+◌, ◌<◌, ◌≤◌, Bool, true, false, cond, ◌&&◌, max, List, [], ◌∷◌, ◌++◌}
+use Rattle.std.proofs.Common.{◌≡◌, ℕ, zero, suc, ◌+◌, ◌<◌, ◌≤◌, Bool, true, false, cond, ◌&&◌, max, List, [], ◌∷◌, ◌++◌}
 use Rattle.std.proofs.Common.{append_assoc, length, get_or, drop, drop-cons, add-one, Option, Some, None, unwrap_or}
 use Rattle.std.proofs.Common.{Ordering, Less, Equal, Greater, refl, sym, ap, subst, ◌∙◌, inl, inr, arith}
-use Rattle.std.specs.Prelude.{T, IsTrue, is_some, nat_le, nat_lt, ◌==◌}
+use Rattle.std.specs.Prelude.{T, IsTrue, is_some, nat_le, nat_lt, ◌==◌, ◌||◌, Contains}
 use Rattle.std.specs.List.{list_all}
 use Rattle.std.specs.Ordering.{is_lt, is_eq, nat_cmp, ordering_reverse, MatchOrdering}
 use Rattle.std.specs.Cmp.{IsTotalOrder, both_ways}
 use Rattle.std.specs.FinMap.Entries.{find, put, find-put, by_order, is_sorted, is_sorted-put, below_all}
-use Rattle.std.proofs.lemmas.Bool.{or_cases, eqb-true}
+use Rattle.std.proofs.lemmas.Bool.{or_cases, or_right, eqb-true, eq-eqb}
+use Rattle.std.proofs.lemmas.List.Elements.{Contains-get_or}
 use Rattle.std.proofs.lemmas.Cmp.{ranked}
 use Rattle.std.proofs.lemmas.Grind.{common_steps}
 use Rattle.cast_types.specs.declared.names.GroupNo.{GroupNo}
@@ -17,8 +18,9 @@ use Rattle.cast_types.specs.Sets.{at_order}
 use Rattle.cast_types.specs.Counts.{CountList, count_of, is_counts}
 use Rattle.cast_types.specs.Stamps.{ClockList}
 use Rattle.cast_types.proofs.Orders.{proc_total, group_total, group_exact}
-use Rattle.cast_clock.specs.Times.{first_clock, clock_of, join_counts, join_clocks, join, clock_has_room, has_room, is_time}
-use Rattle.cast_clock.specs.News.{covers, outranks, is_known, news, put_all}
+use Rattle.cast_clock.specs.Times.{first_clock, clock_of, counts_at_most, clock_at_most}
+use Rattle.cast_clock.specs.Times.{join_counts, join_clocks, join, clock_has_room, has_room, is_time}
+use Rattle.cast_clock.specs.News.{covers, outranks, is_known, news, put_all, AreKnown}
 use Rattle.cast_clock.proofs.Entries.{as_T, from_T, both_parts, and_both, and_true, less_is}
 use Rattle.cast_clock.proofs.Entries.{find_below, found_holds, found_or, each_found, option_cases}
 use Rattle.cast_clock.proofs.Joins.{join_clocks-first}
@@ -41,6 +43,13 @@ all_stops f xs i e at read so_far failed =
 pub all_goes : {X : Type 0} (f : X → Bool) (xs : List X) (i : ℕ) (e : X) → i < length xs → e ≡ get_or xs i e →
     list_all f (drop i xs) ≡ list_all f xs → f e ≡ true → list_all f (drop (i + 1) xs) ≡ list_all f xs
 all_goes f xs i e at read so_far held = sym (ap (λ b. b && list_all f (drop (i + 1) xs)) held) ∙ sym (next_item f xs i e at read) ∙ so_far
+
+-- what holds of all items holds of one that is among them
+pub each_contained : {X : Type 0} (f : X → Bool) (xs : List X) (x : X) → list_all f xs ≡ true → Contains xs x → f x ≡ true
+each_contained f [] x all there = let none = there.1 in absurd (omega arith)
+each_contained f (y ∷ xs) x all (zero, lt, at) = ap f (sym at) ∙ (and_both (f y) (list_all f xs) all).0
+each_contained f (y ∷ xs) x all (suc k, lt, at) =
+    each_contained f xs x (and_both (f y) (list_all f xs) all).1 (k, omega arith, at)
 
 -- ---- a join of counts, one after the other
 pub counts_next : (c d made : CountList) (i : ℕ) (none : Entry) → i < length d →
@@ -145,6 +154,62 @@ known_fits s g b valid known = elim (option_cases (find group_cmp g s)) [
       let mine = valid_counts (clock_of s g).counts (is_counts-clock_of s g valid) in
       ap clock_has_room (outranked (clock_of s g) b (as_T _ mine.in_order) held) ∙ le_as (length (clock_of s g).counts) 64 mine.few
 ]
+
+-- what is at most is known: of a view from 1 on none is at most the clock that stands for an absent one
+covers_at_most : (c d : CountList) → list_all (λ e. nat_lt 0 e.1) d ≡ true → counts_at_most d c ≡ true → covers c d ≡ true
+covers_at_most c [] positive held = refl
+covers_at_most c (e ∷ d) positive held =
+    let above = and_both (nat_lt 0 e.1) (list_all (λ x. nat_lt 0 x.1) d) positive in
+    let parts = and_both (nat_le e.1 (count_of c e.0)) (counts_at_most d c) held in
+    let here : is_some (find proc_cmp e.0 c) ≡ true = elim (option_cases (find proc_cmp e.0 c)) [
+      | inl none ↦
+          let nothing : nat_le e.1 0 ≡ true = ap (λ (o : Option ℕ). nat_le e.1 (unwrap_or o 0)) (sym none) ∙ parts.0 in
+          let least : 0 < e.1 = lt_from 0 e.1 above.0 in
+          let most : e.1 ≤ 0 = le_from e.1 0 nothing in
+          absurd (omega arith)
+      | inr some ↦ ap (λ (o : Option ℕ). is_some o) some.1
+    ] in
+    and_true (is_some (find proc_cmp e.0 c) && nat_le e.1 (count_of c e.0)) (covers c d)
+    (and_true (is_some (find proc_cmp e.0 c)) (nat_le e.1 (count_of c e.0)) here parts.0) (covers_at_most c d above.1 parts.1)
+
+outranks_at_most : (a b : Clock) → IsTrue (is_counts b.counts) → clock_at_most b a ≡ true → outranks a b ≡ true
+outranks_at_most a b valid held = elim (or_cases (nat_lt b.view a.view) ((b.view == a.view) && counts_at_most b.counts a.counts) held) [
+  | inl older ↦ ap (λ x. x || ((a.view == b.view) && covers a.counts b.counts)) older
+  | inr alike ↦
+      let parts = and_both (b.view == a.view) (counts_at_most b.counts a.counts) alike in
+      let same : a.view ≡ b.view = sym (eqb-true b.view a.view parts.0) in
+      let both : ((a.view == b.view) && covers a.counts b.counts) ≡ true =
+      and_true (a.view == b.view) (covers a.counts b.counts) (eq-eqb a.view b.view same)
+      (covers_at_most a.counts b.counts (valid_counts b.counts valid).positive parts.1) in
+      ap (λ x. nat_lt b.view a.view || x) both ∙ or_right (nat_lt b.view a.view) true refl
+]
+
+pub known_at_most : (s : ClockList) (g : GroupNo) (b : Clock) → nat_lt 0 b.view ≡ true → IsTrue (is_counts b.counts) →
+    clock_at_most b (clock_of s g) ≡ true → is_known (find group_cmp g s) b ≡ true
+known_at_most s g b viewed valid held = elim (option_cases (find group_cmp g s)) [
+  | inl none ↦
+      let first : clock_at_most b (first_clock 0) ≡ true =
+      ap (λ (o : Option Clock). clock_at_most b (unwrap_or o (first_clock 0))) (sym none) ∙ held in
+      let least : 0 < b.view = lt_from 0 b.view viewed in
+      absurd (elim (or_cases (nat_lt b.view 0) ((b.view == 0) && counts_at_most b.counts []) first) [
+        | inl older ↦ let below : b.view < 0 = lt_from b.view 0 older in omega arith
+        | inr alike ↦
+            let same : b.view ≡ 0 = eqb-true b.view 0 (and_both (b.view == 0) (counts_at_most b.counts []) alike).0 in omega arith
+      ])
+  | inr some ↦
+      let above : clock_at_most b some.0 ≡ true =
+      ap (λ (o : Option Clock). clock_at_most b (unwrap_or o (first_clock 0))) (sym some.1) ∙ held in
+      ap (λ (o : Option Clock). is_known o b) some.1 ∙ outranks_at_most some.0 b valid above
+]
+
+-- the clock at a place of the second time is known where its group is one of the known groups
+pub known_listed : (s t : ClockList) (known : List GroupNo) (i : ℕ) (e : GroupNo × Clock) → i < length t → e ≡ get_or t i e →
+    list_all (λ x. nat_lt 0 x.1.view) t ≡ true → AreKnown s t known → IsTrue (is_counts e.1.counts) → Contains known e.0 →
+    is_known (find group_cmp e.0 s) e.1 ≡ true
+known_listed s t known i e at read viewed are valid listed =
+    let there : Contains t e = subst (Contains t) (sym read) (Contains-get_or t i e at) in
+    let view : nat_lt 0 e.1.view ≡ true = each_contained (λ (x : GroupNo × Clock). nat_lt 0 x.1.view) t e viewed there in
+    known_at_most s e.0 e.1 view valid (are e there listed)
 
 -- ---- what is new is all that a join changes
 -- two times have the same of each group of a third

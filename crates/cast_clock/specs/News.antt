@@ -1,13 +1,14 @@
 -- What of a time is new to another: the joined clocks of the groups whose clocks a join changes.
-use Rattle.std.specs.Prelude.{Bool, false, ◌&&◌, ◌||◌, ◌==◌, nat_lt, nat_le}
-use Rattle.std.specs.Prelude.{is_some, if◌then◌else◌, Option, Some, None, [], ◌∷◌}
+use Rattle.std.specs.Prelude.{◌≡◌, Bool, true, false, ◌&&◌, ◌||◌, ◌==◌, nat_lt, nat_le, Contains}
+use Rattle.std.specs.Prelude.{is_some, if◌then◌else◌, Option, Some, None, List, [], ◌∷◌}
 use Rattle.std.specs.List.{list_all}
 use Rattle.std.specs.FinMap.Entries.{find, put}
+use Rattle.cast_types.specs.declared.names.GroupNo.{GroupNo}
 use Rattle.cast_types.specs.declared.clock.Clock.{Clock}
 use Rattle.cast_types.specs.Names.{proc_cmp, group_cmp}
 use Rattle.cast_types.specs.Counts.{CountList, count_of}
 use Rattle.cast_types.specs.Stamps.{ClockList}
-use Rattle.cast_clock.specs.Times.{clock_of, join_clocks}
+use Rattle.cast_clock.specs.Times.{clock_of, clock_at_most, join_clocks}
 
 -- each of the second counts is kept among the first, and at most that
 abbrev pub covers : CountList → CountList → Bool
@@ -33,3 +34,9 @@ news s (e ∷ t) =
 abbrev pub put_all : ClockList → ClockList → ClockList
 put_all [] s = s
 put_all (e ∷ es) s = put_all es (put group_cmp e.0 e.1 s)
+
+-- the stamp's clocks of these groups are at most the time's
+abbrev pub AreKnown : ClockList → ClockList → List GroupNo → Type 0
+AreKnown time stamp known =
+    (e : GroupNo × Clock) → Contains stamp e → Contains known e.0 →
+    clock_at_most e.1 (clock_of time e.0) ≡ true

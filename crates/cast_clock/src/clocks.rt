@@ -1,5 +1,6 @@
 ghost use Rattle.std.specs.Prelude.{◌≡◌, ◌<◌, ◌≤◌, ◌+◌, IfOk, IsOk, OnOk, OnErr, IsTrue};
-ghost use Rattle.std.specs.Prelude.{true, false, nat_lt, unwrap_or, vec_len, vec_capacity};
+ghost use Rattle.std.specs.Prelude.{true, false, nat_lt, unwrap_or, length, Contains};
+ghost use Rattle.std.specs.Prelude.{vec_len, vec_capacity};
 ghost use Rattle.std.specs.Option.{option_copied};
 ghost use Rattle.std.specs.List.{list_all};
 ghost use Rattle.std.specs.FinMap.Entries.{put, is_sorted};
@@ -7,11 +8,11 @@ ghost use Rattle.cast_types.specs.Names.{group_cmp};
 ghost use Rattle.cast_types.specs.Counts.{is_counts};
 ghost use Rattle.cast_clock.specs.Times.{first_clock, clock_of, view_of, clock_at_most};
 ghost use Rattle.cast_clock.specs.Times.{at_most, join_clocks, clock_has_room, is_time};
-ghost use Rattle.cast_clock.specs.News.{is_known, news, put_all};
+ghost use Rattle.cast_clock.specs.News.{is_known, news, put_all, AreKnown};
 
 use crate::counts::{counts_at_most, covers, join_counts, joins_within};
 use crate::fault::ClockFault;
-use crate::places::{find_near, place_near};
+use crate::places::{find_near, place_near, stands_at};
 use cast_types::limits::MAX_MEMBERS;
 use cast_types::{Clock, Counts, GroupNo, NoMemory, Proc, sorted};
 use std::alloc::Global;
@@ -98,14 +99,33 @@ pub fn fits_joined(mine: Option<&Clock>, theirs: &Clock) -> bool
     }
 }
 
-/// Whether each clock, joined with that of its group, has at most 64 counts. Takes no memory.
-pub fn all_fit(mine: &[(GroupNo, Clock)], theirs: &[(GroupNo, Clock)]) -> bool
-    requires { is_sorted group_cmp mine.now ≡ true }
+// Whether a clock is not looked at: its group stands at this place of the known groups.
+fn is_passed(known: &[GroupNo], place: usize, group: GroupNo, clock: &Clock) -> bool
+    ensures within { IsTrue result → place < length known.now }
+    ensures listed { IsTrue result → Contains known.now group }
+    ensures valid { IsTrue (is_counts clock.now.counts) }
+{
+    // The counts are valid, as all counts are. Nothing else of them is looked at.
+    clock.counts.entries();
+    stands_at(known, place, group)
+}
+
+/// Whether each clock, joined with that of its group, has at most 64 counts. The clocks of the
+/// known groups are not looked at. Takes no memory.
+pub fn all_fit(mine: &[(GroupNo, Clock)], theirs: &[(GroupNo, Clock)], known: &[GroupNo]) -> bool
+    requires time { IsTrue (is_time mine.now) }
+    requires viewed { list_all (λ e. nat_lt 0 e.1.view) theirs.now ≡ true }
+    requires known { AreKnown mine.now theirs.now known.now }
     ensures { result
         ≡ list_all (λ e. clock_has_room (join_clocks (clock_of mine.now e.0) e.1)) theirs.now }
 {
     let mut place = 0;
+    let mut passed = 0;
     for (group, clock) in theirs {
+        if is_passed(known, passed, *group, clock) {
+            passed += 1;
+            continue;
+        }
         let (found, next) = find_near(mine, place, group);
         if !fits_joined(found, clock) {
             return false;
@@ -160,14 +180,17 @@ pub fn join_clock(alloc: Global, mine: Option<&Clock>, theirs: &Clock) -> Result
     }
 }
 
-/// The joined clocks of the groups whose clock the join changes. `TooMany`: one of them has more
-/// than 64 counts.
+/// The joined clocks of the groups whose clock the join changes. The clocks of the known groups are
+/// not looked at. `TooMany`: a joined clock has more than 64 counts.
 pub fn news(
     alloc: Global,
     mine: &[(GroupNo, Clock)],
     theirs: &[(GroupNo, Clock)],
+    known: &[GroupNo],
 ) -> Result<Vec<(GroupNo, Clock)>, ClockFault>
-    requires { IsTrue (is_time mine.now) }
+    requires time { IsTrue (is_time mine.now) }
+    requires viewed { list_all (λ e. nat_lt 0 e.1.view) theirs.now ≡ true }
+    requires known { AreKnown mine.now theirs.now known.now }
     ensures value { IfOk result (λ v. v.items ≡ news mine.now theirs.now) }
     ensures valid { IfOk result (λ v. list_all (λ e. is_counts e.1.counts) v.items ≡ true) }
     ensures fits { OnOk result
@@ -179,7 +202,12 @@ pub fn news(
 {
     let mut news = Vec::new(alloc);
     let mut place = 0;
+    let mut passed = 0;
     for (group, clock) in theirs {
+        if is_passed(known, passed, *group, clock) {
+            passed += 1;
+            continue;
+        }
         let (found, next) = find_near(mine, place, group);
         if !is_known(found, clock) {
             if !fits_joined(found, clock) {

@@ -1,7 +1,18 @@
-ghost use Rattle.std.specs.Prelude.{◌≡◌, length, true};
+ghost use Rattle.std.specs.Prelude.{◌≡◌, ◌<◌, length, true, IsTrue, Contains};
 ghost use Rattle.std.specs.Option.{option_copied};
 ghost use Rattle.std.specs.List.Sorted.{IsSearchInRange, IsBinarySearchResult};
 ghost use Rattle.std.specs.FinMap.Entries.{find, is_sorted};
+
+use cast_types::GroupNo;
+
+/// Whether a group stands at a place. Where the groups that are asked for and those that stand here
+/// both rise, none is missed if the place moves on behind each that is found.
+pub fn stands_at(groups: &[GroupNo], place: usize, group: GroupNo) -> bool
+    ensures within { IsTrue result → place < length groups.now }
+    ensures listed { IsTrue result → Contains groups.now group }
+{
+    place < groups.len() && groups[place] == group
+}
 
 /// The place of a key among entries in rising order of their keys, or the place where it would
 /// stand. The place that is given is looked at first: where keys are asked for in rising order,

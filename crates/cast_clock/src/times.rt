@@ -7,6 +7,7 @@ ghost use Rattle.cast_types.specs.Names.{group_cmp};
 ghost use Rattle.cast_types.specs.Stamps.{is_stamp};
 ghost use Rattle.cast_clock.specs.Times.{no_time, view_of, count_in, with_bump, entering};
 ghost use Rattle.cast_clock.specs.Times.{join, has_room, at_most, is_time, clock_of, IsAtMost};
+ghost use Rattle.cast_clock.specs.News.{AreKnown};
 
 use crate::clocks::{
     all_at_most, all_fit, all_viewed, clock_among, counts_among, news, put_all, view_among,
@@ -116,7 +117,16 @@ impl Times {
     pub fn has_room_for(&self, stamp: &Stamp) -> bool
         ensures { result ≡ has_room (join self.now stamp.now) }
     {
-        all_fit(&self.clocks, stamp.clocks())
+        self.has_room_but(stamp, &[])
+    }
+
+    /// Whether no group of the join with a stamp has more than 64 counts. Of these groups the
+    /// stamp's clocks are at most the time's, and are not looked at. Takes no memory.
+    pub fn has_room_but(&self, stamp: &Stamp, known: &[GroupNo]) -> bool
+        requires { AreKnown self.now stamp.now known.now }
+        ensures { result ≡ has_room (join self.now stamp.now) }
+    {
+        all_fit(&self.clocks, stamp.clocks(), known)
     }
 
     /// Joins the time with a stamp. `TooMany`: a group of the join has more than 64 counts. An
@@ -128,7 +138,22 @@ impl Times {
             → has_room (join self.old stamp.now) ≡ false }
         ensures err { OnErr result (self.new ≡ self.old) }
     {
-        let news = news(*self.clocks.allocator(), &self.clocks, stamp.clocks())?;
+        self.merge_but(stamp, &[])
+    }
+
+    /// Joins the time with a stamp. Of these groups the stamp's clocks are at most the time's, and
+    /// are not looked at. `TooMany`: a group of the join has more than 64 counts. An error changes
+    /// nothing.
+    pub fn merge_but(&mut self, stamp: &Stamp, known: &[GroupNo]) -> Result<(), ClockFault>
+        requires { AreKnown self.old stamp.now known.now }
+        ensures ok { OnOk result (self.new ≡ join self.old stamp.now) }
+        ensures fits { OnOk result (has_room (join self.old stamp.now) ≡ true) }
+        ensures too_many { result ≡ Err ClockFault.TooMany
+            → has_room (join self.old stamp.now) ≡ false }
+        ensures err { OnErr result (self.new ≡ self.old) }
+    {
+        let alloc = *self.clocks.allocator();
+        let news = news(alloc, &self.clocks, stamp.clocks(), known)?;
         put_all(&mut self.clocks, news)?;
         Ok(())
     }

@@ -4,7 +4,7 @@ use Rattle.std.proofs.Common.{get_or, length, map, take, Some, None, refl, sym, 
 use Rattle.std.specs.Prelude.{◌||◌, ◌&&◌, ◌==◌, not, nat_lt, slice_get, if◌then◌else◌}
 use Rattle.std.specs.List.Sorted.{IsNonDecreasing}
 use Rattle.std.specs.Option.{option_map_or}
-use Rattle.std.proofs.lemmas.Bool.{and_from, and_parts, cases_Bool, cases_lt}
+use Rattle.std.proofs.lemmas.Bool.{and_from, and_parts, cases_Bool, cases_lt, or_right}
 use Rattle.std.proofs.lemmas.List.{length-take-le, take_more}
 use Rattle.std.proofs.lemmas.Option.{slice_get_within, get_or_from_slice_get}
 use Rattle.cast_types.specs.declared.names.Uid.{Uid}
@@ -152,11 +152,7 @@ pub awaited_at : (rows : List Row) (i : ℕ) (id : Uid) → i < length rows → 
 awaited_at [] i id within here = absurd (omega (arith, within))
 awaited_at (row ∷ rows) zero id within here = ap (λ b. b || is_awaited rows id) (here row)
 awaited_at (row ∷ rows) (suc i) id within here =
-    ap (λ b. awaits_row row id || b) (awaited_at rows i id (omega (arith, within)) here) ∙ or_true (awaits_row row id)
-  where
-    or_true : (b : Bool) → (b || true) ≡ true
-    or_true true = refl
-    or_true false = refl
+    ap (λ b. awaits_row row id || b) (awaited_at rows i id (omega (arith, within)) here) ∙ or_right (awaits_row row id) true refl
 
 -- One row more, at the end
 

@@ -9,7 +9,9 @@ pub mod Reached
 pub mod Queues
 pub mod Words
 pub mod Settled
+pub mod Floors
 pub mod MemberLemmas
+pub mod Only
 pub mod Behind
 pub mod Orderly
 pub mod Admitted

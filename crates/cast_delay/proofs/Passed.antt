@@ -44,6 +44,8 @@ use Rattle.cast_delay.specs.Offers.{key_of}
 use Rattle.cast_delay.specs.Settled.{is_settled, AreSettled}
 use Rattle.cast_delay.specs.Waits.{looked_of, waits_despite, next_under, IsKnown, IsWaking, IsLookedAt}
 use Rattle.cast_delay.specs.Waits.{IsToWake, IsUnseenBy, AreKnown, AreLookedAt, AreSeen, AreToWake, MayBePassed}
+use Rattle.cast_delay.specs.declared.floor.Floor.{Floor}
+use Rattle.cast_delay.specs.Floors.{IsFloor}
 use Rattle.cast_delay.proofs.Finds.{found_in, found_any, find-append_some, find-append_none, find_kept, kept_parts}
 use Rattle.cast_delay.proofs.ListLemmas.{all_each, contains_cases}
 use Rattle.cast_delay.proofs.MemberLemmas.{found_member, same_item}
@@ -379,14 +381,18 @@ unseen_seen gates rows offered settled ls p n known unseen row at o there = elim
 
 pub admit_passed : {E : Type 0} (gates : List (GroupNo × Gate)) (rows later : List Row) (p : Proc) (offered : List Offered) (n : ℕ)
     (ls : List Looked) (r : Result (Unit {0}) E) → OnOk r (later ≡ rows ++ new_row p ∷ []) → OnErr r (later ≡ rows) →
-    MayBePassed gates rows offered n ls → MayBePassed gates later offered n ls
-admit_passed gates rows later p offered n ls (Ok u) is same passed =
-    subst (λ rs. MayBePassed gates rs offered n ls) (sym is) (record {
-      settled = admit_settled gates rows p offered n
-          passed.settled;
-      looked = admit_looked gates rows p offered ls passed.looked;
-    })
-admit_passed gates rows later p offered n ls (Err e) is same passed = subst (λ rs. MayBePassed gates rs offered n ls) (sym same) passed
+    (before after : Floor) → MayBePassed gates rows offered n ls before → IsFloor later offered after →
+    MayBePassed gates later offered n ls after
+admit_passed gates rows later p offered n ls (Ok u) is same before later_floor passed floor = record {
+  settled = subst (λ rs. AreSettled gates rs offered n) (sym is) (admit_settled gates rows p offered n passed.settled);
+  looked = subst (λ rs. AreLookedAt gates rs offered ls) (sym is) (admit_looked gates rows p offered ls passed.looked);
+  lies = floor;
+}
+admit_passed gates rows later p offered n ls (Err e) is same before later_floor passed floor = record {
+  settled = subst (λ rs. AreSettled gates rs offered n) (sym same) passed.settled;
+  looked = subst (λ rs. AreLookedAt gates rs offered ls) (sym same) passed.looked;
+  lies = floor;
+}
 
 -- what a delivery wakes
 pub deliver_next : (gates : List (GroupNo × Gate)) (rows : List Row) (offered : List Offered) (p : Proc) (key : Key) (ls : List Looked) →
@@ -402,9 +408,11 @@ deliver_next gates rows offered p key ls all (Some id) is = elim (option_cases (
 ]
 
 pub offer_passed : (gates : List (GroupNo × Gate)) (rows : List Row) (offered : List Offered) (o : Offered) (n : ℕ) (ls : List Looked) →
-    rises key_of (offered ++ o ∷ []) ≡ true → list_all (λ l. nat_le l.below o.key.0) ls ≡ true → MayBePassed gates rows offered n ls →
-    MayBePassed gates rows (offered ++ o ∷ []) n ls
-offer_passed gates rows offered o n ls rising upto passed = record {
+    rises key_of (offered ++ o ∷ []) ≡ true → list_all (λ l. nat_le l.below o.key.0) ls ≡ true →
+    (before after : Floor) → MayBePassed gates rows offered n ls before → IsFloor rows (offered ++ o ∷ []) after →
+    MayBePassed gates rows (offered ++ o ∷ []) n ls after
+offer_passed gates rows offered o n ls rising upto before later_floor passed floor = record {
   settled = offer_settled gates rows offered o n passed.settled;
   looked = offer_looked gates rows offered o ls rising upto passed.looked;
+  lies = floor;
 }

@@ -50,7 +50,7 @@ mapped_back f (y ∷ ys) x has = elim (first_or_later y x ys has) [
   | inr later ↦ contains_later (f x) (f y) (map f ys) (mapped_back f ys x later)
 ]
 
-mapped_parts : {A B : Type 0} (f : A → B) (xs : List A) (z : B) → Contains (map f xs) z → (x : A) × (Contains xs x × (f x ≡ z))
+pub mapped_parts : {A B : Type 0} (f : A → B) (xs : List A) (z : B) → Contains (map f xs) z → (x : A) × (Contains xs x × (f x ≡ z))
 mapped_parts f [] z has = absurd (omega (arith, has.1))
 mapped_parts f (y ∷ ys) z has = elim (first_or_later (f y) z (map f ys) has) [
   | inl here ↦ (y, (contains_here y ys, here))
@@ -58,7 +58,7 @@ mapped_parts f (y ∷ ys) z has = elim (first_or_later (f y) z (map f ys) has) [
 ]
 
 -- what is found stands in the list under its key
-found_there : {K V : Type 0} {R : K → K → Ordering} → CmpEqualImpliesEq R → (q : K) (v : V) (es : List (K × V)) → find R q es ≡ Some v →
+pub found_there : {K V : Type 0} {R : K → K → Ordering} → CmpEqualImpliesEq R → (q : K) (v : V) (es : List (K × V)) → find R q es ≡ Some v →
     Contains es (q, v)
 found_there exact q v [] is = cc
 found_there {R = R} exact q v (e ∷ es) is =
@@ -98,7 +98,7 @@ counted_there counts s some = elim (option_cases (find source_cmp s counts)) [
       subst (λ m. Contains counts (s, m)) (sym (ap (λ (o : Option ℕ). unwrap_or o 0) is)) (found_there source_exact s n counts is)
 ]
 
-raised_count : (counts : DeliveredCounts) (s t : Source) (count : ℕ) →
+pub raised_count : (counts : DeliveredCounts) (s t : Source) (count : ℕ) →
     count_at (raised_at s count counts) t ≡ cond (eq_by_cmp source_cmp t s) (max (count_at counts s) count) (count_at counts t)
 raised_count counts s t count =
     ap (λ (o : Option ℕ). unwrap_or o 0) (find-put source_cmp source_total t s (max (count_at counts s) count) counts)
@@ -106,7 +106,7 @@ raised_count counts s t count =
     ≡ cond b (max (count_at counts s) count) (count_at counts t)) [ true ↦ refl | false ↦ refl ]
 
 -- no count falls
-raised_least : (counts : DeliveredCounts) (s t : Source) (count : ℕ) → count_at counts t ≤ count_at (raised_at s count counts) t
+pub raised_least : (counts : DeliveredCounts) (s t : Source) (count : ℕ) → count_at counts t ≤ count_at (raised_at s count counts) t
 raised_least counts s t count = elim (cases_Bool (eq_by_cmp source_cmp t s)) [
   | inl tie ↦
       let is = raised_count counts s t count ∙ ap (λ b. cond b (max (count_at counts s) count) (count_at counts t)) tie in
@@ -118,7 +118,7 @@ raised_least counts s t count = elim (cases_Bool (eq_by_cmp source_cmp t s)) [
 ]
 
 -- and its own is as great as the other
-raised_own : (counts : DeliveredCounts) (s : Source) (count : ℕ) → count ≤ count_at (raised_at s count counts) s
+pub raised_own : (counts : DeliveredCounts) (s : Source) (count : ℕ) → count ≤ count_at (raised_at s count counts) s
 raised_own counts s count =
     let is =
     raised_count counts s s count ∙ ap (λ b. cond b (max (count_at counts s) count) (count_at counts s)) (tie_self source_total s s refl) in

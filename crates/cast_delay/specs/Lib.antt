@@ -5,5 +5,6 @@ pub mod Says
 pub mod Rule
 pub mod Laws
 pub mod Settled
+pub mod Floors
 pub mod Offers
 pub mod Waits

@@ -19,7 +19,9 @@ use Rattle.cast_ready.specs.declared.offered.Offered.{Offered}
 use Rattle.cast_delay.specs.declared.looked.Looked.{Looked}
 use Rattle.cast_ready.specs.declared.row.ProcessUpdate.{ProcessUpdate}
 use Rattle.cast_ready.specs.declared.row.ProcessUpdate.TheVariants as fact
+use Rattle.cast_delay.specs.declared.floor.Floor.{Floor}
 use Rattle.cast_delay.specs.Settled.{AreSettled}
+use Rattle.cast_delay.specs.Floors.{IsFloor}
 use Rattle.cast_ready.specs.Rows.{done_in, awaits_now, holds_back}
 use Rattle.cast_delay.specs.Queue.{row_of, offered_under}
 use Rattle.cast_delay.specs.Offers.{key_of}
@@ -129,9 +131,10 @@ pub record IsUnseenBy (offered : List Offered) (settled : ℕ) (l : Option Looke
   pub each : (o : Offered) → Contains (take n offered) o
       → Contains (take settled offered) o ⊎ ((m : Looked) × (l ≡ Some m) × (o.key.0 < m.below))
 
--- what need not be looked at: the first n messages are settled, and of those that were looked at
--- what is kept is known
+-- what need not be looked at: the first n messages are settled, of those that were looked at what
+-- is kept is known, and the floor lies under the rows
 pub record MayBePassed (gates : List (GroupNo × Gate)) (rows : List Row) (offered : List Offered)
-    (n : ℕ) (ls : List Looked) : Type 0 where
+    (n : ℕ) (ls : List Looked) (floor : Floor) : Type 0 where
   pub settled : AreSettled gates rows offered n
   pub looked : AreLookedAt gates rows offered ls
+  pub lies : IsFloor rows offered floor

@@ -24,6 +24,7 @@
 //!   dismissed once in no group, and views come in order: `laws::queue_keeps_its_meaning`.
 #![tactic(auto)]
 
+mod floor;
 pub mod laws;
 mod looked;
 mod offers;

@@ -125,7 +125,7 @@ impl Offers {
         ensures { result ≡ is_ready_under turns.now gates.now row.now self.now key.0 }
     {
         match self.under(key) {
-            Some(offered) => row.is_ready(turns, gates, offered),
+            Some(offered) => row.is_ready(turns, gates, offered, &[]),
             None => false,
         }
     }
@@ -135,7 +135,7 @@ impl Offers {
         ensures { result ≡ is_candidate_under gates.now row.now self.now key.0 }
     {
         match self.under(key) {
-            Some(offered) => row.is_causally_ready(gates, offered.id, &offered.times),
+            Some(offered) => row.is_causally_ready(gates, offered.id, &offered.times, &[]),
             None => false,
         }
     }
@@ -213,7 +213,7 @@ fn first_from<'a>(
 {
     messages
         .range(first..)
-        .find(|offered| row.is_ready(turns, gates, offered))
+        .find(|offered| row.is_ready(turns, gates, offered, &[]))
 }
 
 // The first message from a place on that is ready for a row but for the turns of groups.
@@ -227,7 +227,12 @@ fn candidate_from<'a>(
     ensures { option_copied result ≡ candidate_for gates.now
         (slice_range messages.now.items first (deque_len messages.now)) row.now }
 {
-    messages.range(first..).find(|offered| row.is_causally_ready(gates, offered.id, &offered.times))
+    messages.range(first..).find(|offered| row.is_causally_ready(
+        gates,
+        offered.id,
+        &offered.times,
+        &[],
+    ))
 }
 
 // The message at a place.

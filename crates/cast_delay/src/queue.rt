@@ -11,7 +11,7 @@ ghost use Rattle.cast_message.specs.Receipts.{key_eq};
 ghost use Rattle.cast_ready.specs.declared.turn.Turn.{Turn};
 ghost use Rattle.cast_ready.specs.Ready.{frozen_gate, pending_gate, has_delivered};
 ghost use Rattle.cast_index.specs.Rises.{rises};
-ghost use Rattle.cast_ready.specs.Rows.{ended_row, told_row, standing_in};
+ghost use Rattle.cast_ready.specs.Rows.{ended_row, told_row, standing_in, AreLow};
 ghost use Rattle.cast_ready.specs.Rows.{is_ready_row, is_causally_ready_row, new_row};
 ghost use Rattle.cast_delay.specs.Offers.{key_of, none_of};
 ghost use Rattle.cast_delay.specs.Waits.{next_under, looked_of, waits_despite, IsUnseen};
@@ -25,10 +25,17 @@ ghost use Rattle.cast_delay.specs.Queue.{queue_viewing, queue_delivering, queue_
 ghost use Rattle.cast_delay.specs.Fits.{offer_of};
 ghost use Rattle.cast_delay.specs.Settled.{is_settled, AreSettled, despite_fact};
 ghost use Rattle.cast_delay.specs.Settled.{is_next_of, despite_delivery};
+ghost use Rattle.std.specs.Prelude.{Contains, ◌||◌, ◌+◌};
+ghost use Rattle.std.specs.List.{list_all};
+ghost use Rattle.cast_clock.specs.Times.{at_most};
+ghost use Rattle.cast_ready.specs.declared.offered.Offered.{Offered};
+ghost use Rattle.cast_delay.specs.Floors.{IsUnder, IsFloor, KeptIf, covers_told, stays_delivered};
+ghost use Rattle.cast_delay.specs.Floors.{groups_of};
 ghost use Rattle.cast_delay.specs.Says.{SaysAwaited, SaysFirstReady, SaysMayDeliver};
 ghost use Rattle.cast_delay.specs.Says.{SaysCandidate, SaysDelivered, SaysPassed};
 ghost use Rattle.cast_delay.specs.Says.{SaysReached, SaysTime, SaysStanding};
 
+use crate::floor::Floor;
 use crate::looked::Looked;
 use crate::offers::Offers;
 use crate::rows::Rows;
@@ -38,7 +45,9 @@ use cast_message::Message;
 use cast_ready::gate::{copy_gates, frozen_in, number_in};
 use cast_ready::{DeliveredCounts, Gate, Offered, ProcessUpdate, Row, Turn};
 use cast_types::limits::MAX_NUMBER;
-use cast_types::{Counts, GroupNo, Key, NoMemory, Proc, SiteNo, SortedMap, Source, Standing, Uid};
+use cast_types::{
+    Counts, GroupNo, Key, NoMemory, Proc, SiteNo, SortedMap, Source, Stamp, Standing, Uid,
+};
 use std::alloc::Global;
 use std::marker::Model;
 
@@ -59,6 +68,7 @@ pub struct Delay {
     waits: Waits,
     rows: Rows,
     reached: DeliveredCounts,
+    floor: Floor,
 }
 
 impl Model for Delay {
@@ -74,7 +84,7 @@ impl Model for Delay {
       reached = d.reached;
     } };
 
-    ghost invariant = { λ d. MayBePassed d.gates d.rows d.offered d.settled d.waits };
+    ghost invariant = { λ d. MayBePassed d.gates d.rows d.offered d.settled d.waits d.floor };
 }
 
 impl Delay {
@@ -89,6 +99,7 @@ impl Delay {
             waits: Waits::new(alloc),
             rows: Rows::new(alloc),
             reached: DeliveredCounts::new(alloc),
+            floor: Floor::new(alloc),
         }
     }
 
@@ -103,6 +114,7 @@ impl Delay {
             waits: Waits::new(self.gates.alloc()),
             rows: self.rows.copy()?,
             reached: self.reached.copy()?,
+            floor: Floor::new(self.gates.alloc()),
         })
     }
 
@@ -112,6 +124,7 @@ impl Delay {
         ensures { OnOk result
             (self.new ≡ record self.old { rows = self.old.rows ++ new_row process ∷ [] }) }
     {
+        self.floor.clear();
         self.rows.admit(process)
     }
 
@@ -121,6 +134,7 @@ impl Delay {
           rows = filter (λ r. not (proc_eq r.process process)) self.old.rows;
         } }
     {
+        self.floor.clear();
         self.waits.forget(process);
         self.rows.dismiss(process);
     }
@@ -147,11 +161,14 @@ impl Delay {
             ≡ record self.old { rows = change_row process (told_row fact.now) self.old.rows }) }
     {
         let settled = despite_fact(fact, self.settled);
+        let floor = self.floor.take();
+        let stays = covers_told(self.rows.as_slice(), process, fact);
         self.settled = 0;
         let mut waits = self.waits.take();
         self.rows.tell(process, fact)?;
         forget_told(&mut waits, process, fact);
         self.waits = waits;
+        self.floor = kept_if(floor, stays);
         self.settled = settled_from(&self.gates, &self.offered, &self.rows, settled);
         Ok(())
     }
@@ -162,6 +179,7 @@ impl Delay {
         ensures { OnOk result (self.new ≡ queue_viewing group number self.old) }
     {
         self.settled = 0;
+        self.floor.clear();
         self.waits.clear();
         self.gates.put(group, Gate::new(number))?;
         self.rows.end(group, number);
@@ -209,6 +227,13 @@ impl Delay {
             atomic: message.kind().is_atomic(),
             times: message.times.copy()?,
         })?;
+        look_at(
+            &mut self.floor,
+            &self.rows,
+            &self.offered,
+            key,
+            &message.times,
+        );
         if self.offered.above().is_none() || !self.waits.are_upto(key.0) {
             self.waits.clear();
         }
@@ -286,6 +311,16 @@ impl Delay {
         ensures meaning { SaysFirstReady self.now process turns.now result }
     {
         let row = self.rows.find(process)?;
+        if self.offered.len() - self.settled == 1 {
+            return only_ready(
+                &self.offered,
+                self.settled,
+                turns,
+                &self.gates,
+                row,
+                &self.floor,
+            );
+        }
         match self.waits.find(process) {
             Some(looked) => {
                 next_looked(looked, &self.offered, self.settled, turns, &self.gates, row)
@@ -304,6 +339,9 @@ impl Delay {
         ensures meaning { SaysCandidate self.now process (option_copied result) }
     {
         let row = self.rows.find(process)?;
+        if self.offered.len() - self.settled == 1 {
+            return only_candidate(&self.offered, self.settled, &self.gates, row, &self.floor);
+        }
         match self.waits.find(process) {
             Some(looked) => {
                 candidate_looked(looked, &self.offered, self.settled, &self.gates, row)
@@ -377,7 +415,10 @@ impl Delay {
         let next = next_kept(&self.waits, &self.rows, &self.offered, process, key);
         self.settled = 0;
         let mut waits = self.waits.take();
-        self.rows.deliver(&self.offered, process, key)?;
+        let floor = self.floor.take();
+        let stays = stays_delivered(self.rows.as_slice(), &self.offered, process, key);
+        self.rows
+            .deliver(&self.offered, process, key, floor.groups_of(key))?;
         reach_in(&mut self.reached, &self.offered, key)?;
         wake_next(
             &mut waits,
@@ -389,6 +430,7 @@ impl Delay {
             &self.rows,
         );
         self.waits = waits;
+        self.floor = kept_if(floor, stays);
         self.settled = settled_from(&self.gates, &self.offered, &self.rows, settled);
         Ok(())
     }
@@ -528,6 +570,48 @@ fn candidate_looked<'a>(
     }
 }
 
+// The key of the last message, where it is ready for a row and is the only one that is not settled.
+fn only_ready(
+    offered: &Offers,
+    settled: usize,
+    turns: &[(GroupNo, Turn)],
+    gates: &SortedMap<GroupNo, Gate>,
+    row: &Row,
+    floor: &Floor,
+) -> Option<Key>
+    requires one { length offered.now ≡ settled + 1 }
+    requires none { none_of (is_ready_row turns.now gates.now row.now) settled offered.now ≡ true }
+    requires low { (o : Offered) → Contains offered.now o
+        → AreLow row.now o.times (groups_of floor.now o.key) }
+    ensures { result ≡ option_map (λ o. o.key) (first_for turns.now gates.now offered.now row.now) }
+{
+    let last = offered.at(settled);
+    let low = floor.groups_of(last.key);
+    row.is_ready(turns, gates, last, low).then_some(last.key)
+}
+
+// The last message, where it is ready for a row but for the turns of groups and is the only one
+// that is not settled.
+fn only_candidate<'a>(
+    offered: &'a Offers,
+    settled: usize,
+    gates: &SortedMap<GroupNo, Gate>,
+    row: &Row,
+    floor: &Floor,
+) -> Option<&'a Offered>
+    requires one { length offered.now ≡ settled + 1 }
+    requires none { none_of (λ o. is_causally_ready_row gates.now row.now o.id o.times)
+        settled offered.now ≡ true }
+    requires low { (o : Offered) → Contains offered.now o
+        → AreLow row.now o.times (groups_of floor.now o.key) }
+    ensures { option_copied result ≡ candidate_for gates.now offered.now row.now }
+{
+    let last = offered.at(settled);
+    let low = floor.groups_of(last.key);
+    row.is_causally_ready(gates, last.id, &last.times, low)
+        .then_some(last)
+}
+
 // The id of the message under a key, where it is the next one of its source for a process.
 fn next_under(rows: &Rows, offered: &Offers, process: Proc, key: Key) -> Option<Uid>
     ensures { result ≡ next_under rows.now offered.now process key }
@@ -642,4 +726,59 @@ fn reach_in(reached: &mut DeliveredCounts, offered: &Offers, key: Key) -> Result
     };
     reached.raise(source, message.id.count)?;
     Ok(())
+}
+
+// Whether a delivery leaves what the rows have passed.
+fn stays_delivered(rows: &[Row], offered: &Offers, process: Proc, key: Key) -> bool
+    ensures { result ≡ stays_delivered offered.now process key rows.now }
+{
+    match offered.under(key) {
+        Some(message) => is_next_of(rows, process, message.id),
+        None => true,
+    }
+}
+
+// Whether a fact leaves what the rows of a process have passed: it is a time that covers theirs.
+fn covers_told(rows: &[Row], process: Proc, fact: &ProcessUpdate) -> bool
+    ensures { result ≡ covers_told fact.now process rows.now }
+{
+    match fact {
+        ProcessUpdate::Standing(..) => false,
+        ProcessUpdate::Time(time) => covers_time(rows, process, time),
+    }
+}
+
+// Whether a time covers those of a process's rows.
+fn covers_time(rows: &[Row], process: Proc, time: &Times) -> bool
+    ensures { result ≡ list_all (λ row. not (proc_eq row.process process)
+        || at_most row.time time.now) rows.now }
+{
+    rows.iter()
+        .all(|row| row.process != process || row.time.at_most(time))
+}
+
+// Looks at the time of the message that came last, which is under this key.
+fn look_at(floor: &mut Floor, rows: &Rows, offered: &Offers, key: Key, times: &Stamp)
+    requires under { IsUnder floor.old.counts rows.now }
+    requires last { rises key_of offered.now ≡ true → (o : Offered) → Contains offered.now o
+        → o.key ≡ key → o.times ≡ times.now }
+    ensures { IsFloor rows.now offered.now floor.new }
+{
+    if offered.above().is_none() {
+        floor.clear();
+        return;
+    }
+    floor.look(rows.as_slice(), key, times);
+}
+
+// A floor, or one of which nothing is known where it does not stay.
+fn kept_if(floor: Floor, stays: bool) -> Floor
+    ensures { KeptIf stays floor result }
+{
+    if stays {
+        return floor;
+    }
+    let mut floor = floor;
+    floor.clear();
+    floor
 }

@@ -5,6 +5,10 @@ ghost use Rattle.std.specs.Vec.{vec_capacity};
 ghost use Rattle.std.specs.Option.{option_copied};
 ghost use Rattle.std.specs.Ordering.{is_lt};
 ghost use Rattle.cast_types.specs.Names.{proc_cmp, site_eq};
+ghost use Rattle.std.specs.Prelude.{Contains};
+ghost use Rattle.cast_ready.specs.declared.offered.Offered.{Offered};
+ghost use Rattle.cast_ready.specs.Rows.{AreLow};
+ghost use Rattle.cast_delay.specs.Queue.{offered_under};
 ghost use Rattle.cast_ready.specs.declared.row.Row.{Row};
 ghost use Rattle.cast_delay.specs.Queue.{row_of, but_row, change_row, after_delivery, is_awaited};
 ghost use Rattle.cast_ready.specs.Rows.{new_row, awaits_row, delivered_row, ended_row, told_row};
@@ -167,12 +171,20 @@ impl Rows {
     }
 
     /// Each row of the process takes in that it delivered the message under a key.
-    pub fn deliver(&mut self, offered: &Offers, process: Proc, key: Key) -> Result<(), NoMemory>
+    pub fn deliver(
+        &mut self,
+        offered: &Offers,
+        process: Proc,
+        key: Key,
+        low: &[GroupNo],
+    ) -> Result<(), NoMemory>
+        requires { (row : Row) → Contains self.old row → (o : Offered)
+            → offered_under offered.now key ≡ Some o → AreLow row o.times low.now }
         ensures { OnOk result (self.new ≡ after_delivery offered.now process key self.old) }
     {
         let rising = self.rising;
         self.rising = false;
-        let delivered = deliver_in(&mut self.rows, rising, offered, process, key);
+        let delivered = deliver_in(&mut self.rows, rising, offered, process, key, low);
         if delivered.is_err() {
             self.kept_up = false;
         }
@@ -370,28 +382,38 @@ fn deliver_in(
     offered: &Offers,
     process: Proc,
     key: Key,
+    low: &[GroupNo],
 ) -> Result<(), NoMemory>
-    requires { rising ≡ true → rise rows.old.items ≡ true }
+    requires rise { rising ≡ true → rise rows.old.items ≡ true }
+    requires low { (row : Row) → Contains rows.old.items row → (o : Offered)
+        → offered_under offered.now key ≡ Some o → AreLow row o.times low.now }
     ensures { OnOk result (rows.new.items ≡ after_delivery offered.now process key rows.old.items) }
 {
     let Some(message) = offered.under(key) else {
         return Ok(());
     };
     if rising {
-        deliver_found(rows, message, process)
+        deliver_found(rows, message, process, low)
     } else {
         deliver_each(rows, message, process)
     }
 }
 
 // The row of the process, found by halving, takes in that it delivered a message.
-fn deliver_found(rows: &mut Vec<Row>, message: &Offered, process: Proc) -> Result<(), NoMemory>
-    requires { rise rows.old.items ≡ true }
+fn deliver_found(
+    rows: &mut Vec<Row>,
+    message: &Offered,
+    process: Proc,
+    low: &[GroupNo],
+) -> Result<(), NoMemory>
+    requires rise { rise rows.old.items ≡ true }
+    requires low { (row : Row) → Contains rows.old.items row
+        → AreLow row message.now.times low.now }
     ensures { OnOk result (rows.new.items
         ≡ change_row process (delivered_row message.now.id message.now.times) rows.old.items) }
 {
     match rows.binary_search_by_key(&process, |row| row.process) {
-        Ok(place) => rows[place].deliver(message.id, &message.times),
+        Ok(place) => rows[place].deliver(message.id, &message.times, low),
         Err(_) => Ok(()),
     }
 }
@@ -403,7 +425,7 @@ fn deliver_each(rows: &mut Vec<Row>, message: &Offered, process: Proc) -> Result
 {
     for row in rows.iter_mut() {
         if row.process == process {
-            row.deliver(message.id, &message.times)?;
+            row.deliver(message.id, &message.times, &[])?;
         }
     }
     Ok(())

@@ -1,6 +1,7 @@
 -- What the queue keeps of a process, counts in place of ids, and the tests over it.
-use Rattle.std.specs.Prelude.{◌≡◌, ℕ, ◌-◌, min, Bool, true, not, ◌&&◌, ◌||◌, ◌==◌, nat_lt}
-use Rattle.std.specs.Prelude.{nat_le, if◌then◌else◌, List, [], length, Option, unwrap_or}
+use Rattle.std.specs.Prelude.{◌≡◌, ℕ, ◌≤◌, ◌-◌, min, Bool, true, not, ◌&&◌, ◌||◌, ◌==◌, nat_lt}
+use Rattle.std.specs.Prelude.{nat_le, if◌then◌else◌, List, [], ◌∷◌, length, Contains, Option}
+use Rattle.std.specs.Prelude.{unwrap_or}
 use Rattle.std.specs.List.{list_all, list_any, position}
 use Rattle.std.specs.FinMap.Entries.{find, put}
 use Rattle.cast_types.specs.declared.names.GroupNo.{GroupNo}
@@ -11,9 +12,10 @@ use Rattle.cast_types.specs.declared.names.Standing.{Standing}
 use Rattle.cast_types.specs.declared.names.Standing.TheVariants.{Outside, Joining, Member}
 use Rattle.cast_types.specs.Names.{Entry, group_cmp, proc_eq, uid_eq, uid_in, entry_of}
 use Rattle.cast_types.specs.Stamps.{ClockList}
-use Rattle.cast_clock.specs.Times.{clock_of, view_of, join, has_room}
+use Rattle.cast_clock.specs.Times.{clock_of, view_of, clock_at_most, join, has_room}
 use Rattle.cast_ready.specs.declared.gate.Gate.{Gate}
 use Rattle.cast_ready.specs.Ready.{open_gate, is_open_to, is_member, has_turn, turn_in}
+use Rattle.cast_types.specs.declared.source.Source.{Source}
 use Rattle.cast_types.specs.Sources.{source, source_cmp, but_ended}
 use Rattle.cast_ready.specs.DeliveredCounts.{count_at}
 use Rattle.cast_ready.specs.declared.turn.Turn.{Turn}
@@ -66,6 +68,22 @@ is_causally_ready_row gates row id times =
     && (nat_lt (done_in row id.group id.view id.proc) id.count
     && (all_allow gates row id times
     && has_room (join row.time times)))))
+
+-- the row has delivered all that a clock of a group counts
+abbrev pub HasCounted : Row → GroupNo → Clock → Type 0
+HasCounted row g clock = (e : Entry) → Contains clock.counts e → e.1 ≤ done_in row g clock.view e.0
+
+-- the stamp's clock of a group is low for a row: the row has delivered all that it counts, and has
+-- it in its time
+pub record IsLow (row : Row) (g : GroupNo) (clock : Clock) : Type 0 where
+  pub delivered : HasCounted row g clock
+  pub timed : clock_at_most clock (clock_of row.time g) ≡ true
+
+-- of these groups a stamp's clocks are low for a row, where the row is a member
+abbrev pub AreLow : Row → ClockList → List GroupNo → Type 0
+AreLow row times low =
+    (e : GroupNo × Clock) → Contains times e → Contains low e.0 →
+    is_member (standing_in row e.0) ≡ true → IsLow row e.0 e.1
 
 -- ready, by what the queue keeps and these turns of groups
 abbrev pub is_ready_row : List (GroupNo × Turn) → List (GroupNo × Gate) → Row → Offered → Bool
@@ -136,3 +154,15 @@ is_after o u =
 -- and the row awaits that still
 abbrev pub holds_back : List (GroupNo × Gate) → Row → Offered → Uid → Bool
 holds_back gates row o u = is_after o u && awaits_now gates row u
+
+-- the clock that counts so many messages of a source alone
+abbrev pub clock_of_one : Source → ℕ → Clock
+clock_of_one s n = record { view = s.view; counts = (s.process, n) ∷ [] }
+
+-- the row's process is no member of a source's group, or it has delivered so many of the source's
+-- messages and counts them in its time
+abbrev pub has_passed_row : Row → Source → ℕ → Bool
+has_passed_row row s n =
+    not (is_member (standing_in row s.group))
+    || (nat_le n (count_at row.done s)
+    && clock_at_most (clock_of_one s n) (clock_of row.time s.group))

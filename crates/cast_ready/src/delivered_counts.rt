@@ -55,17 +55,19 @@ impl DeliveredCounts {
         near_in(&self.counts, place, source)
     }
 
-    /// Sets the count of a source.
+    /// Sets the count of a source. `NoMemory` changes nothing.
     pub fn put(&mut self, source: Source, count: u32) -> Result<(), NoMemory>
-        ensures { OnOk result (self.new ≡ put source_cmp source count self.old) }
+        ensures ok { OnOk result (self.new ≡ put source_cmp source count self.old) }
+        ensures err { OnErr result (self.new ≡ self.old) }
     {
         put_in(&mut self.counts, source, count)?;
         Ok(())
     }
 
-    /// Raises the count of a source to this one, where this is greater.
+    /// Raises the count of a source to this one, where this is greater. `NoMemory` changes nothing.
     pub fn raise(&mut self, source: Source, count: u32) -> Result<(), NoMemory>
-        ensures { OnOk result (self.new ≡ raised_at source count self.old) }
+        ensures ok { OnOk result (self.new ≡ raised_at source count self.old) }
+        ensures err { OnErr result (self.new ≡ self.old) }
     {
         let greatest = self.get(source).max(count);
         self.put(source, greatest)

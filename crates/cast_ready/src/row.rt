@@ -1,17 +1,21 @@
-ghost use Rattle.std.specs.Prelude.{◌≡◌, ℕ, List, true, OnOk, IfOk, IfSome};
+ghost use Rattle.std.specs.Prelude.{◌≡◌, ◌&&◌, ℕ, List, true, IsTrue, Contains, OnOk, IfOk, IfSome};
 ghost use Rattle.std.specs.Prelude.{◌-◌, ◌==◌, length, nat_le, not, unwrap_or};
 ghost use Rattle.std.specs.List.{list_all, position};
 ghost use Rattle.std.specs.Option.{option_copied};
-ghost use Rattle.cast_types.specs.Names.{uid_in};
+ghost use Rattle.std.specs.FinMap.Entries.{is_sorted};
+ghost use Rattle.cast_types.specs.declared.names.GroupNo.{GroupNo};
+ghost use Rattle.cast_types.specs.declared.names.Standing.TheVariants.{Outside};
+ghost use Rattle.cast_types.specs.Names.{group_cmp, uid_in};
 ghost use Rattle.cast_types.specs.Stamps.{ClockList};
-ghost use Rattle.cast_clock.specs.Times.{first_clock};
+ghost use Rattle.cast_clock.specs.Times.{first_clock, join, has_room};
 ghost use Rattle.cast_ready.specs.Ready.{is_member};
-ghost use Rattle.cast_ready.specs.Rows.{needed_count, IsClockIn};
+ghost use Rattle.cast_ready.specs.Rows.{needed_count, IsClockIn, HasCounted, AreLow};
 
 use crate::delivered_counts::DeliveredCounts;
 use crate::gate::{Gate, is_open_in, number_in};
 use crate::offered::Offered;
 use crate::turn::{Turn, turn_in};
+use cast_clock::places::{find_near, stands_at};
 use cast_clock::{ClockFault, Times};
 use cast_types::{Clock, GroupNo, NoMemory, Proc, SortedMap, Source, Stamp, Standing, Uid};
 use std::alloc::{AllocError, Global};
@@ -70,12 +74,38 @@ fn counts_in(clock: Option<&Clock>) -> &[(Proc, u32)]
     }
 }
 
+// Whether a standing is that of a member, where none is kept of one that is outside.
+fn is_membership(standing: Option<&Standing>) -> bool
+    ensures { result ≡ is_member (unwrap_or (option_copied standing.entry) Outside) }
+{
+    match standing {
+        Some(Standing::Member) => true,
+        Some(Standing::Outside | Standing::Joining { .. }) | None => false,
+    }
+}
+
+// Whether standings rise by their groups.
+fn is_rising(standings: &[(GroupNo, Standing)]) -> bool
+    ensures { IsTrue result → is_sorted group_cmp standings.now ≡ true }
+{
+    let mut place = 1;
+    while place < standings.len() {
+        if standings[place - 1].0.cmp(&standings[place].0).is_ge() {
+            return false;
+        }
+        place += 1;
+    }
+    true
+}
+
 impl Row {
     ghost use Rattle.cast_ready.specs.Rows.{standing_in, done_in, needed_count, has_past};
     ghost use Rattle.cast_ready.specs.Rows.{row_allows, all_allow, is_causally_ready_row};
     ghost use Rattle.cast_ready.specs.Rows.{is_ready_row, has_delivered_in, passed_by};
     ghost use Rattle.cast_ready.specs.Rows.{awaits_row, delivered_row, ended_row, told_row};
     ghost use Rattle.cast_ready.specs.Rows.{new_row, lesser_by, awaits_now, holds_back};
+    ghost use Rattle.cast_ready.specs.Rows.{has_passed_row, clock_of_one};
+    ghost use Rattle.cast_clock.specs.Times.{clock_at_most, clock_of};
 
     /// A process that is in no group.
     pub fn new(alloc: Global, process: Proc) -> Self
@@ -144,6 +174,40 @@ impl Row {
         least
     }
 
+    // Whether the process is seen to be a member of all these groups. It is not where its standings
+    // do not rise.
+    fn is_member_of_all(&self, groups: &[GroupNo]) -> bool
+        ensures { IsTrue result
+            → list_all (λ g. is_member (standing_in self.now g)) groups.now ≡ true }
+    {
+        let standings = self.standings.entries();
+        if !is_rising(standings) {
+            return false;
+        }
+        let mut place = 0;
+        for group in groups {
+            let (standing, next) = find_near(standings, place, group);
+            if !is_membership(standing) {
+                return false;
+            }
+            place = next;
+        }
+        true
+    }
+
+    // These groups where the process is a member of all of them, else none.
+    fn in_all<'a>(&self, groups: &'a [GroupNo]) -> &'a [GroupNo]
+        ensures listed { (g : GroupNo) → Contains result.now g → Contains groups.now g }
+        ensures members { (g : GroupNo) → Contains result.now g
+            → is_member (standing_in self.now g) ≡ true }
+    {
+        if self.is_member_of_all(groups) {
+            groups
+        } else {
+            &[]
+        }
+    }
+
     // Whether all of these counts but the message itself is delivered. The place is where the
     // counts are looked at first, and moves on behind what is found.
     fn has_past(
@@ -173,7 +237,7 @@ impl Row {
 
     // Whether nothing of a group holds the message back, where this is the group's clock in the
     // message's time. The place is where the counts are looked at first, and moves on behind what
-    // is found.
+    // is found. Where the clock is low, all that it counts is delivered, and no count is looked at.
     fn allows(
         &self,
         place: &mut usize,
@@ -182,7 +246,10 @@ impl Row {
         group: GroupNo,
         clock: Option<&Clock>,
         standing: Standing,
+        is_low: bool,
     ) -> bool
+        requires { IsTrue is_low
+            → HasCounted self.now group (unwrap_or (option_copied clock) (first_clock 0)) }
         ensures { (times : ClockList) → IsClockIn times group (option_copied clock.entry)
             → result ≡ row_allows self.now number id times group standing }
     {
@@ -192,58 +259,116 @@ impl Row {
             Standing::Joining { heard, .. } => view <= heard,
             Standing::Member => {
                 view < number
-                    || (view == number && self.has_past(place, id, group, view, counts_in(clock)))
+                    || (view == number
+                        && (is_low || self.has_past(place, id, group, view, counts_in(clock))))
             }
         }
     }
 
-    // Whether no group holds the message back.
-    fn all_allow(&self, gates: &SortedMap<GroupNo, Gate>, id: Uid, times: &Stamp) -> bool
+    // Whether no group holds the message back. The process is a member of the low groups, and their
+    // counts are not looked at.
+    fn all_allow(
+        &self,
+        gates: &SortedMap<GroupNo, Gate>,
+        id: Uid,
+        times: &Stamp,
+        low: &[GroupNo],
+    ) -> bool
+        requires low { AreLow self.now times.now low.now }
+        requires members { (g : GroupNo) → Contains low.now g
+            → is_member (standing_in self.now g) ≡ true }
         ensures { result ≡ all_allow gates.now self.now id times.now }
     {
         let mut place = 0;
-        let mut done_place = 0;
+        let mut done_at = 0;
+        let mut passed = 0;
         for (group, standing) in self.standings.entries() {
             let (clock, next) = clock_near(times, place, *group);
             let number = number_in(gates, *group);
-            if !self.allows(&mut done_place, number, id, *group, clock, *standing) {
+            let is_low = stands_at(low, passed, *group);
+            if !self.allows(&mut done_at, number, id, *group, clock, *standing, is_low) {
                 return false;
+            }
+            if is_low {
+                passed += 1;
             }
             place = next;
         }
         true
     }
 
+    // Whether no group holds the message back, and the join of the times has room.
+    fn lets_in(
+        &self,
+        gates: &SortedMap<GroupNo, Gate>,
+        id: Uid,
+        times: &Stamp,
+        low: &[GroupNo],
+    ) -> bool
+        requires { AreLow self.now times.now low.now }
+        ensures { result
+            ≡ (all_allow gates.now self.now id times.now
+            && has_room (join self.now.time times.now)) }
+    {
+        let low = self.in_all(low);
+        self.all_allow(gates, id, times, low) && self.time.has_room_but(times, low)
+    }
+
     /// Whether all that happened before a message was delivered to the process, a member of its
     /// group in the current view that has not delivered the message, where the group is not frozen
-    /// or the message is within its cut.
+    /// or the message is within its cut. In a low group of which the process is a member it has
+    /// delivered all that the message's time counts, and its own time has as much. Where it is a
+    /// member of all low groups, their counts are not looked at.
     pub fn is_causally_ready(
         &self,
         gates: &SortedMap<GroupNo, Gate>,
         id: Uid,
         times: &Stamp,
+        low: &[GroupNo],
     ) -> bool
+        requires { AreLow self.now times.now low.now }
         ensures { result ≡ is_causally_ready_row gates.now self.now id times.now }
     {
         self.is_member(id.group)
             && id.view == number_in(gates, id.group)
             && is_open_in(gates, id)
             && self.delivered_count(id.group, id.view, id.proc) < id.count
-            && self.all_allow(gates, id, times)
-            && self.time.has_room_for(times)
+            && self.lets_in(gates, id, times, low)
+    }
+
+    /// Whether the process is no member of a source's group, or has delivered so many of the
+    /// source's messages and counts them in its time.
+    pub fn has_passed(&self, source: Source, count: u32) -> bool
+        ensures { result ≡ has_passed_row self.now source count }
+    {
+        !self.is_member(source.group)
+            || (count <= self.done.get(source) && self.counts(source, count))
+    }
+
+    // Whether the process's time counts so many messages of a source, or has a later view.
+    fn counts(&self, source: Source, count: u32) -> bool
+        ensures { result
+            ≡ clock_at_most (clock_of_one source count) (clock_of self.now.time source.group) }
+    {
+        let view = self.time.view(source.group);
+        source.view < view
+            || (source.view == view && count <= self.time.count(source.group, source.process))
     }
 
     /// Whether a message may be delivered to the process now, where these are the turns of groups.
+    /// The low groups are as in `is_causally_ready`.
     pub fn is_ready(
         &self,
         turns: &[(GroupNo, Turn)],
         gates: &SortedMap<GroupNo, Gate>,
         offered: &Offered,
+        low: &[GroupNo],
     ) -> bool
+        requires { AreLow self.now offered.now.times low.now }
         ensures { result ≡ is_ready_row turns.now gates.now self.now offered.now }
     {
         let id = offered.id;
-        self.is_causally_ready(gates, id, &offered.times)
+        self.is_causally_ready(gates, id, &offered.times, low)
             && (!offered.atomic || turn_in(turns, id.group).is_of(id.proc, id.count))
     }
 
@@ -341,9 +466,10 @@ impl Row {
         None
     }
 
-    /// Notes that a message was delivered to the process. After `NoMemory` the row may be of no
-    /// use.
-    pub fn deliver(&mut self, id: Uid, times: &Stamp) -> Result<(), NoMemory>
+    /// Notes that a message was delivered to the process. The low groups are as in
+    /// `is_causally_ready`. After `NoMemory` the row may be of no use.
+    pub fn deliver(&mut self, id: Uid, times: &Stamp, low: &[GroupNo]) -> Result<(), NoMemory>
+        requires { AreLow self.old times.now low.now }
         ensures { OnOk result (self.new ≡ delivered_row id times.now self.old) }
     {
         let source = Source {
@@ -351,8 +477,9 @@ impl Row {
             view: id.view,
             process: id.proc,
         };
+        let low = self.in_all(low);
         self.done.put(source, id.count)?;
-        match self.time.merge(times) {
+        match self.time.merge_but(times, low) {
             Ok(()) => Ok(()),
             Err(ClockFault::TooMany) => Ok(()),
             Err(ClockFault::NoMemory) => Err(AllocError),

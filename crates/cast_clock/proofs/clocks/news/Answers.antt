@@ -8,7 +8,7 @@ use Rattle.cast_types.specs.Counts.{is_counts}
 use Rattle.cast_types.specs.Stamps.{ClockList}
 use Rattle.cast_clock.specs.Times.{first_clock, clock_of, join_clocks, clock_has_room}
 use Rattle.cast_clock.specs.News.{is_known, news}
-use Rattle.cast_clock.proofs.News.{all_stops, all_goes, all_valid_push, known_fits, news_skips, news_adds}
+use Rattle.cast_clock.proofs.News.{all_stops, all_goes, all_valid_push, known_fits, known_listed, news_skips, news_adds}
 use Rattle.cast_clock.proofs.clocks.news.Goals as goal
 use Rattle.cast_clock.proofs.clocks.news.Goals.{then-not-is_known+else-not-fits_joined+in_ok-join_clock+in_ok-push, else-not-is_known}
 
@@ -21,6 +21,24 @@ returns-then-not-fits_joined-clause-too_many c = λ _.
     ∙ ap (λ (o : Option Clock). clock_has_room (join_clocks (unwrap_or o (first_clock 0)) e.1)) c.find_near-next.ensures in
     sym (all_stops fits c.args.theirs.now c.loop-group.group-index e (omega arith) c.loop-group-item.is c.loop-group.invariant.room
     (sym tested ∙ c.if-not-fits_joined.true))
+
+-- the group is known
+pub loop-group-preserved-then-is_passed : goal.loop-group-preserved-then-is_passed
+loop-group-preserved-then-is_passed c =
+    let e = c.loop-group-item.result in
+    let i = c.loop-group.group-index in
+    let mine = c.args.mine.now in
+    let theirs = c.args.theirs.now in
+    let at : i < length theirs = omega arith in
+    let known =
+    known_listed mine theirs c.args.known.now i e at c.loop-group-item.is c.requires.viewed c.requires.known
+    c.is_passed.ensures.valid (c.is_passed.ensures.listed c.if-is_passed.true) in
+    record {
+      same = news_skips mine theirs c.loop-group.news.items i e at c.loop-group-item.is known c.loop-group.invariant.same;
+      valid = c.loop-group.invariant.valid;
+      room = all_goes (λ x. clock_has_room (join_clocks (clock_of mine x.0) x.1)) theirs i e at c.loop-group-item.is
+          c.loop-group.invariant.room (known_fits mine e.0 e.1 c.requires.time known);
+    }
 
 pub loop-group-preserved : goal.loop-group-preserved
 loop-group-preserved c =
@@ -58,6 +76,6 @@ loop-group-preserved c =
                 rw items (news_skips mine theirs c.loop-group.news.items i e at c.loop-group-item.is (sym tested ∙ w.if-not-is_known.false)
                 c.loop-group.invariant.same);
             valid = rw items c.loop-group.invariant.valid;
-            room = goes (known_fits mine e.0 e.1 c.requires (sym tested ∙ w.if-not-is_known.false));
+            room = goes (known_fits mine e.0 e.1 c.requires.time (sym tested ∙ w.if-not-is_known.false));
           }
     ]

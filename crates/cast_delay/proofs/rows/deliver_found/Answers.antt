@@ -10,7 +10,7 @@ use Rattle.cast_delay.proofs.rows.deliver_found.Goals as goal
 pub returns-in-Ok : goal.returns-in-Ok
 returns-in-Ok c =
     let rows = c.deref.result.now in
-    let up : rise rows ≡ true = subst (λ (rs : List Row). rise rs ≡ true) (sym c.deref.ensures.value) c.requires in
+    let up : rise rows ≡ true = subst (λ (rs : List Row). rise rs ≡ true) (sym c.deref.ensures.value) c.requires.rise in
     let by_process = c.in-Ok.ensures.position (λ (r : Row). r.process) (answers_always _ _ _ (λ f a r g called. search rules)) in
     let at =
     search_changed c.args.process (delivered_row c.args.message.now.id c.args.message.now.times)
@@ -20,7 +20,7 @@ returns-in-Ok c =
 pub returns-in-Err : goal.returns-in-Err
 returns-in-Err c =
     let rows = c.deref.result.now in
-    let up : rise rows ≡ true = subst (λ (rs : List Row). rise rs ≡ true) (sym c.deref.ensures.value) c.requires in
+    let up : rise rows ≡ true = subst (λ (rs : List Row). rise rs ≡ true) (sym c.deref.ensures.value) c.requires.rise in
     let by_process = c.in-Err.ensures.position (λ (r : Row). r.process) (answers_always _ _ _ (λ f a r g called. search rules)) in
     let none =
     none_changed c.args.process (delivered_row c.args.message.now.id c.args.message.now.times)

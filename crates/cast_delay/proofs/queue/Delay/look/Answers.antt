@@ -10,6 +10,7 @@ invariant_of-self c =
     (record {
       settled = c.self.invariant.settled;
       looked = rest_looked d.gates d.rows d.offered d.waits c.args.process (λ q l apart is. c.self.invariant.looked q l is);
+      lies = c.self.invariant.lies;
     })
 
 -- what need not be looked at is settled, or was looked at

@@ -17,4 +17,5 @@ invariant_of-self-2 c =
       settled = gate_settled d.gates c.args.group gate refl d.rows d.offered d.settled
           c.self.invariant.settled;
       looked = gate_looked d.gates c.args.group gate refl d.rows d.offered d.waits c.self.invariant.looked;
+      lies = c.self.invariant.lies;
     })

@@ -1,4 +1,5 @@
-use Rattle.std.proofs.Common.{◌≡◌, ◌∙◌, sym, ap, true, rules}
+use Rattle.std.proofs.Common.{◌≡◌, ◌∙◌, List, Contains, sym, ap, subst, true, rules}
+use Rattle.cast_ready.specs.declared.row.Row.{Row}
 use Rattle.std.proofs.lemmas.Bool.{false≢true}
 use Rattle.cast_delay.specs.Queue.{after_delivery}
 use Rattle.cast_delay.specs.Admitted.{are_of, busy_places, rise}
@@ -31,3 +32,7 @@ invariant_of-self-2 c =
             ∙ sym (ap (busy_places 0) delivered ∙ places_delivered c.args.offered.now c.args.process c.args.key rows)
       ],
     )
+
+pub deliver_in-delivered-requires-clause-low : goal.deliver_in-delivered-requires-clause-low
+deliver_in-delivered-requires-clause-low c = λ row there o at.
+    c.requires row (subst (λ (rs : List Row). Contains rs row) c.self.view_is there) o at

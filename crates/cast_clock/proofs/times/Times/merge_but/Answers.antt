@@ -3,7 +3,7 @@ use Rattle.cast_clock.specs.Times.{is_time}
 use Rattle.cast_clock.specs.News.{news, put_all}
 use Rattle.cast_clock.proofs.News.{all_fit, has_room-join, news_join, is_time-put_all}
 use Rattle.cast_clock.proofs.Valid.{sorted_stamp}
-use Rattle.cast_clock.proofs.times.Times.merge.Goals as goal
+use Rattle.cast_clock.proofs.times.Times.merge_but.Goals as goal
 
 pub returns-in_err-news-clause-too_many : goal.returns-in_err-news-clause-too_many
 returns-in_err-news-clause-too_many c = λ failed.

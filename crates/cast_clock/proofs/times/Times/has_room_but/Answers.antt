@@ -2,7 +2,7 @@ use Rattle.std.proofs.Common.{IsTrue, ◌∙◌, subst}
 use Rattle.cast_clock.specs.Times.{is_time}
 use Rattle.cast_clock.proofs.News.{all_fit, has_room-join}
 use Rattle.cast_clock.proofs.Valid.{sorted_stamp}
-use Rattle.cast_clock.proofs.times.Times.has_room_for.Goals as goal
+use Rattle.cast_clock.proofs.times.Times.has_room_but.Goals as goal
 
 pub returns : goal.returns
 returns c =
