@@ -132,8 +132,7 @@ impl Domain {
         ensures made { OnOk result (MakesAlone (λ r. tell_in r process fact) self.old self.new) }
         ensures groups { self.new.groups ≡ self.old.groups }
     {
-        self.delay.tell(process, &fact)?;
-        Ok(())
+        self.delay.tell(process, &fact)
     }
 
     // Sends a frame to a site.

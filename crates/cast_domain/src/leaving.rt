@@ -9,10 +9,11 @@ use cast_types::limits::MAX_NUMBER;
 use cast_types::{GroupNo, NoMemory, Refusal, Standing};
 
 impl Domain {
-    ghost use Rattle.std.specs.Prelude.{false, None, IfOk, OnOk, vec_len, Some};
+    ghost use Rattle.std.specs.Prelude.{false, None, IfOk, OnOk, vec_len, Some, ◌++◌, ◌∷◌, []};
+    ghost use Rattle.cast_outbox.specs.Pending.{with_entry};
     ghost use Rattle.cast_domain.specs.Records.{GivesBack, KeepsBeside};
     ghost use Rattle.cast_domain.specs.Records.{records_in, Makes, Attempts};
-    ghost use Rattle.cast_domain.specs.PartCalls.{is_full_in, push_in, reason_in};
+    ghost use Rattle.cast_domain.specs.PartCalls.{push_in, reason_in};
     ghost use Rattle.cast_domain.specs.Calls.{records};
     ghost use Rattle.cast_rules.specs.Rules.Commands.{leave};
     ghost use Rattle.cast_rules.specs.Rules.Leaving.{leave_all, leave_at, leave_group};
@@ -62,8 +63,7 @@ impl Domain {
         if asked == MAX_NUMBER {
             return Ok(());
         }
-        self.request(place, Change::Leave, process, lent)?;
-        Ok(())
+        self.request(place, Change::Leave, process, lent)
     }
 
     // A process leaves all its groups.
@@ -80,9 +80,10 @@ impl Domain {
         Ok(())
     }
 
-    // Pushes an entry to an open session whose outbox has room for it.
+    // Pushes an entry to a session. Where the outbox is full, it is that the program is too slow.
     fn push_entry(&self, serial: u32, entry: Push, lent: &mut Lent<'_>) -> Result<(), NoMemory>
-        requires { is_full_in (records_in self.now lent.old) serial ≡ false }
+        requires { let entries = (records_in self.now lent.old).part.outboxes serial in
+            with_entry self.now.quotas.outbox entry entries ≡ entries ++ entry ∷ [] }
         ensures back { GivesBack self.now.config.domain lent.old lent.new }
         ensures made { OnOk result
             (Makes (λ r. push_in r serial entry) self.now lent.old self.now lent.new) }
@@ -115,11 +116,9 @@ impl Domain {
         ensures len { vec_len self.new.groups ≡ vec_len self.old.groups }
     {
         if self.is_full(serial, lent) {
-            self.close_session(serial, Refusal::Slow, lent)?;
-            return Ok(());
+            return self.close_session(serial, Refusal::Slow, lent);
         }
-        self.push_entry(serial, entry, lent)?;
-        Ok(())
+        self.push_entry(serial, entry, lent)
     }
 
     // Closes an open session: its program is told why, and its process leaves all its groups. Where
@@ -136,8 +135,7 @@ impl Domain {
         ensures len { vec_len self.new.groups ≡ vec_len self.old.groups }
     {
         self.close(serial, refusal, lent)?;
-        self.leave_all(serial, lent)?;
-        Ok(())
+        self.leave_all(serial, lent)
     }
 
     // Closes a session: its program is told why, and nothing after that.
@@ -153,14 +151,7 @@ impl Domain {
         ensures len { vec_len self.new.groups ≡ vec_len self.old.groups }
     {
         let why = self.reason(serial, refusal, lent);
-        lent.outs
-            .push(self.config.domain, serial, &Push::Closed(why))?;
-        lent.shared.push(
-            self.config.domain,
-            serial,
-            self.quotas.outbox,
-            Push::Closed(why),
-        )?;
+        self.push_entry(serial, Push::Closed(why), lent)?;
         self.sessions.close(serial);
         Ok(())
     }

@@ -35,8 +35,7 @@ impl Domain {
             return Ok(());
         }
         self.send_for(&key, lent)?;
-        lent.shared.owe(self.config.domain, key, self.next_due())?;
-        Ok(())
+        lent.shared.owe(self.config.domain, key, self.next_due())
     }
 
     // Owes a frame no more.

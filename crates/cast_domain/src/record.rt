@@ -82,8 +82,7 @@ pub fn ask_at(
     ensures len { vec_len groups.new ≡ vec_len groups.old }
 {
     let record = &mut groups[place];
-    record.here.ask(change, process)?;
-    Ok(())
+    record.here.ask(change, process)
 }
 
 /// Takes the first request of the group of a place off: it is answered.
@@ -147,8 +146,7 @@ pub fn view_at(
     ensures len { vec_len groups.new ≡ vec_len groups.old }
 {
     let record = &mut groups[place];
-    record.here.complete(site, number, members)?;
-    Ok(())
+    record.here.complete(site, number, members)
 }
 
 /// Takes in a site's request at the home of the group of a place, and answers whether it is refused

@@ -5,7 +5,7 @@ use cast_message::Push;
 use cast_types::{Proc, Uid};
 
 /// What a delivery is to the order of its view.
-#[derive(Clone, Copy, Debug, PartialEq, Eq)]
+#[derive(Clone, Copy)]
 pub enum Weight {
     Nothing,
     /// An ABCAST was delivered.

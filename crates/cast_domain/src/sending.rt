@@ -154,7 +154,6 @@ impl Domain {
         self.delay.offer(key, &message)?;
         self.acks.receive(message.id)?;
         learn(&mut self.orders, &message)?;
-        lent.shared.put(self.config.domain, message)?;
-        Ok(())
+        lent.shared.put(self.config.domain, message)
     }
 }

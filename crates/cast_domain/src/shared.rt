@@ -76,8 +76,7 @@ impl Shared {
             (part_of domain self.new ≡ part_owing (part_of domain self.old) key due) }
         ensures others { LeavesOthers domain self.old self.new }
     {
-        self.timers.owe(domain, key, due)?;
-        Ok(())
+        self.timers.owe(domain, key, due)
     }
 
     // Owes all frames that are due at a moment for another one.
@@ -86,8 +85,7 @@ impl Shared {
             (part_of domain self.new ≡ part_renewing_due (part_of domain self.old) now due) }
         ensures others { LeavesOthers domain self.old self.new }
     {
-        self.timers.renew_due(domain, now, due)?;
-        Ok(())
+        self.timers.renew_due(domain, now, due)
     }
 
     // Owes a frame no more.

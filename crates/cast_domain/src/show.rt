@@ -8,7 +8,7 @@ use cast_types::{GroupNo, List, NoMemory, Proc};
 use std::alloc::Global;
 
 /// What a domain shows of itself.
-#[derive(Clone, Copy, Debug, PartialEq, Eq)]
+#[derive(Clone, Copy)]
 pub struct Shown {
     /// How many sessions are not gone.
     pub sessions: usize,

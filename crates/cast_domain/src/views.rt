@@ -49,8 +49,7 @@ impl Domain {
     {
         let group = self.record(place).name;
         self.take_view(place, view, members)?;
-        self.take_all_in(group, view, members.list(), request)?;
-        Ok(())
+        self.take_all_in(group, view, members.list(), request)
     }
 
     // The site takes over a view.
@@ -137,8 +136,7 @@ impl Domain {
     {
         let entered = self.entry_time(process, group, view)?;
         self.tell(process, ProcessUpdate::Time(entered))?;
-        self.tell(process, ProcessUpdate::Standing(group, Standing::Member))?;
-        Ok(())
+        self.tell(process, ProcessUpdate::Standing(group, Standing::Member))
     }
 
     // The time of a process that enters a view.
@@ -172,8 +170,7 @@ impl Domain {
     {
         let group = self.record(place).name;
         self.change_view(skips, place, view, members, request, lent)?;
-        self.send(lent.outs, from, SiteFrame::Installed { group, view })?;
-        Ok(())
+        self.send(lent.outs, from, SiteFrame::Installed { group, view })
     }
 
     // The site passes to a view: messages of the one before it are kept no longer, and nothing is
@@ -223,8 +220,7 @@ impl Domain {
         self.pass_to(skips, place, view, members, request)?;
         let here = self.serials_of_members(self.record(place).name)?;
         self.tell_out(group, view, out.as_slice(), lent)?;
-        self.tell_view(group, view, members, here.as_slice(), lent)?;
-        Ok(())
+        self.tell_view(group, view, members, here.as_slice(), lent)
     }
 
     // The serials of the members here that a view lacks, and of all where a view was skipped.
@@ -349,8 +345,7 @@ impl Domain {
             view,
             members: members.copy()?,
         };
-        self.push(serial, push, lent)?;
-        Ok(())
+        self.push(serial, push, lent)
     }
 
     // The members here that a view lacks are put out, and those that it takes in enter it.
@@ -370,8 +365,7 @@ impl Domain {
     {
         let group = self.record(place).name;
         self.put_out_all(group, skips, members)?;
-        self.begin_view(place, view, members, request)?;
-        Ok(())
+        self.begin_view(place, view, members, request)
     }
 
     // Each member here that a view lacks is put out; all of them, where a view was skipped.
@@ -428,8 +422,7 @@ impl Domain {
             (MakesAlone (λ r. put_out_in group r (local_in r serial)) self.old self.new) }
     {
         let process = self.process(serial);
-        self.tell(process, ProcessUpdate::Standing(group, Standing::Outside))?;
-        Ok(())
+        self.tell(process, ProcessUpdate::Standing(group, Standing::Outside))
     }
 
     // Messages of views of the group at a place that have ended are kept no longer.

@@ -1,5 +1,6 @@
 use Rattle.std.proofs.Common.{◌≡◌, ◌∙◌, ap, filter}
 use Rattle.std.specs.List.{fold}
+use Rattle.std.proofs.lemmas.Result.{on_ok_weaker}
 use Rattle.cast_rules.specs.Rules.Views.{tell_out, tell_view}
 use Rattle.cast_domain.specs.declared.record.GroupRecord.{GroupRecord}
 use Rattle.cast_domain.specs.Records.{Records, records_in}
@@ -10,7 +11,7 @@ use Rattle.cast_domain.proofs.Loops.{seen_as}
 use Rattle.cast_domain.proofs.domain.Domain.enter_and_tell.Goals as goal
 
 pub returns-clause-made : goal.returns-clause-made
-returns-clause-made c cut =
+returns-clause-made c =
     let d = c.args.self.now in
     let lent = c.args.lent.now in
     let r = records_in d lent in
@@ -32,6 +33,12 @@ returns-clause-made c cut =
     ∙ c.in_ok-here.ensures
     ∙ ap (λ g. filter (is_member_in (records_in c.pass_to.new.self lent) g) (serials_in (records_in c.pass_to.new.self lent))) later
     ∙ ap (λ x. members_in x i) made in
-    c.in_ok-tell_view.ensures.made
+    on_ok_weaker c.tell_view.result (λ told cut.
+    told
     ∙ ap (λ x. fold (tell_view records c.record.result.now.name n members) x c.as_slice-2.result.now) c.in_ok-tell_out.ensures.made
-    ∙ (λ j. fold (tell_view records (name j) n members) (fold (tell_out records (name j) n) (made j) (out j)) (here j))
+    ∙ (λ j. fold (tell_view records (name j) n members) (fold (tell_out records (name j) n) (made j) (out j)) (here j)))
+    c.tell_view.ensures.made
+
+pub returns-clause-len : goal.returns-clause-len
+returns-clause-len c =
+    on_ok_weaker c.tell_view.result (λ len. len ∙ c.in_ok-tell_out.ensures.len ∙ c.in_ok-pass_to.ensures.len) c.tell_view.ensures.len

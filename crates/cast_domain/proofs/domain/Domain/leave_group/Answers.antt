@@ -1,6 +1,7 @@
 use Rattle.std.proofs.Common.{◌≡◌, ◌∙◌, sym, ap, true, false}
 use Rattle.std.specs.Prelude.{◌==◌, if◌then◌else◌}
 use Rattle.std.proofs.lemmas.Bool.{eq-eqb, ne_eqb}
+use Rattle.std.proofs.lemmas.Result.{on_ok_weaker}
 use Rattle.cast_types.specs.declared.limits.TheConstants.{MAX_NUMBER}
 use Rattle.cast_types.specs.declared.names.Standing.TheVariants.{Outside}
 use Rattle.cast_message.specs.declared.site.Change.TheVariants as change
@@ -47,6 +48,8 @@ returns-clause-made c =
     c.request_count-asked.ensures ∙ ap (λ (x : GroupRecord). x.here.asked) c.record.ensures in
     let left : ((record_at r.groups i).here.asked == MAX_NUMBER) ≡ false =
     ne_eqb (record_at r.groups i).here.asked MAX_NUMBER (λ same. c.if-asked.false (asked ∙ same)) in
-    c.in_ok-request.ensures.made
+    on_ok_weaker c.request.result (λ made.
+    made
     ∙ (λ j. request records (told j) i change.Leave (p j))
-    ∙ sym (ap (λ b. if b then note_outside_in r k g else request records (note_outside_in r k g) i change.Leave (local_in r k)) left)
+    ∙ sym (ap (λ b. if b then note_outside_in r k g else request records (note_outside_in r k g) i change.Leave (local_in r k)) left))
+    c.request.ensures.made

@@ -1,4 +1,5 @@
 use Rattle.std.proofs.Common.{◌≡◌, ◌∙◌, ap, length, arith}
+use Rattle.std.proofs.lemmas.Result.{on_ok_weaker}
 use Rattle.cast_events.specs.Outs.{no_outs}
 use Rattle.cast_domain.specs.Shared.{no_part}
 use Rattle.cast_domain.specs.Records.{records_of}
@@ -15,20 +16,22 @@ begin_view-requires c =
     omega arith
 
 pub returns-clause-made : goal.returns-clause-made
-returns-clause-made c o part =
+returns-clause-made c =
+    on_ok_weaker c.begin_view.result (λ made o part.
     let r = records_of c.args.self.now part o in
     let out =
     c.in_ok-put_out_all.ensures.made o part ∙ ap (λ x. put_out_all_in x.name c.args.skips c.args.members.now r) c.record.ensures in
-    c.in_ok-begin_view.ensures.made o part ∙ ap (λ x. begin_view_in x c.args.place c.args.view c.args.members.now c.args.request) out
+    made o part ∙ ap (λ x. begin_view_in x c.args.place c.args.view c.args.members.now c.args.request) out) c.begin_view.ensures.made
 
 pub returns-clause-len : goal.returns-clause-len
 returns-clause-len c =
+    on_ok_weaker c.begin_view.result (λ made.
     let r = records_of c.args.self.now no_part no_outs in
     let out =
     c.in_ok-put_out_all.ensures.made no_outs no_part ∙ ap (λ x. put_out_all_in x.name c.args.skips c.args.members.now r) c.record.ensures in
     let same : length c.begin_view.new.self.groups.items ≡ length r.groups =
     ap (λ x. length x.groups)
-    (c.in_ok-begin_view.ensures.made no_outs no_part
+    (made no_outs no_part
     ∙ ap (λ x. begin_view_in x c.args.place c.args.view c.args.members.now c.args.request) out)
     ∙ pass_length r c.args.place c.args.skips c.args.view c.args.members.now c.args.request in
-    omega arith
+    omega arith) c.begin_view.ensures.made
