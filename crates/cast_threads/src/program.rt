@@ -57,19 +57,97 @@ fn open<T: SharedTable, R: Wait>(
     }
 }
 
+// A share of the count for one more thread. An error if there is none.
+fn share_of<T: SharedTable, R: Wait>(rt: &R, shared: &Shared<'_, T>) -> io::Result<T::Share> {
+    match shared.table.share(rt) {
+        Some(share) => Ok(share),
+        None => Err(io::Error::from(io::ErrorKind::OutOfMemory)),
+    }
+}
+
 /// What a thread needs to serve events. An error if there is no share of the count for it.
 pub fn server_of<'a, T: SharedTable, R: Wait>(
     rt: &R,
     shared: &'a Shared<'a, T>,
 ) -> io::Result<Server<'a, T>> {
-    match shared.table.share(rt) {
-        Some(share) => Ok(Server::new(shared, share)),
-        None => Err(io::Error::from(io::ErrorKind::OutOfMemory)),
-    }
+    let share = share_of(rt, shared)?;
+    Ok(Server::new(shared, share))
 }
 
-// Serves a program that has a session: this thread reads, and a second one writes what the others
+// The program of a session. Its stream is closed if it takes no byte for long.
+fn client_of(
+    alloc: Global,
+    session: Session,
+    stream: UnixStream,
+) -> io::Result<Arc<Client, Global>> {
+    stream.set_write_timeout(Some(Duration::from_secs(PATIENCE)))?;
+    let client = Arc::new(alloc, Client::new(session, stream))?;
+    Ok(client)
+}
+
+// Enters a program at the desk. False if the programs of its domain are no longer served.
+fn enter<T: SharedTable, R: Wait>(
+    rt: &R,
+    shared: &Shared<'_, T>,
+    client: &Arc<Client, Global>,
+) -> io::Result<bool> {
+    let entered = Arc::try_clone(client)?;
+    let is_entered = shared.desk.lock(rt).add(entered)?;
+    Ok(is_entered)
+}
+
+// Starts the thread that writes what the others would wait for. False if none can be started.
+fn start_writer<'s, 'e, T: SharedTable + Sync, R: Threads + Wait + Clock + Sync>(
+    scope: &'s Scope<'s, &'e ()>,
+    rt: &'e R,
+    shared: &'e Shared<'e, T>,
+    client: Arc<Client, Global>,
+    share: T::Share,
+) -> bool
+where
+    T::Share: Send,
+    T::Job: Send,
+    T::Done: Send,
+{
+    let server = Server::new(shared, share);
+    scope.spawn(move || run_writer(rt, client, server)).is_ok()
+}
+
+// Serves what a program writes, until its stream ends.
+fn read<T: SharedTable, R: Wait + Clock>(
+    rt: &R,
+    shared: &Shared<'_, T>,
+    client: &Client,
+    share: T::Share,
+) {
+    let reader = Mutex::new(Reader::new(Server::new(shared, share), client));
+    run_reader(rt, shared.alloc, client, &reader);
+}
+
+// Serves a program that was entered: this thread reads, and a second one writes what the others
 // would wait for.
+fn serve_entered<'s, 'e, T: SharedTable + Sync, R: Threads + Wait + Clock + Sync>(
+    scope: &'s Scope<'s, &'e ()>,
+    rt: &'e R,
+    shared: &'e Shared<'e, T>,
+    client: &Client,
+    writing: Arc<Client, Global>,
+    reads: T::Share,
+    writes: T::Share,
+) -> io::Result<()>
+where
+    T::Share: Send,
+    T::Job: Send,
+    T::Done: Send,
+{
+    if !start_writer(scope, rt, shared, writing, writes) {
+        return Err(io::Error::from(io::ErrorKind::OutOfMemory));
+    }
+    read(rt, shared, client, reads);
+    Ok(())
+}
+
+// Serves a program that has a session. What it needs is made before it is entered.
 fn serve_session<'s, 'e, T: SharedTable + Sync, R: Threads + Wait + Clock + Sync>(
     scope: &'s Scope<'s, &'e ()>,
     rt: &'e R,
@@ -82,22 +160,14 @@ where
     T::Job: Send,
     T::Done: Send,
 {
-    stream.set_write_timeout(Some(Duration::from_secs(PATIENCE)))?;
-    let client = Arc::new(shared.alloc, Client::new(session, stream))?;
+    let client = client_of(shared.alloc, session, stream)?;
     let writing = Arc::try_clone(&client)?;
-    let reading = server_of(rt, shared)?;
-    let server = server_of(rt, shared)?;
-    if !shared.desk.lock(rt).add(Arc::try_clone(&client)?)? {
+    let reads = share_of(rt, shared)?;
+    let writes = share_of(rt, shared)?;
+    if !enter(rt, shared, &client)? {
         return Ok(());
     }
-    let is_started = scope.spawn(move || run_writer(rt, writing, server)).is_ok();
-    let ended = if is_started {
-        let reader = Mutex::new(Reader::new(reading, &*client));
-        run_reader(rt, shared.alloc, &client, &reader);
-        Ok(())
-    } else {
-        Err(io::Error::from(io::ErrorKind::OutOfMemory))
-    };
+    let ended = serve_entered(scope, rt, shared, &client, writing, reads, writes);
     client.close(rt);
     ended
 }
