@@ -1,4 +1,4 @@
-ghost use Rattle.std.specs.Prelude.{◌≡◌, ◌⊎◌, ◌≤◌, [], true, Contains};
+ghost use Rattle.std.specs.Prelude.{◌≡◌, ◌↔◌, ◌⊎◌, ◌≤◌, [], true, IsTrue, Contains};
 ghost use Rattle.cast_types.specs.declared.names.GroupNo.{GroupNo};
 ghost use Rattle.std.specs.List.{list_all};
 ghost use Rattle.cast_ready.specs.DeliveredCounts.{count_at};
@@ -39,6 +39,13 @@ impl Floor {
             key: Key(0),
             groups: Vec::new(alloc),
         }
+    }
+
+    /// Whether no count is known.
+    pub fn is_empty(&self) -> bool
+        ensures { IsTrue result ↔ (self.now.counts ≡ []) }
+    {
+        self.counts.is_empty()
     }
 
     /// What is known, and leaves nothing.

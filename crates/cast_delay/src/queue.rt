@@ -162,7 +162,7 @@ impl Delay {
     {
         let settled = despite_fact(fact, self.settled);
         let floor = self.floor.take();
-        let stays = covers_told(self.rows.as_slice(), process, fact);
+        let stays = stays_told(&floor, self.rows.as_slice(), process, fact);
         self.settled = 0;
         let mut waits = self.waits.take();
         self.rows.tell(process, fact)?;
@@ -416,7 +416,7 @@ impl Delay {
         self.settled = 0;
         let mut waits = self.waits.take();
         let floor = self.floor.take();
-        let stays = stays_delivered(self.rows.as_slice(), &self.offered, process, key);
+        let stays = stays_under(&floor, self.rows.as_slice(), &self.offered, process, key);
         self.rows
             .deliver(&self.offered, process, key, floor.groups_of(key))?;
         reach_in(&mut self.reached, &self.offered, key)?;
@@ -736,6 +736,20 @@ fn stays_delivered(rows: &[Row], offered: &Offers, process: Proc, key: Key) -> b
         Some(message) => is_next_of(rows, process, message.id),
         None => true,
     }
+}
+
+// Whether a floor that has a count stays under the rows at a delivery.
+fn stays_under(floor: &Floor, rows: &[Row], offered: &Offers, process: Proc, key: Key) -> bool
+    ensures { result ≡ true → stays_delivered offered.now process key rows.now ≡ true }
+{
+    !floor.is_empty() && stays_delivered(rows, offered, process, key)
+}
+
+// Whether a floor that has a count stays under the rows at a fact.
+fn stays_told(floor: &Floor, rows: &[Row], process: Proc, fact: &ProcessUpdate) -> bool
+    ensures { result ≡ true → covers_told fact.now process rows.now ≡ true }
+{
+    !floor.is_empty() && covers_told(rows, process, fact)
 }
 
 // Whether a fact leaves what the rows of a process have passed: it is a time that covers theirs.

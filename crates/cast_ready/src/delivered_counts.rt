@@ -1,4 +1,4 @@
-ghost use Rattle.std.specs.Prelude.{◌≡◌, [], true, IfOk, OnOk, OnErr};
+ghost use Rattle.std.specs.Prelude.{◌≡◌, ◌↔◌, [], true, IfOk, IsTrue, OnOk, OnErr};
 ghost use Rattle.std.specs.FinMap.Entries.{put, is_sorted};
 ghost use Rattle.cast_types.specs.Sources.{source_cmp, but_ended};
 ghost use Rattle.cast_ready.specs.DeliveredCounts.{count_at, counts_in, raised_at};
@@ -37,6 +37,13 @@ impl DeliveredCounts {
         DeliveredCounts {
             counts: Vec::new(alloc),
         }
+    }
+
+    /// Whether no count is kept.
+    pub fn is_empty(&self) -> bool
+        ensures { IsTrue result ↔ (self.now ≡ []) }
+    {
+        self.counts.is_empty()
     }
 
     /// The count of a source, 0 where none is kept.

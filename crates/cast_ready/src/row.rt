@@ -201,7 +201,7 @@ impl Row {
         ensures members { (g : GroupNo) → Contains result.now g
             → is_member (standing_in self.now g) ≡ true }
     {
-        if self.is_member_of_all(groups) {
+        if !groups.is_empty() && self.is_member_of_all(groups) {
             groups
         } else {
             &[]

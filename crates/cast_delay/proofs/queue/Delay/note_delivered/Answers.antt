@@ -1,4 +1,4 @@
-use Rattle.std.proofs.Common.{◌≡◌, sym, subst, ◌∙◌, rules}
+use Rattle.std.proofs.Common.{◌≡◌, subst, rules}
 use Rattle.cast_delay.specs.Queue.{after_delivery}
 use Rattle.cast_delay.specs.Settled.{despite_delivery}
 use Rattle.cast_delay.proofs.Settled.{deliver_settled}
@@ -47,10 +47,10 @@ invariant_of-self-2 c =
       settled = c.settled_from-self-inside.ensures;
       looked = c.wake_next.ensures;
       lies = rw rows
-          (kept_floor c.stays_delivered-stays.result d.floor c.kept_if.result d.rows
+          (kept_floor c.stays_under-stays.result d.floor c.kept_if.result d.rows
           (after_delivery d.offered c.args.process c.args.key d.rows) d.offered
-          (subst (λ f. KeptIf c.stays_delivered-stays.result f c.kept_if.result) c.take-floor.ensures.taken c.kept_if.ensures)
+          (subst (λ f. KeptIf c.stays_under-stays.result f c.kept_if.result) c.take-floor.ensures.taken c.kept_if.ensures)
           c.self.invariant.lies
           (λ stays. delivery_under d.floor.counts d.offered c.args.process c.args.key d.rows
-          (sym (rw (← c.as_slice-2.ensures) c.stays_delivered-stays.ensures) ∙ stays)));
+          (rw (← c.as_slice-2.ensures) (c.stays_under-stays.ensures stays))));
     }

@@ -1,4 +1,4 @@
-use Rattle.std.proofs.Common.{◌≡◌, subst, sym, ◌∙◌, rules}
+use Rattle.std.proofs.Common.{◌≡◌, subst, rules}
 use Rattle.cast_delay.specs.Floors.{KeptIf}
 use Rattle.cast_delay.proofs.Floors.{kept_floor, told_under}
 use Rattle.cast_ready.specs.Rows.{told_row}
@@ -27,10 +27,10 @@ invariant_of-self-2 c =
       settled = c.settled_from-self-inside.ensures;
       looked = rw (rows, waits) (tell_looked d.gates d.rows c.args.process c.args.fact.now d.offered d.waits c.self.invariant.looked);
       lies = rw rows
-          (kept_floor c.covers_told-stays.result d.floor c.kept_if.result d.rows
+          (kept_floor c.stays_told-stays.result d.floor c.kept_if.result d.rows
           (change_row c.args.process (told_row c.args.fact.now) d.rows) d.offered
-          (subst (λ f. KeptIf c.covers_told-stays.result f c.kept_if.result) c.take-floor.ensures.taken c.kept_if.ensures)
+          (subst (λ f. KeptIf c.stays_told-stays.result f c.kept_if.result) c.take-floor.ensures.taken c.kept_if.ensures)
           c.self.invariant.lies
           (λ stays. told_under d.floor.counts c.args.process c.args.fact.now d.rows
-          (sym (rw (← c.as_slice.ensures) c.covers_told-stays.ensures) ∙ stays)));
+          (rw (← c.as_slice.ensures) (c.stays_told-stays.ensures stays))));
     }
