@@ -22,7 +22,7 @@ use Rattle.cast_types.specs.Sources.{source, source_cmp}
 use Rattle.cast_types.specs.Stamps.{ClockList}
 use Rattle.cast_types.proofs.Orders.{group_total, group_exact, proc_total, proc_exact, tie_same}
 use Rattle.cast_types.specs.Counts.{CountList, count_of}
-use Rattle.cast_types.proofs.Contains.{contains_here, contains_later}
+use Rattle.cast_types.proofs.Contains.{all_from}
 use Rattle.cast_types.proofs.Sources.{source_total, source_exact}
 use Rattle.cast_clock.specs.Times.{clock_of, clock_at_most, counts_at_most, first_clock, join, join_clocks, join_counts, has_room, at_most}
 use Rattle.cast_ready.specs.DeliveredCounts.{DeliveredCounts, count_at, raised_at}
@@ -142,12 +142,6 @@ pub taken_within : (counts : DeliveredCounts) (times : ClockList) → is_sorted 
     IsTaken counts times e.0 → IsWithin counts e.0 e.1
 taken_within counts times sorted e has is =
     subst (IsWithin counts e.0) (one_value e.0 is.clock e.1 times sorted is.there has) is.within
-
--- what holds of each item holds of all
-all_from : {A : Type 0} (f : A → Bool) (xs : List A) → ((x : A) → Contains xs x → f x ≡ true) → list_all f xs ≡ true
-all_from f [] each = refl
-all_from f (x ∷ xs) each =
-    and_from (f x) (list_all f xs) (each x (contains_here x xs)) (all_from f xs (λ y there. each y (contains_later y x xs there)))
 
 -- a row has passed what the floor has of a count of a clock
 module _ (counts : DeliveredCounts) (row : Row)

@@ -3,7 +3,7 @@ ghost use Rattle.cast_types.specs.declared.names.GroupNo.{GroupNo};
 ghost use Rattle.std.specs.List.{list_all};
 ghost use Rattle.cast_ready.specs.DeliveredCounts.{count_at};
 ghost use Rattle.cast_ready.specs.Rows.{has_passed_row};
-ghost use Rattle.cast_delay.specs.Floors.{IsUnder, Rises, IsWithin, AreWithin, groups_of};
+ghost use Rattle.cast_delay.specs.Floors.{IsUnder, Rises, IsWithin, AreWithin, KeptIf, groups_of};
 
 use cast_ready::{DeliveredCounts, Row};
 use cast_types::{Clock, GroupNo, Key, Source, Stamp};
@@ -48,22 +48,22 @@ impl Floor {
         self.counts.is_empty()
     }
 
-    /// What is known, and leaves nothing.
-    pub fn take(&mut self) -> Self
-        ensures taken { result ≡ self.old }
-        ensures counts { self.new.counts ≡ [] }
-        ensures groups { self.new.groups.items ≡ [] }
-    {
-        let none = Floor::new(*self.groups.allocator());
-        std::mem::replace(self, none)
-    }
-
     /// Leaves nothing.
     pub fn clear(&mut self)
         ensures counts { self.new.counts ≡ [] }
         ensures groups { self.new.groups.items ≡ [] }
     {
-        let _ = self.take();
+        self.counts.clear();
+        self.groups.clear();
+    }
+
+    /// Leaves nothing, unless it is to stay.
+    pub fn keep_if(&mut self, stays: bool)
+        ensures { KeptIf stays self.old self.new }
+    {
+        if !stays {
+            self.clear();
+        }
     }
 
     /// The groups that are known for the message under a key.

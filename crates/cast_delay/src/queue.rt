@@ -29,7 +29,7 @@ ghost use Rattle.std.specs.Prelude.{Contains, ◌||◌, ◌+◌};
 ghost use Rattle.std.specs.List.{list_all};
 ghost use Rattle.cast_clock.specs.Times.{at_most};
 ghost use Rattle.cast_ready.specs.declared.offered.Offered.{Offered};
-ghost use Rattle.cast_delay.specs.Floors.{IsUnder, IsFloor, KeptIf, covers_told, stays_delivered};
+ghost use Rattle.cast_delay.specs.Floors.{IsUnder, IsFloor, covers_told, stays_delivered};
 ghost use Rattle.cast_delay.specs.Floors.{groups_of};
 ghost use Rattle.cast_delay.specs.Says.{SaysAwaited, SaysFirstReady, SaysMayDeliver};
 ghost use Rattle.cast_delay.specs.Says.{SaysCandidate, SaysDelivered, SaysPassed};
@@ -161,14 +161,17 @@ impl Delay {
             ≡ record self.old { rows = change_row process (told_row fact.now) self.old.rows }) }
     {
         let settled = despite_fact(fact, self.settled);
-        let floor = self.floor.take();
-        let stays = stays_told(&floor, self.rows.as_slice(), process, fact);
         self.settled = 0;
         let mut waits = self.waits.take();
-        self.rows.tell(process, fact)?;
+        tell_rows(
+            &mut self.rows,
+            &mut self.floor,
+            &self.offered,
+            process,
+            fact,
+        )?;
         forget_told(&mut waits, process, fact);
         self.waits = waits;
-        self.floor = kept_if(floor, stays);
         self.settled = settled_from(&self.gates, &self.offered, &self.rows, settled);
         Ok(())
     }
@@ -415,10 +418,7 @@ impl Delay {
         let next = next_kept(&self.waits, &self.rows, &self.offered, process, key);
         self.settled = 0;
         let mut waits = self.waits.take();
-        let floor = self.floor.take();
-        let stays = stays_under(&floor, self.rows.as_slice(), &self.offered, process, key);
-        self.rows
-            .deliver(&self.offered, process, key, floor.groups_of(key))?;
+        deliver_rows(&mut self.rows, &mut self.floor, &self.offered, process, key)?;
         reach_in(&mut self.reached, &self.offered, key)?;
         wake_next(
             &mut waits,
@@ -430,7 +430,6 @@ impl Delay {
             &self.rows,
         );
         self.waits = waits;
-        self.floor = kept_if(floor, stays);
         self.settled = settled_from(&self.gates, &self.offered, &self.rows, settled);
         Ok(())
     }
@@ -785,14 +784,47 @@ fn look_at(floor: &mut Floor, rows: &Rows, offered: &Offers, key: Key, times: &S
     floor.look(rows.as_slice(), key, times);
 }
 
-// A floor, or one of which nothing is known where it does not stay.
-fn kept_if(floor: Floor, stays: bool) -> Floor
-    ensures { KeptIf stays floor result }
+// The rows take in a fact about a process, and the floor stays under them.
+fn tell_rows(
+    rows: &mut Rows,
+    floor: &mut Floor,
+    offered: &Offers,
+    process: Proc,
+    fact: &ProcessUpdate,
+) -> Result<(), NoMemory>
+    requires { IsFloor rows.old offered.now floor.old }
+    ensures rows { OnOk result (rows.new
+        ≡ change_row process (told_row fact.now) rows.old) }
+    ensures floor { IsFloor rows.new offered.now floor.new }
 {
-    if stays {
-        return floor;
+    let stays = stays_told(floor, rows.as_slice(), process, fact);
+    if let Err(refused) = rows.tell(process, fact) {
+        floor.clear();
+        return Err(refused);
     }
-    let mut floor = floor;
-    floor.clear();
-    floor
+    floor.keep_if(stays);
+    Ok(())
+}
+
+// The rows take in that a process delivered the message under a key, and the floor stays under
+// them.
+fn deliver_rows(
+    rows: &mut Rows,
+    floor: &mut Floor,
+    offered: &Offers,
+    process: Proc,
+    key: Key,
+) -> Result<(), NoMemory>
+    requires { IsFloor rows.old offered.now floor.old }
+    ensures rows { OnOk result (rows.new
+        ≡ after_delivery offered.now process key rows.old) }
+    ensures floor { IsFloor rows.new offered.now floor.new }
+{
+    let stays = stays_under(floor, rows.as_slice(), offered, process, key);
+    if let Err(refused) = rows.deliver(offered, process, key, floor.groups_of(key)) {
+        floor.clear();
+        return Err(refused);
+    }
+    floor.keep_if(stays);
+    Ok(())
 }

@@ -80,7 +80,7 @@ impl Domain {
         Ok(())
     }
 
-    // Pushes an entry to a session. Where the outbox is full, it is that the program is too slow.
+    // Pushes an entry to a session. Where the outbox is full, it says that the program is too slow.
     fn push_entry(&self, serial: u32, entry: Push, lent: &mut Lent<'_>) -> Result<(), NoMemory>
         requires { let entries = (records_in self.now lent.old).part.outboxes serial in
             with_entry self.now.quotas.outbox entry entries ≡ entries ++ entry ∷ [] }

@@ -6,7 +6,7 @@ use Rattle.std.specs.List.{list_any, find, AllByRecursion}
 use Rattle.std.specs.List.Sorted.{IsStrictlySortedBy}
 use Rattle.std.specs.Option.{IfNone, IfSome, option_copied}
 use Rattle.std.specs.Ordering.{is_gt, is_lt, is_le}
-use Rattle.std.proofs.lemmas.Bool.{and_parts, and_from, cases_Bool, eqb-true, eq-eqb, or_cases, false≢true}
+use Rattle.std.proofs.lemmas.Bool.{and_parts, and_from, cases_Bool, eqb-true, eq-eqb, or_cases, or_right, false≢true}
 use Rattle.std.proofs.lemmas.Cmp.{tied_itself}
 use Rattle.std.proofs.lemmas.Option.{none-some, same_Some}
 use Rattle.cast_types.specs.declared.names.Uid.{Uid}
@@ -54,12 +54,8 @@ any_from (e ∷ es) u k test there passes = elim (or_cases (uid_eq u e.id && (k.
       let ids = same_uid u e.id parts.0 in
       let numbers = eqb-true k.0 e.number parts.1 in
       ap (λ b. b || list_any test es) (ap test (λ i. record { id = sym ids i; number = sym numbers i }) ∙ passes)
-  | inr later ↦ rw (any_from es u k test later passes) (or_true (test e))
+  | inr later ↦ rw (any_from es u k test later passes) (or_right (test e) true refl)
 ]
-  where
-    or_true : (b : Bool) → (b || true) ≡ true
-    or_true true = refl
-    or_true false = refl
 
 pub fewer_left : (entries : List Entry) (after : Option Source) (e : Entry) → IsFirstEntry entries (λ x. is_behind after x.id) e →
     behind_count entries (Some (source_of e.id)) < behind_count entries after

@@ -11,7 +11,7 @@ use Rattle.std.specs.Prelude.{nat_lt, nat_le}
 use Rattle.std.specs.List.{find, filter, list_any, insert, position_or_len}
 use Rattle.std.specs.Ordering.{is_lt}
 use Rattle.std.specs.Option.{option_or}
-use Rattle.std.proofs.lemmas.Bool.{cases_Bool, cases_lt, false≢true, or_parts, lt-ltb, le-ltb, le-leb, lt-leb}
+use Rattle.std.proofs.lemmas.Bool.{cases_Bool, cases_lt, false≢true, or_parts, or_right, lt-ltb, le-ltb, le-leb, lt-leb}
 use Rattle.std.proofs.lemmas.List.{append-nil, drop_at, take-append-drop}
 use Rattle.std.proofs.lemmas.List.Folds.{find-append, list_any-append}
 use Rattle.std.proofs.lemmas.List.Elements.{filter-append}
@@ -87,12 +87,8 @@ has_hand g hands =
           let i : ℕ = hand_place g hands in
           list_any-append (of_process g) (take i hands) (new_hand g ∷ drop i hands)
           ∙ ap (λ b. list_any (of_process g) (take i hands) || (b || list_any (of_process g) (drop i hands))) (proc_itself g)
-          ∙ or_true (list_any (of_process g) (take i hands))
+          ∙ or_right (list_any (of_process g) (take i hands)) true refl
     ] refl
-  where
-    or_true : (b : Bool) → (b || true) ≡ true
-    or_true true = refl
-    or_true false = refl
 
 -- a change keeps the process that a hand is of
 abbrev pub KeepsProcess : (Hand → Hand) → Type 0

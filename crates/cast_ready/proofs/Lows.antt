@@ -1,10 +1,10 @@
 -- What of a row a walk over low clocks leaves out, and standings that rise.
-use Rattle.std.proofs.Common.{◌≡◌, ℕ, suc, ◌-◌, ◌<◌, ◌≤◌, Bool, true, false, cond, ◌&&◌, List, [], ◌∷◌, length, get_or}
+use Rattle.std.proofs.Common.{◌≡◌, ℕ, suc, ◌-◌, ◌<◌, ◌≤◌, true, false, cond, ◌&&◌, List, [], ◌∷◌, length, get_or}
 use Rattle.std.proofs.Common.{Contains, Option, Some, None, unwrap_or, Less, Equal, Greater, refl, sym, ap, subst, ◌∙◌, arith}
 use Rattle.std.specs.Prelude.{nat_le, nat_lt, ◌==◌, ◌||◌}
-use Rattle.std.specs.List.{list_all}
 use Rattle.std.specs.Ordering.{is_lt, is_eq}
 use Rattle.std.specs.FinMap.Entries.{find, is_sorted, below_all}
+use Rattle.std.proofs.lemmas.Bool.{or_right}
 use Rattle.cast_types.specs.declared.names.GroupNo.{GroupNo}
 use Rattle.cast_types.specs.declared.names.Uid.{Uid}
 use Rattle.cast_types.specs.declared.clock.Clock.{Clock}
@@ -13,7 +13,7 @@ use Rattle.cast_types.specs.declared.names.Standing.TheVariants.{Member}
 use Rattle.cast_types.specs.Names.{Entry, group_cmp, uid_eq, uid_in}
 use Rattle.cast_types.specs.Stamps.{ClockList}
 use Rattle.cast_types.proofs.Orders.{group_total, group_exact}
-use Rattle.cast_types.proofs.Contains.{contains_here, contains_later}
+use Rattle.cast_types.proofs.Contains.{contains_here, contains_later, all_from}
 use Rattle.cast_types.proofs.Rising.{less_is}
 use Rattle.cast_clock.specs.Times.{first_clock, clock_of}
 use Rattle.cast_clock.proofs.Entries.{and_both, and_true}
@@ -53,11 +53,6 @@ rises_sorted es n all rises = sorted_from es (λ j d lt. rises j d (omega (arith
 pub nothing_in : {A : Type 0} (x : A) → Contains [] x → ⊥
 nothing_in x there = let none = there.1 in omega arith
 
-all_from : {A : Type 0} (f : A → Bool) (xs : List A) → ((x : A) → Contains xs x → f x ≡ true) → list_all f xs ≡ true
-all_from f [] each = refl
-all_from f (x ∷ xs) each =
-    and_true (f x) (list_all f xs) (each x (contains_here x xs)) (all_from f xs (λ y there. each y (contains_later y x xs there)))
-
 needed_at_most : (id : Uid) (g : GroupNo) (view : ℕ) (e : Entry) → needed_count id g view e ≤ e.1
 needed_at_most id g view e =
     elim (uid_eq (uid_in g view e) id) as (λ b. cond b (e.1 - 1) e.1 ≤ e.1) [ true ↦ omega arith | false ↦ omega arith ]
@@ -70,17 +65,13 @@ counted_past row id g clock counted =
     let enough : e.1 ≤ done_in row g clock.view e.0 = counted e there in
     le_as (needed_count id g clock.view e) (done_in row g clock.view e.0) (omega (arith, few, enough)))
 
-or_true : (b : Bool) → (b || true) ≡ true
-or_true true = refl
-or_true false = refl
-
 pub counted_allows : (row : Row) (number : ℕ) (id : Uid) (times : ClockList) (g : GroupNo) (clock : Clock) → clock_of times g ≡ clock →
     (clock.view == number) ≡ true → HasCounted row g clock → row_allows row number id times g Member ≡ true
 counted_allows row number id times g clock is same counted =
     ap (λ (k : Clock). nat_lt k.view number || ((k.view == number) && has_past row id g k.view k.counts)) is
     ∙ ap (λ b. nat_lt clock.view number || b)
     (and_true (clock.view == number) (has_past row id g clock.view clock.counts) same (counted_past row id g clock counted))
-    ∙ or_true (nat_lt clock.view number)
+    ∙ or_right (nat_lt clock.view number) true refl
 
 found_among : (es : ClockList) (g : GroupNo) (k : Clock) → find group_cmp g es ≡ Some k → Contains es (g, k)
 found_among [] g k is = cc

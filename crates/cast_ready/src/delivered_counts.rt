@@ -46,6 +46,13 @@ impl DeliveredCounts {
         self.counts.is_empty()
     }
 
+    /// Forgets all counts. Takes no memory.
+    pub fn clear(&mut self)
+        ensures { self.new ≡ [] }
+    {
+        self.counts.clear();
+    }
+
     /// The count of a source, 0 where none is kept.
     pub fn get(&self, source: Source) -> u32
         ensures { result ≡ count_at self.now source }

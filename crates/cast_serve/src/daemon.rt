@@ -199,6 +199,58 @@ where
     Ok(())
 }
 
+// Starts the thread that hands out what the workers answer.
+fn start_dispatcher<'s, 'e, T: SharedTable + Sync, R: Threads + Wait + Clock + Sync>(
+    scope: &'s Scope<'s, &'e ()>,
+    rt: &'e R,
+    shared: &'e Shared<'e, T>,
+    answered: Receiver<T::Done>,
+) -> io::Result<()>
+where
+    T::Share: Send,
+    T::Job: Send,
+    T::Done: Send,
+{
+    let server = server_of(rt, shared)?;
+    let _ = scope.spawn(move || run_dispatcher(rt, server, answered))?;
+    Ok(())
+}
+
+// Starts the thread that receives datagrams.
+fn start_receiver<'s, 'e, T: SharedTable + Sync, R: Threads + Wait + Clock + Sync>(
+    scope: &'s Scope<'s, &'e ()>,
+    rt: &'e R,
+    shared: &'e Shared<'e, T>,
+) -> io::Result<()>
+where
+    T::Share: Send,
+    T::Job: Send,
+    T::Done: Send,
+{
+    let server = server_of(rt, shared)?;
+    let _ = scope.spawn(move || run_receiver(rt, shared, server))?;
+    Ok(())
+}
+
+// Starts the thread that tells the domains the time.
+fn start_ticker<'s, 'e, T: SharedTable + Sync, R: Threads + Wait + Clock + Sync>(
+    scope: &'s Scope<'s, &'e ()>,
+    rt: &'e R,
+    shared: &'e Shared<'e, T>,
+) -> io::Result<()>
+where
+    T::Share: Send,
+    T::Job: Send,
+    T::Done: Send,
+{
+    let unsent = vec![in shared.alloc; Count::new(); shared.links.len()]?;
+    let server = server_of(rt, shared)?;
+    let _ = scope.spawn(move || {
+        let _ = run_ticker(rt, server, unsent);
+    })?;
+    Ok(())
+}
+
 // Starts the threads but that of the console.
 fn start_all<
     's,
@@ -232,15 +284,9 @@ where
     for _worker in 0..workers {
         start_worker(scope, rt, ground, &queue, &answers)?;
     }
-    let dispatching = server_of(rt, shared)?;
-    let receiving = server_of(rt, shared)?;
-    let ticking = server_of(rt, shared)?;
-    let unsent = vec![in shared.alloc; Count::new(); shared.links.len()]?;
-    let _ = scope.spawn(move || run_dispatcher(rt, dispatching, answered))?;
-    let _ = scope.spawn(move || run_receiver(rt, shared, receiving))?;
-    let _ = scope.spawn(move || {
-        let _ = run_ticker(rt, ticking, unsent);
-    })?;
+    start_dispatcher(scope, rt, shared, answered)?;
+    start_receiver(scope, rt, shared)?;
+    start_ticker(scope, rt, shared)?;
     if shared.is_recorded {
         let _ = scope.spawn(move || run_recorder(rt, shared, record))?;
     }

@@ -6,7 +6,7 @@
 -- greater one for each group; a clock of a later view covers all of the views before it. The rest
 -- keeps times in order.
 use Rattle.std.proofs.Common.{Equal, Greater, Less, Ordering, ap, arith, inl, inr, subst, sym, ◌∙◌}
-use Rattle.std.proofs.lemmas.Bool.{and_parts, cases_lt, eq-eqb, false≢true, le-leb}
+use Rattle.std.proofs.lemmas.Bool.{and_parts, cases_lt, eq-eqb, false≢true, le-leb, or_right}
 use Rattle.std.proofs.lemmas.Cmp.{nat_cmp_total, on_total, then_total, tied_itself}
 use Rattle.std.proofs.lemmas.Map.Lookups.{CmpEqualImpliesEq, exact_pairs, exact_unsigned}
 use Rattle.std.proofs.lemmas.Map.Views.{tells_apart}
@@ -416,9 +416,5 @@ below_at_most s t sorted up =
           let same : e.1.view ≡ view_of t e.0 = omega (arith, low, here, not_lower) in
           ap (λ b. nat_lt e.1.view (view_of t e.0) || b) (λ i. eq-eqb e.1.view (view_of t e.0) same i
           && all_pass (λ c. nat_le c.1 (count_of (clock_of t e.0).counts c.0)) e.1.counts (counts e is same) i)
-          ∙ or_true (nat_lt e.1.view (view_of t e.0))
+          ∙ or_right (nat_lt e.1.view (view_of t e.0)) true refl
     ]
-      where
-        or_true : (b : Bool) → (b || true) ≡ true
-        or_true true = refl
-        or_true false = refl
