@@ -1,0 +1,3 @@
+pub mod Hmac
+pub mod Poly1305
+pub mod Words
