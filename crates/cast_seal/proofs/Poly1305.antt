@@ -3,11 +3,13 @@ use Rattle.std.proofs.Common.{◌≡◌, ℕ, zero, suc, ◌+◌, ◌*◌, ◌-�
 use Rattle.std.proofs.Common.{arith, refl, sym, ap, subst, ◌∙◌}
 use native.Mathlib.Nat.{pow-suc}
 use Rattle.std.proofs.lemmas.Nat.{mul-mod_first, mul-le}
-use Rattle.std.proofs.lemmas.List.{length-take-le, length-drop, get_or-drop}
+use Rattle.std.proofs.lemmas.List.{length-take-le, length-drop, get_or-drop, take-take, drop-take, take-append-drop}
+use Rattle.std.specs.Prelude.{◌/◌, bit_and}
+use lib.Bits.{and_block, and_zero_r}
 use Rattle.std.proofs.lemmas.Grind.{pow_more}
 use Rattle.byteorder.specs.Endian.{little_number}
 use Rattle.byteorder.specs.Numbers.{little_from-cons}
-use Rattle.cast_seal.specs.Poly1305.{prime, number_of, number_after, block_at}
+use Rattle.cast_seal.specs.Poly1305.{prime, number_of, number_after, block_at, multiplier}
 
 -- what is added first counts but for a multiple of the prime
 pub taken_in : (value n b by : ℕ) → value % prime ≡ n % prime → ((value + b) * by) % prime ≡ ((n + b) * by) % prime
@@ -113,3 +115,37 @@ after_below by message (suc n) = omega arith
 pub after_none : (by : ℕ) (message : List ℕ) → 0 % prime ≡ number_after by message 0 % prime
 unfolding number_after
 after_none by message = refl
+
+-- the number of bytes and of those behind them
+number-append : (xs ys : List ℕ) → number_of (xs ++ ys) ≡ number_of xs + 256 ^ length xs * number_of ys
+unfolding number_of
+number-append [] ys = omega arith
+number-append (x ∷ xs) ys = omega (arith, number-append xs ys, ap (λ p. p * number_of ys) (pow-suc 256 (length xs)))
+
+-- the two words of the first half of a key
+two_words : (key : List ℕ) → 16 ≤ length key → number_of (take 16 key) ≡ number_of (take 8 (drop 8 key)) * 2 ^ 64 + number_of (take 8 key)
+two_words key long =
+    let low : take 8 (take 16 key) ≡ take 8 key = take-take 8 16 key (omega arith) in
+    let high : drop 8 (take 16 key) ≡ take 8 (drop 8 key) = drop-take 8 8 key in
+    let first : length (take 8 key) ≡ 8 = length-take-le 8 key (omega (arith, long)) in
+    ap number_of (sym (take-append-drop 8 (take 16 key)) ∙ (λ i. low i ++ high i))
+    ∙ number-append (take 8 key) (take 8 (drop 8 key))
+    ∙ ap (λ n. number_of (take 8 key) + 256 ^ n * number_of (take 8 (drop 8 key))) first
+    ∙ omega arith
+
+-- a quarter of a word is cleared as the word is
+pub quarter_cleared : (word : ℕ) → bit_and word 0x0FFFFFFC0FFFFFFC ≡ 4 * bit_and (word / 4) 0x03FFFFFF03FFFFFF
+quarter_cleared word =
+    ap (λ n. bit_and n 0x0FFFFFFC0FFFFFFC) (omega arith)
+    ∙ and_block 2 (word / 4) 0x03FFFFFF03FFFFFF (word % 4) 0 (omega arith) (omega arith)
+    ∙ omega (arith, and_zero_r (word % 4))
+
+-- what is multiplied by, word by word
+pub cleared : (key : List ℕ) → 16 ≤ length key → number_of (take 8 key) < 2 ^ 64 →
+    bit_and (number_of (take 8 key)) 0x0FFFFFFC0FFFFFFF + 4 * bit_and (number_of (take 8 (drop 8 key)) / 4) 0x03FFFFFF03FFFFFF * 2 ^ 64
+    ≡ multiplier key
+cleared key long small =
+    let low = number_of (take 8 key) in
+    let high = number_of (take 8 (drop 8 key)) in
+    let words = and_block 64 high 0x0FFFFFFC0FFFFFFC low 0x0FFFFFFC0FFFFFFF small (omega arith) in
+    omega (arith, quarter_cleared high, words, ap (λ n. bit_and n 0x0FFFFFFC0FFFFFFC0FFFFFFC0FFFFFFF) (two_words key long))

@@ -11,18 +11,9 @@ unfoldable pub number_of : List ℕ → ℕ
 number_of [] = 0
 number_of (b ∷ bs) = b + 256 * number_of bs
 
--- The first half of a key is what is multiplied by: two words, of which some bits are cleared.
--- Here is the first word,
-abbrev pub low_word : List ℕ → ℕ
-low_word key = bit_and (number_of (take 8 key)) 0x0FFFFFFC0FFFFFFF
-
--- here a quarter of the second,
-abbrev pub quarter : List ℕ → ℕ
-quarter key = bit_and (number_of (take 8 (drop 8 key)) / 4) 0x03FFFFFF03FFFFFF
-
--- and here both
+-- what is multiplied by: the first half of a key, of which some bits are cleared
 abbrev pub multiplier : List ℕ → ℕ
-multiplier key = low_word key + 4 * quarter key * 2 ^ 64
+multiplier key = bit_and (number_of (take 16 key)) 0x0FFFFFFC0FFFFFFC0FFFFFFC0FFFFFFF
 
 -- a block of a message, of 16 bytes or of what is left, with a one behind it
 abbrev pub block_at : List ℕ → ℕ → List ℕ
