@@ -26,11 +26,16 @@ read_number (suc n) [] le = absurd (omega (arith, le))
 read_number (suc n) (x ∷ xs) le =
     ap (λ r. x + 256 * r) (little_from-cons 0 n x xs ∙ read_number n xs (omega (arith, le)))
 
--- a one behind bytes counts as much as so many bytes may
-pub number_then_one : (xs : List ℕ) → number_of (xs ++ 1 ∷ []) ≡ number_of xs + 256 ^ length xs
+-- the number of bytes and of those behind them
+number-append : (xs ys : List ℕ) → number_of (xs ++ ys) ≡ number_of xs + 256 ^ length xs * number_of ys
 unfolding number_of
-number_then_one [] = omega arith
-number_then_one (x ∷ xs) = omega (arith, number_then_one xs, pow-suc 256 (length xs))
+number-append [] ys = omega arith
+number-append (x ∷ xs) ys = omega (arith, number-append xs ys, ap (λ p. p * number_of ys) (pow-suc 256 (length xs)))
+
+-- a one behind bytes counts as much as so many bytes may
+number_then_one : (xs : List ℕ) → number_of (xs ++ 1 ∷ []) ≡ number_of xs + 256 ^ length xs
+unfolding number_of
+number_then_one xs = number-append xs (1 ∷ []) ∙ omega arith
 
 pub whole_block : (xs : List ℕ) → 16 ≤ length xs → number_of (take 16 xs ++ 1 ∷ []) ≡ little_number 16 xs + 2 ^ 128
 whole_block xs le =
@@ -115,12 +120,6 @@ after_below by message (suc n) = omega arith
 pub after_none : (by : ℕ) (message : List ℕ) → 0 % prime ≡ number_after by message 0 % prime
 unfolding number_after
 after_none by message = refl
-
--- the number of bytes and of those behind them
-number-append : (xs ys : List ℕ) → number_of (xs ++ ys) ≡ number_of xs + 256 ^ length xs * number_of ys
-unfolding number_of
-number-append [] ys = omega arith
-number-append (x ∷ xs) ys = omega (arith, number-append xs ys, ap (λ p. p * number_of ys) (pow-suc 256 (length xs)))
 
 -- the two words of the first half of a key
 two_words : (key : List ℕ) → 16 ≤ length key → number_of (take 16 key) ≡ number_of (take 8 (drop 8 key)) * 2 ^ 64 + number_of (take 8 key)

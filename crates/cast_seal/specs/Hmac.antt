@@ -1,4 +1,4 @@
--- HMAC with SHA-256 (RFC 2104, FIPS 198-1): a sum of a message that needs the key.
+-- HMAC with SHA-256 (RFC 2104, FIPS 198-1): a sum of a message under a key.
 use Rattle.std.specs.Prelude.{ℕ, ◌-◌, nat_lt, List, ◌++◌, length, map, replicate, bit_xor}
 use Rattle.std.specs.Prelude.{if◌then◌else◌}
 use Rattle.sha2.specs.Sha256.{sha256}

@@ -24,7 +24,7 @@ pub struct Key {
 }
 
 impl Model for Key {
-    ghost use Rattle.std.specs.Prelude.{List, ℕ};
+    ghost use Rattle.std.specs.Prelude.{◌≤◌, List, ℕ, length};
     ghost use Rattle.sha2.specs.Hashers.{Holds256};
     ghost use Rattle.cast_seal.specs.Hmac.{padded};
 
@@ -32,7 +32,8 @@ impl Model for Key {
 
     ghost view = { λ k. k.bytes.items };
 
-    ghost invariant = { λ k. Holds256 k.inner (padded 0x36 k.bytes.items)
+    ghost invariant = { λ k. (length k.bytes.items ≤ 64)
+        × Holds256 k.inner (padded 0x36 k.bytes.items)
         × Holds256 k.outer (padded 0x5C k.bytes.items) };
 }
 

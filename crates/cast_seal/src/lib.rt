@@ -1,4 +1,4 @@
-//! Sums of messages that only who has the key can make.
+//! Sums of messages under keys.
 //!
 //! # What is proved
 //!

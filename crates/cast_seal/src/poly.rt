@@ -7,6 +7,7 @@ use byteorder::{ByteOrder, LittleEndian};
 // How many bytes a block has.
 const BLOCK: usize = 16;
 
+// What a word of 64 bits does not reach.
 const WORD: u128 = 0x1_0000_0000_0000_0000;
 
 // The number of a message so far, in words of 64 bits.
