@@ -1,2 +1,3 @@
 pub mod Poly1305
 pub mod Hmac
+pub mod Seals

@@ -1,5 +1,7 @@
-//! Tests of sums (`cast_seal`) on the vectors of the standards.
+//! Tests of sums and seals (`cast_seal`) on what others have made.
 #![tactic(auto)]
 
+#[cfg(test)]
+mod seals;
 #[cfg(test)]
 mod sums;
