@@ -16,7 +16,7 @@ import sys
 import tempfile
 import time
 import unittest
-from collections.abc import Callable, Mapping, Sequence
+from collections.abc import Callable, Collection, Mapping, Sequence
 
 TESTS = pathlib.Path(__file__).resolve().parent
 ROOT = TESTS.parent
@@ -41,10 +41,18 @@ class Setup:
     makes its sockets.
     """
 
-    def __init__(self, folder: str, sites: int, domains: list[dict], is_one_host: bool, network: Mapping[str, object]):
+    def __init__(
+        self,
+        folder: str,
+        sites: int,
+        domains: list[dict],
+        is_one_host: bool,
+        network: Mapping[str, object],
+        sealed: Collection[int],
+    ):
         block = f"127.{random.randint(1, 254)}.{random.randint(1, 254)}"
         numbers = range(1, sites + 1)
-        self.folder, self.is_one_host, self.network = folder, is_one_host, network
+        self.folder, self.is_one_host, self.network, self.sealed = folder, is_one_host, network, sealed
         self.hosts = {site: f"{block}.{1 if is_one_host else site}" for site in numbers}
         self.addresses = {site: f"{host}:{PORT + site if is_one_host else PORT}" for site, host in self.hosts.items()}
         self.domains = [
@@ -61,6 +69,7 @@ class Setup:
         lines = []
         for site, address in addresses.items():
             lines += ["[[site]]", f"number = {site}", f'address = "{address}"']
+            lines += ["sealed = true"] if site in self.sealed else []
         for domain in self.domains:
             lines += ["[[domain]]", *(f"{name} = {json.dumps(value)}" for name, value in domain.items())]
         if self.network:
@@ -92,9 +101,11 @@ class Case(unittest.TestCase):
         *domains: dict,
         is_one_host: bool = False,
         network: Mapping[str, object] = NOTHING,
+        sealed: Collection[int] = (),
     ) -> Setup:
         """So many sites. They serve domain 1, of which site 1 is the home, where no domains are named."""
-        return Setup(tempfile.mkdtemp(dir=self.folder), sites, list(domains) or [{"number": 1}], is_one_host, network)
+        folder, domains = tempfile.mkdtemp(dir=self.folder), domains or ({"number": 1},)
+        return Setup(folder, sites, list(domains), is_one_host, network, sealed)
 
     def keeper(self, setup: Setup, site: int = 1, **how) -> Keeper:
         """A keeper that serves. What `how` may say, `started_keeper` has."""

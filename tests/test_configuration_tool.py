@@ -97,6 +97,12 @@ FAULTS = {
 KNOWLEDGE = {
     "an unknown key of the document": ("title = 1\n" + GOOD, "the document: title: unknown", None),
     "an unknown key of a site": (SITES + "port = 1\n" + DOMAIN, "site 2: port: unknown", None),
+    "a site without seals": (
+        SITES.replace("number = 1", "number = 1\nsealed = true") + DOMAIN,
+        "site 2: sealed: others are, and it is not: who can send from its address passes for it",
+        None,
+    ),
+    "seals of another kind": (SITES + "sealed = 1\n" + DOMAIN, "site 2: sealed: not a boolean", None),
     "an unknown key of a domain": (GOOD + "quota = 1", "domain 1: quota: unknown", None),
     "an unknown key of the network": (GOOD + "[network]\nbundles = true", "network: bundles: unknown", None),
     "a name for an address": (GOOD.replace("127.0.0.2", "localhost"), "site 2: address: localhost is a name", None),
@@ -377,6 +383,21 @@ class Make(ConfigurationCase):
         for plan in (PLAN, {**PLAN, "network": {}}):
             self.assertNotIn("network", tomllib.loads(pathlib.Path(self.made(plan)).read_text()))
 
+    def test_seals_the_sites_of_sealed_hosts(self):
+        for sealed, wanted in (
+            (True, {1, 2, 3}),
+            (False, set()),
+            (["127.0.0.3", "127.0.0.1"], {1, 3}),
+        ):
+            with self.subTest(sealed):
+                path = self.made({**PLAN, "cluster": "trade", "sealed": sealed})
+                sites = tomllib.loads(pathlib.Path(path).read_text())["site"]
+                self.assertEqual({site["number"] % 100 for site in sites if site.get("sealed") is True}, wanted)
+                self.assertEqual(sum("sealed" in site for site in sites), 5 * len(wanted))
+                plain = [f"site {g}02: sealed: others are" for g in range(1, 6)] if len(wanted) == 2 else []
+                self.assert_found(path, plain)
+                self.assertIsNone(Daemon(self, path, 203, self.folder).status())
+
     def test_refuses_a_plan_at_fault(self):
         domain = PLAN["domain"][0]
         faults = {
@@ -386,6 +407,13 @@ class Make(ConfigurationCase):
                 "17 sites, and a domain has 16 at most: 16 hosts fit",
             ),
             "an unknown key": ({**PLAN, "port": 1}, "the plan: port: unknown"),
+            "no cluster": ({**PLAN, "sealed": True}, "the plan: cluster: missing"),
+            "seals of another kind": ({**PLAN, "sealed": "all"}, "the plan: sealed: not a boolean"),
+            "another host sealed": (
+                {**PLAN, "cluster": "trade", "sealed": ["127.0.0.9"]},
+                "the plan: sealed: 127.0.0.9 is not one of the plan's hosts",
+            ),
+            "no host sealed": ({**PLAN, "cluster": "trade", "sealed": []}, "the plan: sealed: hosts: 0 of them"),
             "an unknown key of a domain": ({**PLAN, "domain": [{**domain, "sites": [1]}]}, "domain 1: sites: unknown"),
             "no hosts": ({**PLAN, "hosts": []}, "the plan: hosts: 0 of them"),
             "one host": ({**PLAN, "hosts": "127.0.0.1"}, "the plan: hosts: not an array of texts"),
@@ -414,6 +442,75 @@ class Make(ConfigurationCase):
                 self.assertEqual((ran.returncode, ran.stdout), (1, ""))
                 self.assertIn(f"castd-conf: {path}: ", ran.stderr)
                 self.assertIn(text, ran.stderr)
+
+
+class Keys(ConfigurationCase):
+    SEALED = {**PLAN, "cluster": "trade", "sealed": ["127.0.0.1", "127.0.0.3"]}
+
+    def setUp(self):
+        super().setUp()
+        self.to = f"{self.folder}/keys"
+        os.mkdir(self.to)
+
+    def master(self, byte: int) -> str:
+        path = f"{self.folder}/master-{byte}"
+        pathlib.Path(path).touch(0o600)
+        return self.written(f"{byte:064x}\n", f"master-{byte}")
+
+    def keys(self, plan: dict, *masters: str) -> subprocess.CompletedProcess:
+        words = [word for master in masters for word in ("--master", master)]
+        return run("keys", self.planned(plan), *words, "--to", self.to)
+
+    def made_keys(self, *masters: str) -> dict[str, list[dict]]:
+        """The keys of each host."""
+        ran = self.keys(self.SEALED, *masters)
+        self.assertEqual((ran.returncode, ran.stdout, ran.stderr), (0, "", ""))
+        found = {}
+        for path in pathlib.Path(self.to).iterdir():
+            self.assertEqual(path.stat().st_mode & 0o7777, 0o600)
+            found[path.name.removesuffix(".keys")] = tomllib.loads(path.read_text())["key"]
+        return found
+
+    def test_gives_each_pair_of_sealed_hosts_a_key_that_no_other_has(self):
+        keys = self.made_keys(self.master(1))
+        self.assertEqual(keys.keys(), {"127.0.0.1", "127.0.0.3"})
+        secrets = {(host, key["host"]): key["secret"] for host, its in keys.items() for key in its}
+        self.assertEqual(len(secrets), 4)
+        self.assertEqual(secrets["127.0.0.1", "127.0.0.3"], secrets["127.0.0.3", "127.0.0.1"])
+        self.assertEqual(len(set(secrets.values())), 3)
+        for its in keys.values():
+            sites = {key["host"]: key["sites"] for key in its}
+            self.assertEqual(sites, {f"127.0.0.{host}": [100 * g + host for g in range(1, 6)] for host in (1, 3)})
+
+    def test_accepts_keys_of_a_second_master_behind_those_of_the_first(self):
+        old, new = self.master(1), self.master(2)
+        first = self.made_keys(old)["127.0.0.1"]
+        both = self.made_keys(new, old)["127.0.0.1"]
+        self.assertEqual([key["host"] for key in both], ["127.0.0.1", "127.0.0.1", "127.0.0.3", "127.0.0.3"])
+        self.assertEqual(both[1::2], first)
+        self.assertEqual(both[::2], self.made_keys(new)["127.0.0.1"])
+        self.assertEqual(len({key["number"] for key in both}), 2)
+
+    def test_refuses_what_makes_no_keys(self):
+        master = self.master(1)
+        public = self.written("1" * 64, "public")
+        os.chmod(public, 0o644)
+        for plan, masters, text in (
+            (PLAN, [master], "the plan: sealed: no host is"),
+            (self.SEALED, [public], f"{public}: others than its user can use it"),
+            (self.SEALED, [master, master], f"{master}: its keys have the number of those of {master}"),
+            (self.SEALED, [master, self.master(2), self.master(3)], "3 masters: there are 1 to 2"),
+            ({**self.SEALED, "hosts": ["a/b", "c"], "sealed": ["a/b"]}, [master], "no file can have the name of 'a/b'"),
+        ):
+            with self.subTest(text):
+                ran = self.keys(plan, *masters)
+                self.assertEqual((ran.returncode, ran.stdout), (1, ""))
+                self.assertIn(text, ran.stderr)
+                self.assertEqual(os.listdir(self.to), [])
+        self.to = f"{self.folder}/none"
+        ran = self.keys(self.SEALED, master)
+        self.assertEqual((ran.returncode, ran.stdout), (3, ""))
+        self.assertIn(f"{self.to}: No such file", ran.stderr)
 
 
 class Next(ConfigurationCase):

@@ -1,12 +1,17 @@
 """Parts that need no daemon: reading a configuration, cutting lines, and whom a home may suspect."""
 
+import os
 import pathlib
+import stat
+import tempfile
 import unittest
 
 from harness import ROOT
 from castd_tools import configuration, control
 from castd_tools.beat import NONE, Beat, BeatError, decode
-from castd_tools.belief import Belief
+from castd_tools.belief import Belief, SealedBelief
+from castd_tools.keys import Key, KeysError, key_of_pair, read, read_master, write
+from castd_tools.sealed_beat import seal, unseal
 from castd_tools.suspicion import Suspicion
 
 SITE = '[[site]]\nnumber = 1\naddress = "127.0.0.1:7001"\n'
@@ -164,6 +169,147 @@ class Beats(unittest.TestCase):
             for _ in range(32):
                 belief.number()
             self.assertFalse(belief.believes(beat("c", number)))
+
+
+class SealedBeats(unittest.TestCase):
+    KEY = Key(17, bytes(range(32)))
+    BEAT = b"castd-beat-2 1 9f86d081884c7d65 2c26b46b68ffc68f fcde2b2edba56bf4 1,2 1:3,1:4"
+    # The sum is that of `openssl dgst -sha256 -mac HMAC`.
+    SEALED = b"castd-sealed-beat-1 2 17 " + BEAT + b" aecb6148d383cc1cb77da947bec55bfb"
+
+    def test_a_sealed_beat_is_as_it_is_told(self):
+        self.assertEqual(seal(self.BEAT, 2, self.KEY), self.SEALED)
+        self.assertEqual(unseal(self.SEALED, 2, [Key(16, bytes(32)), self.KEY]), self.BEAT)
+
+    def test_a_seal_opens_with_its_key_and_for_its_receiver_alone(self):
+        for place in range(len(self.SEALED)):
+            changed = bytearray(self.SEALED)
+            changed[place] ^= 1
+            self.assertIsNone(unseal(bytes(changed), 2, [self.KEY]), place)
+            self.assertIsNone(unseal(self.SEALED[:place], 2, [self.KEY]), place)
+        self.assertIsNone(unseal(self.SEALED + b" ", 2, [self.KEY]))
+        self.assertIsNone(unseal(self.BEAT, 2, [self.KEY]))
+        self.assertIsNone(unseal(self.SEALED, 1, [self.KEY]))
+        for key in (Key(16, self.KEY.secret), Key(17, bytes(32))):
+            self.assertIsNone(unseal(self.SEALED, 2, [key]))
+        self.assertIsNone(unseal(self.SEALED, 2, []))
+
+    def beat(self, life: str, number: int, echo: str) -> Beat:
+        return Beat(2, life * 16, f"{number:016x}", echo, frozenset(), frozenset())
+
+    def test_a_beat_is_believed_once_and_only_as_an_answer(self):
+        belief = SealedBelief()
+        self.assertFalse(belief.believes(self.beat("a", 1, NONE)))
+        self.assertEqual(belief.echo, f"{1:016x}")
+        number = belief.number()
+        second = self.beat("a", 2, number)
+        self.assertTrue(belief.believes(second))
+        self.assertFalse(belief.believes(second))
+        self.assertFalse(belief.believes(self.beat("a", 3, NONE)))
+        self.assertTrue(belief.believes(self.beat("a", 5, number)))
+        with self.subTest("not after a later one"):
+            self.assertFalse(belief.believes(self.beat("a", 4, number)))
+            self.assertEqual(belief.echo, f"{5:016x}")
+        with self.subTest("not as an answer to what was sent long ago"):
+            for _ in range(32):
+                belief.number()
+            self.assertFalse(belief.believes(self.beat("a", 6, number)))
+
+    def test_a_former_life_does_not_come_back(self):
+        belief = SealedBelief()
+        number = belief.number()
+        self.assertTrue(belief.believes(self.beat("a", 7, number)))
+        # The clock of its host was set back.
+        self.assertTrue(belief.believes(self.beat("b", 3, number)))
+        self.assertFalse(belief.believes(self.beat("a", 8, number)))
+        self.assertTrue(belief.believes(self.beat("b", 4, number)))
+
+    def test_numbers_rise(self):
+        belief = SealedBelief()
+        numbers = [belief.number() for _ in range(100)]
+        self.assertEqual(numbers, sorted(set(numbers)))
+
+
+class Keys(unittest.TestCase):
+    MASTER = bytes(range(32))
+    TABLE = f'[[key]]\nhost = "a"\nsites = [1, 101]\nnumber = 0\nsecret = "{MASTER.hex()}"\n'
+
+    def setUp(self) -> None:
+        self.folder = self.enterContext(tempfile.TemporaryDirectory(prefix="castd-"))
+
+    def written(self, text: str, mode: int = 0o600) -> str:
+        path = f"{self.folder}/keys"
+        pathlib.Path(path).write_text(text, encoding="utf-8")
+        os.chmod(path, mode)
+        return path
+
+    def test_a_master_makes_one_key_for_two_hosts(self):
+        # The secret and the number are those of `openssl dgst -sha256 -mac HMAC`.
+        secret = "f04bb7bbae06b81bc26d79f86d74f41d1f033347e7a5b4155aa12dbcb70d9d63"
+        key = Key(111, bytes.fromhex(secret))
+        self.assertEqual(key_of_pair(self.MASTER, "trade", "192.0.2.1", "192.0.2.2"), key)
+        self.assertEqual(key_of_pair(self.MASTER, "trade", "192.0.2.2", "192.0.2.1"), key)
+        for words in (("trades", "192.0.2.1", "192.0.2.2"), ("trade1", "92.0.2.1", "192.0.2.2"), ("trade", "192.0.2.1", "192.0.2.1")):
+            self.assertNotEqual(key_of_pair(self.MASTER, *words).secret, key.secret)
+
+    def test_keys_are_found_by_site(self):
+        second = self.TABLE.replace("number = 0", "number = 255").replace("[1, 101]", "[1]")
+        keys = read(self.written(self.TABLE + second))
+        self.assertEqual({site: [key.number for key in its] for site, its in keys.items()}, {1: [0, 255], 101: [0]})
+        self.assertEqual(keys[101], [Key(0, self.MASTER)])
+
+    def test_a_file_that_has_no_keys_is_refused(self):
+        for text, why in (
+            ("[[key]", "not TOML"),
+            ("", "the document: key: missing"),
+            (self.TABLE.replace("sites = [1, 101]\n", ""), "a key: sites: missing"),
+            (self.TABLE.replace("[1, 101]", "[0]"), "a key: sites: 0 is not 1 to 65535"),
+            (self.TABLE.replace("[1, 101]", f"{list(range(1, 18))}"), "a key: sites: 17 of them"),
+            (self.TABLE.replace("number = 0", "number = 256"), "a key: number: 256 is not 0 to 255"),
+            (self.TABLE.replace("1f", "1"), "a key: secret: not 64 digits of base 16"),
+            (self.TABLE.replace("1f", "1g"), "a key: secret: not 64 digits of base 16"),
+            (self.TABLE + self.TABLE, "site 1: key 0: repeated"),
+            ("".join(self.TABLE.replace("number = 0", f"number = {it}") for it in range(3)), "site 1: more than 2 keys"),
+        ):
+            with self.subTest(why):
+                with self.assertRaises(KeysError) as raised:
+                    read(self.written(text))
+                self.assertIn(f"{self.folder}/keys: {why}", str(raised.exception))
+                self.assertNotIn("0001020304", str(raised.exception))
+
+    def test_a_file_that_others_can_use_is_refused(self):
+        path = self.written(self.TABLE)
+        for mode in (0o601, 0o602, 0o604, 0o610, 0o620, 0o640):
+            os.chmod(path, mode)
+            with self.assertRaises(KeysError) as raised:
+                read(path)
+            self.assertIn("others than its user can use it", str(raised.exception))
+        os.chmod(path, 0o400)
+        self.assertEqual(set(read(path)), {1, 101})
+        os.symlink(path, f"{self.folder}/link")
+        for bad in ("/dev/null", self.folder, f"{self.folder}/link", f"{self.folder}/none"):
+            self.assertRaises(KeysError, read, bad)
+        if os.geteuid() == 0:
+            os.chown(path, 65_534, 65_534)
+            with self.assertRaises(KeysError) as raised:
+                read(path)
+            self.assertIn("of another user", str(raised.exception))
+
+    def test_a_master_has_64_digits(self):
+        self.assertEqual(read_master(self.written(self.MASTER.hex() + "\n")), self.MASTER)
+        for text in ("", self.MASTER.hex()[:-2], self.MASTER.hex() + "00", "x" * 64):
+            self.assertRaises(KeysError, read_master, self.written(text))
+
+    def test_a_file_that_is_made_is_private_from_the_beginning(self):
+        path = f"{self.folder}/keys"
+        before = os.umask(0)
+        self.addCleanup(os.umask, before)
+        for text in ("first", "second"):
+            write(path, text)
+            self.assertEqual(pathlib.Path(path).read_text(), text)
+            self.assertEqual(stat.S_IMODE(os.stat(path).st_mode), 0o600)
+        self.assertRaises(OSError, write, f"{self.folder}/none/keys", "")
+        self.assertEqual(os.listdir(self.folder), ["keys"])
 
 
 class Suspecting(unittest.TestCase):

@@ -3,11 +3,13 @@
 import contextlib
 import heapq
 import os
+import pathlib
 import select
 import signal
 import socket
 import threading
 import time
+from collections.abc import Collection
 
 from harness import (
     OFFSET,
@@ -37,6 +39,8 @@ class Link(threading.Thread):
         self.is_cut, self.delay = False, 0.0
         # The sites to which no beats come.
         self.deaf: set[int] = set()
+        # What came to each site.
+        self.carried: dict[int, list[bytes]] = {first: [], second: []}
         self._is_over = threading.Event()
         self._sockets, self._targets = {}, {}
         for near, far in ((first, second), (second, first)):
@@ -54,7 +58,13 @@ class Link(threading.Thread):
             while waiting and waiting[0][0] <= time.monotonic():
                 _, far, beat = heapq.heappop(waiting)
                 if not self.is_cut and far not in self.deaf:
+                    self.carried[far].append(beat)
                     self._sockets[far].sendto(beat, self._targets[far])
+
+    def repeat(self, far: int) -> None:
+        """Sends a site once more all that came to it."""
+        for beat in self.carried[far][:]:
+            self._sockets[far].sendto(beat, self._targets[far])
 
     def end(self) -> None:
         self._is_over.set()
@@ -69,12 +79,32 @@ def alias(setup: Setup, near: int, far: int) -> str:
     return f"{block}.{10 * near + far}"
 
 
+def secret(one: int, other: int) -> str:
+    """The secret of two sites."""
+    return f"{min(one, other):032x}{max(one, other):032x}"
+
+
+def keys_of(setup: Setup, site: int) -> str:
+    """Writes the keys of a site, and gives their file."""
+    path = pathlib.Path(f"{setup.folder}/{site}.keys")
+    path.touch(0o600)
+    tables = [f'[[key]]\nsites = [{it}]\nnumber = 1\nsecret = "{secret(site, it)}"\n' for it in setup.hosts]
+    path.write_text("".join(tables), encoding="utf-8")
+    return str(path)
+
+
+def words_of(setup: Setup, site: int) -> list[str]:
+    """The words of the watch of a site."""
+    keys = ["--keys", keys_of(setup, site)] if site in setup.sealed else []
+    return ["--patience", str(SILENCE), *keys]
+
+
 class Sites(Case):
     """Tests with sites that have a keeper and a watch each."""
 
-    def start(self, sites: int, links: tuple[tuple[int, int], ...] = ()) -> None:
+    def start(self, sites: int, links: tuple[tuple[int, int], ...] = (), sealed: Collection[int] = ()) -> None:
         """Starts sites with a program at each, and waits until the home hears all."""
-        self.setup = self.setup_of(sites)
+        self.setup = self.setup_of(sites, sealed=sealed)
         self.numbers = range(1, sites + 1)
         self.links = [self.link(*pair) for pair in links]
         self.keepers = {site: self.keeper(self.setup, site) for site in self.numbers}
@@ -84,7 +114,7 @@ class Sites(Case):
                 wait_for_view(program, sites)
         configs = {site: self.config_with(site, links) for site in self.numbers}
         self.watches = {
-            site: self.watch(self.setup, site, "--patience", str(SILENCE), config=configs[site])
+            site: self.watch(self.setup, site, *words_of(self.setup, site), config=configs[site])
             for site in self.numbers
         }
         self.watches[1].wait_for_lines(*(f"site {site} is heard in domain 1" for site in self.numbers[1:]))
@@ -237,6 +267,55 @@ class Failing(Sites):
         wait_for_view(self.programs[1], 2)
         self.links[0].deaf.clear()
         self.assert_stopped(3)
+
+
+class Sealing(Sites):
+    def test_sealed_sites_hear_each_other_and_plain_ones(self):
+        self.start(3, sealed=(1, 2))
+        self.watches[3].wait_for_lines("beats have no seals: who can send from the addresses of these sites passes for them: 1, 2")
+        self.lose(3)
+        self.assert_put_out(3, 2)
+        self.assertEqual(self.keepers[2].ask("health"), "healthy")
+
+    def test_beats_that_are_repeated_keep_no_lost_site(self):
+        self.start(3, links=((1, 3),), sealed=(1, 2, 3))
+        self.lose(3)
+        self.watches[3].process.kill()
+        end = time.monotonic() + PATIENCE
+        while not self.suspected() and time.monotonic() < end:
+            self.links[0].repeat(1)
+            time.sleep(SILENCE / 10)
+        self.assert_put_out(3, 2)
+
+    def test_a_beat_without_the_seal_of_its_site_is_passed_over(self):
+        setup = self.setup_of(2, sealed=(1, 2))
+        keeper = self.stand_in(setup, 2)
+        watch = self.watch(setup, 2, *words_of(setup, 2))
+        home = Peer(setup, 1)
+        self.addCleanup(home.close)
+        sealed = home.recv(65_536)
+        self.assertRegex(sealed.decode(), "^castd-sealed-beat-1 1 1 castd-beat-2 2 [0-9a-f]{16} [0-9a-f]{16} - 1 - [0-9a-f]{32}$")
+        number = sealed.split(b" ")[6].decode()
+        for _ in range(2):
+            home.beat(2, "1 1:2", number)
+            home.sendto(sealed, (setup.hosts[2], PORT + OFFSET))
+            time.sleep(SILENCE / 5)
+        watch.wait_for_lines(" without the seal of site 1")
+        said = [line for line in watch.lines_for(1) if "the home of domain 1, is " not in line]
+        self.assertEqual(said, [])
+        self.assertEqual(keeper.ask("suspected"), "")
+
+    def test_keys_that_are_missing_are_named(self):
+        setup = self.setup_of(3, sealed=(1, 2, 3))
+        path = pathlib.Path(keys_of(setup, 1))
+        path.write_text(path.read_text().replace("sites = [2]", "sites = [1]").replace("number = 1", "number = 2", 1))
+        for keys, why in (
+            (str(path), f"keys: {path}: no key for these sealed sites: 2"),
+            (f"{self.folder}/none", f"keys: {self.folder}/none: No such file"),
+        ):
+            watch = self.watch(setup, 1, "--keys", keys)
+            self.assert_ends(watch, 6)
+            self.assertIn(why, watch.complained())
 
 
 class LosingTheHome(Sites):

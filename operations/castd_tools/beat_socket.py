@@ -3,45 +3,71 @@
 from __future__ import annotations
 
 import asyncio
+import collections
 import socket
-from collections.abc import Callable
+from collections.abc import Callable, Mapping
 
 from castd_tools.beat import Beat, BeatError, decode
 from castd_tools.command_line import Failure
 from castd_tools.configuration import MOST_PORT, Address, Configuration
+from castd_tools.keys import Key
+from castd_tools.sealed_beat import seal, unseal
 from castd_tools.statuses import UNBOUND, USAGE
 from castd_tools.system import reason
 
 
 class BeatSocket(asyncio.DatagramProtocol):
-    """Sends beats, and hands on those that come from the host and the port of the site that they name. It counts others."""
+    """Sends beats, and hands on those that come from the host and the port of the site that they name. It counts others.
 
-    def __init__(self, addresses: dict[int, tuple], believe: Callable[[Beat], None]):
+    Beats to sites with keys are sealed, and from these sites no other beats are read.
+    """
+
+    def __init__(
+        self, own: int, addresses: dict[int, tuple], keys: Mapping[int, list[Key]], believe: Callable[[Beat], None]
+    ):
         self.undecodable, self.foreign = 0, 0
-        self._addresses, self._believe = addresses, believe
+        # How many came from the address of a site without its seal, by site.
+        self.unsealed: collections.Counter[int] = collections.Counter()
+        self._own, self._addresses, self._keys, self._believe = own, addresses, keys, believe
+        self._sites = {address[:2]: site for site, address in addresses.items()}
 
     def connection_made(self, transport: asyncio.DatagramTransport) -> None:
         self._transport = transport
 
     def datagram_received(self, data: bytes, source: tuple) -> None:
+        site = self._sites.get(source[:2])
+        if site is None:
+            self.foreign += 1
+            return
+        text = unseal(data, self._own, self._keys[site]) if site in self._keys else data
+        if text is None:
+            self.unsealed[site] += 1
+            return
         try:
-            beat = decode(data)
+            beat = decode(text)
         except BeatError:
             self.undecodable += 1
             return
-        address = self._addresses.get(beat.site)
-        if address and address[:2] == source[:2]:
+        if beat.site == site:
             self._believe(beat)
         else:
             self.foreign += 1
 
     def send(self, site: int, beat: Beat) -> None:
         """Sends a beat to another site. It may be lost, as any datagram may."""
-        self._transport.sendto(beat.encode(), self._addresses[site])
+        text = beat.encode()
+        if site in self._keys:
+            text = seal(text, site, self._keys[site][0])
+        self._transport.sendto(text, self._addresses[site])
 
 
 async def open_socket(
-    configuration: Configuration, own: int, others: set[int], offset: int, believe: Callable[[Beat], None]
+    configuration: Configuration,
+    own: int,
+    others: set[int],
+    offset: int,
+    keys: Mapping[int, list[Key]],
+    believe: Callable[[Beat], None],
 ) -> BeatSocket:
     """The socket of a site, `offset` above the port of its daemon. A `Failure` where it cannot be bound."""
     _check_apart(configuration, offset)
@@ -59,7 +85,7 @@ async def open_socket(
         raise Failure(UNBOUND, f"no beats can come: {address[0]}, port {address[1]}: {reason(error)}") from error
     bound.setblocking(False)
     loop = asyncio.get_running_loop()
-    _, protocol = await loop.create_datagram_endpoint(lambda: BeatSocket(addresses, believe), sock=bound)
+    _, protocol = await loop.create_datagram_endpoint(lambda: BeatSocket(own, addresses, keys, believe), sock=bound)
     return protocol
 
 

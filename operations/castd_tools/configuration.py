@@ -82,6 +82,8 @@ class Configuration:
 
     0 if that is not looked at.
     """
+    sealed: frozenset[int] = frozenset()
+    """The sites that are sealed. Two of them exchange sealed beats."""
 
     def domains_of(self, site: int) -> list[Domain]:
         """The domains that a site serves. A `ConfigurationError` where the file lacks the site or it serves none."""
@@ -114,6 +116,9 @@ def parse(text: str) -> Configuration:
         raise ConfigurationError(f"not TOML: {error}") from error
     site_tables, domain_tables = _tables(document, "site"), _tables(document, "domain")
     sites = _by_number("site", [_site(table) for table in site_tables])
+    sealed = frozenset(
+        number for number, table in zip(sites, site_tables, strict=True) if _is_sealed(table, f"site {number}")
+    )
     if not 1 <= len(domain_tables) <= MOST_DOMAINS:
         raise ConfigurationError(f"{len(domain_tables)} domains: there are 1 to {MOST_DOMAINS}")
     domains = _by_number("domain", [(domain.number, domain) for domain in map(_domain, domain_tables)])
@@ -121,7 +126,7 @@ def parse(text: str) -> Configuration:
         _check_sites(domain, sites)
     network = _network(document)
     is_bundling, most, delay = _is_bundling(network), _datagram(network), _delay(network)
-    return Configuration(sites, domains, most if is_bundling else None, delay)
+    return Configuration(sites, domains, most if is_bundling else None, delay, sealed)
 
 
 def _tables(document: dict, name: str) -> list[dict]:
@@ -145,6 +150,10 @@ def _by_number(kind: str, numbered: list[tuple]) -> dict:
 def _site(table: dict) -> tuple[int, Address]:
     number = _number(table, "number", "a site", 1, MOST_SITE_NUMBER)
     return number, _address(_text(table, "address", f"site {number}"), f"site {number}")
+
+
+def _is_sealed(table: dict, where: str) -> bool:
+    return _boolean(table, "sealed", where)
 
 
 def _address(text: str, where: str) -> Address:
@@ -196,10 +205,7 @@ def _network(document: dict) -> dict:
 
 def _is_bundling(network: dict) -> bool:
     """Whether frames are to share datagrams."""
-    bundle = network.get("bundle", False)
-    if not isinstance(bundle, bool):
-        raise ConfigurationError("network: bundle: not a boolean")
-    return bundle
+    return _boolean(network, "bundle", "network")
 
 
 def _datagram(network: dict) -> int:
@@ -235,6 +241,14 @@ def _within(value: object, name: str, where: str, least: int, most: int) -> int:
         raise ConfigurationError(f"{where}: {name}: not a whole number")
     if not least <= value <= most:
         raise ConfigurationError(f"{where}: {name}: {value} is not {least} to {most}")
+    return value
+
+
+def _boolean(table: dict, name: str, where: str) -> bool:
+    """A boolean, which is false where it is absent."""
+    value = table.get(name, False)
+    if not isinstance(value, bool):
+        raise ConfigurationError(f"{where}: {name}: not a boolean")
     return value
 
 

@@ -31,6 +31,7 @@ from castd_tools.configuration import (
     _datagram,
     _delay,
     _is_bundling,
+    _is_sealed,
     _network,
     _number,
     _numbers,
@@ -40,7 +41,7 @@ from castd_tools.configuration import (
 from castd_tools.numbers import numbers_alike
 
 DOCUMENT_FIELDS = ("site", "domain", "network")
-SITE_FIELDS = ("number", "address")
+SITE_FIELDS = ("number", "address", "sealed")
 DOMAIN_FIELDS = ("number", "home", "sites", "groups", "socket", *QUOTAS)
 NETWORK_FIELDS = ("bundle", "datagram", "delay")
 
@@ -75,6 +76,7 @@ class Site:
     where: str
     number: int | None
     address: Address | None
+    is_sealed: bool | None
 
     @property
     def ip(self) -> IP | None:
@@ -85,8 +87,11 @@ class Site:
             return None
 
 
-def findings_of(document: dict) -> list[str]:
-    """All that is found in a document. What cannot be read is found once, and not looked at further."""
+def findings_of(document: dict, *, is_planned: bool = False) -> list[str]:
+    """All that is found in a document. What cannot be read is found once, and not looked at further.
+
+    Where a plan made it, the plan says which sites are not sealed, and they are not found.
+    """
     found = Findings()
     _find_unknown(found, "the document", document, DOCUMENT_FIELDS)
     site_tables = found.read(_tables, document, "site")
@@ -100,6 +105,8 @@ def findings_of(document: dict) -> list[str]:
     if site_tables is not None:
         _find_unlisted(found, sites, readable)
     _find_in_network(found, document)
+    if not is_planned:
+        _find_plain(found, sites)
     for site in sites:
         _find_in_address(found, site)
     for domain in readable:
@@ -115,7 +122,8 @@ def _read_site(found: Findings, place: int, table: dict) -> Site:
     where = f"site {number}" if number else f"site table {place}"
     _find_unknown(found, where, table, SITE_FIELDS)
     text = found.read(_text, table, "address", where)
-    return Site(where, number, None if text is None else found.read(_address, text, where))
+    address = None if text is None else found.read(_address, text, where)
+    return Site(where, number, address, found.read(_is_sealed, table, where))
 
 
 def _read_domain(found: Findings, place: int, table: dict) -> Domain | None:
@@ -182,6 +190,14 @@ def _find_in_network(found: Findings, document: dict) -> None:
     found.read(_datagram, network)
     found.read(_delay, network)
     _find_unknown(found, "network", network, NETWORK_FIELDS)
+
+
+def _find_plain(found: Findings, sites: list[Site]) -> None:
+    """Sites that are not sealed, where others are."""
+    if any(site.is_sealed for site in sites):
+        for site in sites:
+            if site.is_sealed is False:
+                found.say(site.where, "sealed: others are, and it is not: who can send from its address passes for it")
 
 
 def _find_in_address(found: Findings, site: Site) -> None:

@@ -15,6 +15,7 @@ from castd_tools.configuration import (
     MOST_SITES_OF_A_DOMAIN,
     Address,
     ConfigurationError,
+    _boolean,
     _network,
     _number,
     _tables,
@@ -22,7 +23,7 @@ from castd_tools.configuration import (
 )
 from castd_tools.lint import DOMAIN_FIELDS, NETWORK_FIELDS
 
-PLAN_FIELDS = ("hosts", "generations", "first_generation", "first_port", "domain", "network")
+PLAN_FIELDS = ("cluster", "hosts", "sealed", "generations", "first_generation", "first_port", "domain", "network")
 DOMAIN_PLAN_FIELDS = ("hosts", *(name for name in DOMAIN_FIELDS if name != "sites"))
 
 USUAL_FIRST_PORT = 7_001
@@ -40,7 +41,10 @@ HEAD = """\
 class Plan:
     """What a plan says. `domains` are its tables. `network` is its table `[network]`, empty where it has none."""
 
+    cluster: str
+    """What the keys of its hosts are for: empty where it has no sealed host."""
     hosts: list[str]
+    sealed: list[str]
     generations: range
     first_port: int
     domains: list[dict]
@@ -49,6 +53,10 @@ class Plan:
     def site(self, generation: int, host: str) -> int:
         """The number of a host in a generation."""
         return generation * SITES_OF_A_GENERATION + self.hosts.index(host) + 1
+
+    def sites(self, host: str) -> list[int]:
+        """The numbers of a host in all generations."""
+        return [self.site(generation, host) for generation in self.generations]
 
 
 def plan_of(document: dict) -> Plan:
@@ -59,11 +67,14 @@ def plan_of(document: dict) -> Plan:
     count = _number(document, "generations", where, 1, MOST_SITES_OF_A_DOMAIN)
     first = _number(usual, "first_generation", where, 1, MOST_GENERATION - count + 1)
     hosts = _hosts(document, where)
+    sealed = _sealed(document, where, hosts)
     last_port = MOST_PORT - count * len(hosts) + 1
     network = _network(document)
     _refuse_unknown(network, "network", NETWORK_FIELDS)
     return Plan(
+        cluster=_text(document, "cluster", where) if sealed else "",
         hosts=hosts,
+        sealed=sealed,
         generations=range(first, first + count),
         first_port=_number(usual, "first_port", where, 1, last_port),
         domains=_tables(document, "domain"),
@@ -77,6 +88,7 @@ def configuration_of(plan: Plan) -> dict:
     return {
         "site": [
             {"number": number, "address": str(Address(host, plan.first_port + place))}
+            | ({"sealed": True} if host in plan.sealed else {})
             for place, (number, host) in enumerate(sites)
         ],
         "domain": [_domain(plan, place, table) for place, table in enumerate(plan.domains, 1)],
@@ -124,6 +136,17 @@ def _hosts(table: dict, where: str) -> list[str]:
     if len(set(hosts)) < len(hosts):
         raise ConfigurationError(f"{where}: hosts: one is repeated")
     return hosts
+
+
+def _sealed(document: dict, where: str, hosts: list[str]) -> list[str]:
+    """The hosts that are sealed: those that are named, or all, or none."""
+    if not isinstance(document.get("sealed"), list):
+        return hosts if _boolean(document, "sealed", where) else []
+    sealed = _hosts({"hosts": document["sealed"]}, f"{where}: sealed")
+    for host in sealed:
+        if host not in hosts:
+            raise ConfigurationError(f"{where}: sealed: {host} is not one of the plan's hosts")
+    return sealed
 
 
 def _refuse_unknown(table: dict, where: str, known: Iterable[str]) -> None:

@@ -10,11 +10,11 @@ import secrets
 import sys
 import time
 
-from castd_tools import control, metrics
+from castd_tools import control, keys, metrics
 from castd_tools.beat import USUAL_PORT_OFFSET, Beat
 from castd_tools.beat_socket import open_socket
-from castd_tools.belief import Belief
-from castd_tools.command_line import SiteTool, stop_signals, whole_number
+from castd_tools.belief import Belief, SealedBelief
+from castd_tools.command_line import Failure, SiteTool, stop_signals, whole_number
 from castd_tools.configuration import MOST_PORT, Configuration
 from castd_tools.console import OK, STOP
 from castd_tools.statuses import CONFIGURATION, PUT_OUT, UNBOUND, USAGE
@@ -31,7 +31,7 @@ _WAITS = "waits"
 
 TOOL = SiteTool(
     "castd-watch",
-    "castd-watch CONFIG --site N [--control PATH] [--patience SECONDS] [--port-offset N]",
+    "castd-watch CONFIG --site N [--control PATH] [--patience SECONDS] [--port-offset N] [--keys FILE]",
     "Detects sites that fail, beside the daemon of a site. Sites exchange beats as long as their daemons answer. At the"
     " home of a domain, a site that was heard and falls silent is suspected, if more than half of the domain stays. A"
     " site that learns that it was put out of a domain serves the programs of that domain no longer, and stops its daemon"
@@ -39,7 +39,7 @@ TOOL = SiteTool(
     {
         0: "ended by SIGTERM or SIGINT",
         USAGE: "wrong command line",
-        CONFIGURATION: "fault in the configuration",
+        CONFIGURATION: "fault in the configuration, or in the keys",
         UNBOUND: "an address cannot be resolved or bound",
         PUT_OUT: "the site was put out of all its domains, and its daemon is stopped",
     },
@@ -60,6 +60,7 @@ def _options(words: list[str]) -> argparse.Namespace:
         default=USUAL_PORT_OFFSET,
         help=f"by how much the ports of beats are above those of the configuration ({USUAL_PORT_OFFSET})",
     )
+    add("--keys", metavar="FILE", default=keys.USUAL_FILE, help=f"the keys of this host ({keys.USUAL_FILE})")
     return TOOL.options(words)
 
 
@@ -115,7 +116,9 @@ class Watch:
             for domain in domains
             if domain.home == options.site
         }
-        self._incarnation, self._beliefs = secrets.token_hex(8), {site: Belief() for site in self._others}
+        self._keys = _keys_of(configuration, options, self._others)
+        self._incarnation = secrets.token_hex(8)
+        self._beliefs = {site: SealedBelief() if site in self._keys else Belief() for site in self._others}
         self._teller = Teller()
         # When the home of each domain was heard last, where it is another site, and those of which it is said to be silent.
         self._heard_home = {domain: time.monotonic() for domain, home in self._homes.items() if home != options.site}
@@ -129,10 +132,15 @@ class Watch:
 
     async def run(self) -> int:
         """Watches until the site was put out of all its domains and its daemon is stopped. Gives the exit status."""
-        self._socket = await open_socket(self._configuration, self._site, self._others, self._offset, self._hear)
+        self._socket = await open_socket(
+            self._configuration, self._site, self._others, self._offset, self._keys, self._hear
+        )
         self._last_pulse = time.monotonic()
         others = ", ".join(map(str, sorted(self._others))) or "none"
         self._teller.say(f"watches as site {self._site}, incarnation {self._incarnation}; other sites: {others}")
+        plain = ", ".join(map(str, sorted(self._others - self._keys.keys())))
+        if plain:
+            self._teller.say(f"beats have no seals: who can send from the addresses of these sites passes for them: {plain}")
         async with asyncio.TaskGroup() as group:
             tasks = [group.create_task(repeat()) for repeat in (self._beat, self._look, self._feel_pulse)]
             await self._retire()
@@ -289,11 +297,29 @@ class Watch:
     def _tell_counts(self) -> None:
         """Tells once a minute at most of datagrams that were not believed."""
         beats, now = self._socket, time.monotonic()
-        if (beats.undecodable or beats.foreign) and now - self._counts_told >= _SECONDS_BETWEEN_COUNTS:
-            self._teller.say(
-                f"datagrams passed over: {beats.undecodable} no beats, {beats.foreign} not from their site's address"
-            )
-            beats.undecodable, beats.foreign, self._counts_told = 0, 0, now
+        if not (beats.undecodable or beats.foreign or beats.unsealed) or now - self._counts_told < _SECONDS_BETWEEN_COUNTS:
+            return
+        unsealed = "".join(f", {count} without the seal of site {site}" for site, count in sorted(beats.unsealed.items()))
+        self._teller.say(
+            f"datagrams passed over: {beats.undecodable} no beats, {beats.foreign} not from their site's address{unsealed}"
+        )
+        beats.undecodable, beats.foreign, self._counts_told = 0, 0, now
+        beats.unsealed.clear()
+
+
+def _keys_of(configuration: Configuration, options: argparse.Namespace, others: set[int]) -> dict[int, list[keys.Key]]:
+    """The keys for each sealed site among others, if the own site is sealed. A `Failure` where one is missing."""
+    sealed = others & configuration.sealed if options.site in configuration.sealed else set()
+    if not sealed:
+        return {}
+    try:
+        found = keys.read(options.keys)
+    except keys.KeysError as error:
+        raise Failure(CONFIGURATION, f"keys: {error}") from error
+    missing = ", ".join(map(str, sorted(sealed - found.keys())))
+    if missing:
+        raise Failure(CONFIGURATION, f"keys: {options.keys}: no key for these sealed sites: {missing}")
+    return {site: found[site] for site in sealed}
 
 
 def _pairs(lines: list[str]) -> frozenset[tuple[int, int]]:
