@@ -43,8 +43,8 @@ class SealedBelief(Belief):
     """What is known of the watch of a site whose beats have seals.
 
     Nobody else can make its beats. But anyone may have kept one, and send it again. So a beat is believed once, and only if
-    it answers one of the last numbers that the site was sent. Numbers rise, so that who has heard a life hears no beat of an
-    earlier moment in place of a later one.
+    it answers one of the last numbers that the site was sent. Numbers rise: a beat that comes behind a later one is not
+    believed.
     """
 
     def __init__(self) -> None:
