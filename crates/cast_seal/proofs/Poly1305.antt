@@ -11,6 +11,10 @@ use Rattle.byteorder.specs.Endian.{little_number}
 use Rattle.byteorder.specs.Numbers.{little_from-cons}
 use Rattle.cast_seal.specs.Poly1305.{prime, number_of, number_after, block_at, multiplier}
 
+-- lists of bytes alone
+abbrev pub AreBytes : List ℕ → Type 0
+AreBytes xs = (i : ℕ) → get_or xs i 0 < 256
+
 -- what is added first counts but for a multiple of the prime
 pub taken_in : (value n b by : ℕ) → value % prime ≡ n % prime → ((value + b) * by) % prime ≡ ((n + b) * by) % prime
 taken_in value n b by same =
@@ -51,7 +55,7 @@ number_before [] place lt = absurd (omega (arith, lt))
 number_before (x ∷ xs) zero lt = refl
 number_before (x ∷ xs) (suc place) lt = number_before xs place (omega (arith, lt))
 
-cut_within : (xs : List ℕ) (k : ℕ) → ((i : ℕ) → get_or xs i 0 < 256) → length xs + k ≡ 15 →
+cut_within : (xs : List ℕ) (k : ℕ) → AreBytes xs → length xs + k ≡ 15 →
     (number_of (xs ++ 1 ∷ []) + 1) * 256 ^ k ≤ 2 ^ 128
 unfolding number_of
 cut_within [] k small is =
@@ -81,7 +85,7 @@ block_taken by message place value added new before is block =
     subst (λ n. new % prime ≡ number_after by message n % prime) next after
 
 -- fewer bytes than a block has, and a one, are below 2 ^ 128
-pub cut_below : (xs : List ℕ) → ((i : ℕ) → get_or xs i 0 < 256) → length xs < 16 → number_of (xs ++ 1 ∷ []) < 2 ^ 128
+pub cut_below : (xs : List ℕ) → AreBytes xs → length xs < 16 → number_of (xs ++ 1 ∷ []) < 2 ^ 128
 cut_below xs small few =
     let k = 15 - length xs in
     let within : (number_of (xs ++ 1 ∷ []) + 1) * 256 ^ k ≤ 2 ^ 128 = cut_within xs k small (omega (arith, few)) in
@@ -95,7 +99,7 @@ one_alone [] = refl
 one_alone (x ∷ xs) = one_alone xs
 
 -- a byte before the others: what comes of the number, and that it fits
-pub byte_before : (xs : List ℕ) (place number : ℕ) → ((i : ℕ) → get_or xs i 0 < 256) → length xs < 16 → 0 < place → place ≤ length xs →
+pub byte_before : (xs : List ℕ) (place number : ℕ) → AreBytes xs → length xs < 16 → 0 < place → place ≤ length xs →
     number ≡ number_of (drop place xs ++ 1 ∷ []) →
     (number * 256 + get_or xs (place - 1) 0 ≡ number_of (drop (place - 1) xs ++ 1 ∷ []))
     × (number * 256 + get_or xs (place - 1) 0 < 2 ^ 128)

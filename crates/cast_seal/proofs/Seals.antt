@@ -1,5 +1,5 @@
 -- A sealed datagram, part by part.
-use Rattle.std.proofs.Common.{◌≡◌, ℕ, zero, suc, ◌+◌, ◌/◌, ◌^◌, ◌≤◌, ◌<◌, List, [], ◌∷◌, ◌++◌, length, take, drop, get_or}
+use Rattle.std.proofs.Common.{◌≡◌, ℕ, zero, suc, ◌+◌, ◌/◌, ◌^◌, ◌≤◌, ◌<◌, List, [], ◌∷◌, ◌++◌, length, take, drop}
 use Rattle.std.proofs.Common.{arith, refl, sym, ap, subst, ◌∙◌}
 use Rattle.std.proofs.Math.Nat.{mod-lt}
 use Rattle.std.proofs.lemmas.List.{append-nil, length-take-le, length-drop, length-append, get_or-drop, take-take, take_at, take_all}
@@ -11,11 +11,7 @@ use Rattle.cast_types.specs.declared.names.SiteNo.{SiteNo}
 use Rattle.cast_seal.specs.declared.sealing.SealKey.{SealKey}
 use Rattle.cast_seal.specs.Poly1305.{number_of}
 use Rattle.cast_seal.specs.Seals.{IsSealed, begins_with, head, seal_sum}
-use Rattle.cast_seal.proofs.Poly1305.{read_number}
-
--- lists of bytes alone
-abbrev pub AreBytes : List ℕ → Type 0
-AreBytes xs = (i : ℕ) → get_or xs i 0 < 256
+use Rattle.cast_seal.proofs.Poly1305.{AreBytes, read_number}
 
 taken_bytes : (n : ℕ) (xs : List ℕ) → AreBytes xs → AreBytes (take n xs)
 taken_bytes zero xs are i = omega arith

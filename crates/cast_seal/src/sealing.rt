@@ -50,7 +50,7 @@ fn sum_of(key: &Key, head: &[u8], to: SiteNo, body: &[u8]) -> u128
 /// one site to another, under this key.
 ///
 /// A nonce may be used once under a key, from this sender to this receiver. Who sees two bodies
-/// under one nonce can make seals that open.
+/// under one nonce can make seals that open. At `NoMemory` nothing is said of `out`.
 pub fn seal(
     out: &mut Vec<u8>,
     key: &SealKey,
