@@ -305,6 +305,8 @@ class Attacker:
         link = self.sites.get(int.from_bytes(data[5:7], "big"))
         if link is None or not chance.randrange(8):
             link = chance.choice((self.unknown, *self.sites.values()))
+        if isinstance(link, raw.SealedLink) and not chance.randrange(8):
+            link = link.link
         with contextlib.suppress(OSError):
             link.sendto(data, self.daemon.address)
 

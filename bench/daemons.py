@@ -1,4 +1,5 @@
 """Daemons, and programs that load them: what the scripts of bench/ and tools/ share."""
+import json
 import os
 import select
 import shutil
@@ -130,12 +131,15 @@ class Castd(Process):
     has."""
 
     CONFIG = "[[domain]]\nnumber = 1\nhome = 1\nsites = {sites}\ngroups = [1]\nsocket = {socket}\nsessions = 64\nheld = 1024\noutbox = 4096\n"
+    IS_SEALED = False
 
     def __init__(self, program, folder, site, addresses, *more, **how):
         self.path, config = f"{folder}/{site}.sock", f"{folder}/{site}.conf"
+        if self.IS_SEALED:
+            more = (*more, "--keys", keys(folder, site, addresses))
         with open(config, "w", encoding="utf-8") as file:
             for number, address in addresses.items():
-                file.write(f'[[site]]\nnumber = {number}\naddress = "{address}"\n')
+                file.write(f'[[site]]\nnumber = {number}\naddress = "{address}"\nsealed = {json.dumps(self.IS_SEALED)}\n')
             file.write(self.CONFIG.format(sites=list(addresses), socket=f'"{self.path}"', folder=folder, site=site))
         super().__init__([program, "serve", config, "--site", str(site), *more], folder, **how)
         try:
@@ -149,6 +153,24 @@ class Castd(Process):
         """Seconds from `stop` to its end."""
         self.say("stop\n")
         return self.time_to_end()
+
+
+# The number of all keys.
+KEY = 1
+
+
+def secret_of(one, other):
+    """The secret of two sites."""
+    return bytes.fromhex(f"{min(one, other):032x}{max(one, other):032x}")
+
+
+def keys(folder, site, others):
+    """The file of the keys of a site. Each two sites have one."""
+    path = f"{folder}/{site}.keys"
+    with open(path, "w", encoding="utf-8", opener=lambda name, flags: os.open(name, flags, 0o600)) as file:
+        for other in others:
+            file.write(f'[[key]]\nsites = [{other}]\nnumber = {KEY}\nsecret = "{secret_of(site, other).hex()}"\n')
+    return path
 
 
 def networked(kind, lines):

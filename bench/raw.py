@@ -1,4 +1,6 @@
-"""Sessions of programs that test and measure the daemon: each command is sent at once, and each push is seen, replies too."""
+"""What tests and measures the daemon writes and reads itself: sessions of programs, in which each command is sent at once and each push is
+seen, replies too; bundles; and seals, by RFC 8439 and RFC 2104."""
+import hmac
 import select
 import socket
 import struct
@@ -77,3 +79,55 @@ def frames_of(datagram):
         frames.append(rest[2:end])
         rest = rest[end:]
     return frames if datagram[2:4] == b"\1\0" and frames and not rest else None
+
+
+# The bytes of a seal, behind which the body stands, and those of the nonce in it.
+SEAL = 38
+NONCE = slice(6, 22)
+
+
+def poly1305(key, message):
+    """The sum of a message under a key that serves once."""
+    factor = int.from_bytes(key[:16], "little") & 0x0FFFFFFC0FFFFFFC0FFFFFFC0FFFFFFF
+    total = 0
+    for place in range(0, len(message), 16):
+        block = message[place : place + 16] + b"\1"
+        total = (total + int.from_bytes(block, "little")) * factor % ((1 << 130) - 5)
+    return ((total + int.from_bytes(key[16:], "little")) % (1 << 128)).to_bytes(16, "little")
+
+
+def sealed(secret, body, sender, receiver, nonce, number):
+    """A datagram that seals a body with the key of this number."""
+    head = struct.pack(">2s2BH", b"CS", 1, number, sender) + nonce
+    key = hmac.digest(secret, head + struct.pack(">H", receiver), "sha256")
+    return head + poly1305(key, body) + body
+
+
+class SealedLink:
+    """The socket of a site, by which it seals what it sends to site 1, and opens what comes from there."""
+
+    def __init__(self, link, site, secret, number):
+        self.link, self.site, self.secret, self.number, self.count = link, site, secret, number, 0
+
+    def _seal(self, body):
+        self.count += 1
+        return sealed(self.secret, body, self.site, 1, self.count.to_bytes(16, "big"), self.number)
+
+    def send(self, body):
+        self.link.send(self._seal(body))
+
+    def sendto(self, body, address):
+        self.link.sendto(self._seal(body), address)
+
+    def recv(self, most):
+        datagram = self.link.recv(most)
+        body = datagram[SEAL:]
+        if datagram != sealed(self.secret, body, 1, self.site, datagram[NONCE], self.number):
+            raise ValueError(f"a datagram without its seal: {datagram[:SEAL].hex()}")
+        return body
+
+    def settimeout(self, seconds):
+        self.link.settimeout(seconds)
+
+    def close(self):
+        self.link.close()

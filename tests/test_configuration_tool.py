@@ -56,6 +56,7 @@ FAULTS = {
     "site 65536": (GOOD.replace("number = 2", "number = 65536"), "site table 2: number: 65536 is not"),
     "a site without an address": (GOOD.replace('address = "127.0.0.2:7002"\n', ""), "site 2: address: missing"),
     "a site whose address is a number": (GOOD.replace('"127.0.0.2:7002"', "7002"), "site 2: address: not a text"),
+    "seals of another kind": (SITES + "sealed = 1\n" + DOMAIN, "site 2: sealed: not a boolean"),
     "two sites of one number": (GOOD.replace("number = 2", "number = 1"), "site 1: number: repeated"),
     "domain 0": (SITES + DOMAIN.replace("number = 1", "number = 0"), "domain table 1: number: 0 is not 1 to 255"),
     "domain 256": (SITES + DOMAIN.replace("number = 1", "number = 256"), "domain table 1: number: 256 is not"),
@@ -98,11 +99,10 @@ KNOWLEDGE = {
     "an unknown key of the document": ("title = 1\n" + GOOD, "the document: title: unknown", None),
     "an unknown key of a site": (SITES + "port = 1\n" + DOMAIN, "site 2: port: unknown", None),
     "a site without seals": (
-        SITES.replace("number = 1", "number = 1\nsealed = true") + DOMAIN,
-        "site 2: sealed: others are, and it is not: who can send from its address passes for it",
+        SITES + "sealed = true\n" + DOMAIN,
+        "site 1: sealed: others are, and it is not: who can send from its address passes for it",
         None,
     ),
-    "seals of another kind": (SITES + "sealed = 1\n" + DOMAIN, "site 2: sealed: not a boolean", None),
     "an unknown key of a domain": (GOOD + "quota = 1", "domain 1: quota: unknown", None),
     "an unknown key of the network": (GOOD + "[network]\nbundles = true", "network: bundles: unknown", None),
     "a name for an address": (GOOD.replace("127.0.0.2", "localhost"), "site 2: address: localhost is a name", None),
@@ -297,6 +297,7 @@ class Check(ConfigurationCase):
             (site, 1, "domain: missing"),
             ("[[site]]\nnumber = 0\n" + domain + rest, 1, "number: out of range"),
             ("[[site]]\nnumber = 1\naddress = 7\n" + domain + rest, 1, "address: wrong kind"),
+            ("[[site]]\nnumber = 1\naddress = \"a\"\nsealed = 0\n" + domain + rest, 1, "sealed: wrong kind"),
             (site + site + domain + rest, 1, "number: repeated"),
             (site + domain + rest, 2, "site: not listed"),
             ("domain = []\n" + site, 1, "domain: out of range"),
@@ -396,7 +397,8 @@ class Make(ConfigurationCase):
                 self.assertEqual(sum("sealed" in site for site in sites), 5 * len(wanted))
                 plain = [f"site {g}02: sealed: others are" for g in range(1, 6)] if len(wanted) == 2 else []
                 self.assert_found(path, plain)
-                self.assertIsNone(Daemon(self, path, 203, self.folder).status())
+                if not sealed:
+                    self.assertIsNone(Daemon(self, path, 203, self.folder).status())
 
     def test_refuses_a_plan_at_fault(self):
         domain = PLAN["domain"][0]

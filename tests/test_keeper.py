@@ -201,7 +201,8 @@ class Losing(Case):
             first.process.send_signal(signal.SIGTERM)
             self.assert_ends(first, 0)
         second = self.keeper(setup, 2)
-        self.assertEqual((second.ask("domains"), second.complained()), ("domain 1 running", ""))
+        told = "castd: other sites that exchange datagrams without seals: 2\n"
+        self.assertEqual((second.ask("domains"), second.complained()), ("domain 1 running", told))
 
     def port(self, *address) -> socket.socket:
         """A socket at an address, as another program would have it."""

@@ -94,6 +94,7 @@ Arguments:
 Options:
       --site <site>        The number of the own site
       --workers <workers>  How many threads serve, 1 to 64 [default: 4]
+      --keys <FILE>        The keys of the host, for sealed sites
       --record <DIR>       The folder to record each event in, as scripts that replay
   -h, --help               Print help
 """,

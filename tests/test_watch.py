@@ -23,10 +23,13 @@ from harness import (
     wait_for_end,
     wait_for_push,
     wait_for_view,
+    wait_until,
 )
 
 # How long a site may be silent. It leaves room for a machine that does much else.
 SILENCE = 2.0
+# So many casts a program says in a row while keys change.
+BURST = 20
 INCARNATION, NEXT_INCARNATION = "0123456789abcdef", "fedcba9876543210"
 NUMBER, NONE = "0011223344556677", "-"
 
@@ -79,24 +82,33 @@ def alias(setup: Setup, near: int, far: int) -> str:
     return f"{block}.{10 * near + far}"
 
 
-def secret(one: int, other: int) -> str:
-    """The secret of two sites."""
-    return f"{min(one, other):032x}{max(one, other):032x}"
+def secret(one: int, other: int, number: int) -> str:
+    """A secret of two sites, the one with this number."""
+    return f"{number:02x}{min(one, other):030x}{max(one, other):032x}"
 
 
-def keys_of(setup: Setup, site: int) -> str:
-    """Writes the keys of a site, and gives their file."""
+def keys_of(setup: Setup, site: int, *numbers: int) -> str:
+    """Writes the keys of a site, those with these numbers, and gives their file."""
     path = pathlib.Path(f"{setup.folder}/{site}.keys")
-    path.touch(0o600)
-    tables = [f'[[key]]\nsites = [{it}]\nnumber = 1\nsecret = "{secret(site, it)}"\n' for it in setup.hosts]
-    path.write_text("".join(tables), encoding="utf-8")
+    new = path.with_suffix(".new")
+    new.touch(0o600)
+    tables = [
+        f'[[key]]\nsites = [{it}]\nnumber = {number}\nsecret = "{secret(site, it, number)}"\n'
+        for it in setup.hosts
+        for number in numbers or (1,)
+    ]
+    new.write_text("".join(tables), encoding="utf-8")
+    new.replace(path)
     return str(path)
+
+
+def keys_words(setup: Setup, site: int) -> list[str]:
+    return ["--keys", keys_of(setup, site)] if site in setup.sealed else []
 
 
 def words_of(setup: Setup, site: int) -> list[str]:
     """The words of the watch of a site."""
-    keys = ["--keys", keys_of(setup, site)] if site in setup.sealed else []
-    return ["--patience", str(SILENCE), *keys]
+    return ["--patience", str(SILENCE), *keys_words(setup, site)]
 
 
 class Sites(Case):
@@ -107,7 +119,9 @@ class Sites(Case):
         self.setup = self.setup_of(sites, sealed=sealed)
         self.numbers = range(1, sites + 1)
         self.links = [self.link(*pair) for pair in links]
-        self.keepers = {site: self.keeper(self.setup, site) for site in self.numbers}
+        self.keepers = {
+            site: self.keeper(self.setup, site, more=keys_words(self.setup, site)) for site in self.numbers
+        }
         self.programs = {site: self.joined(self.setup, site, site) for site in self.numbers}
         for program in self.programs.values():
             if program is not self.programs[sites]:
@@ -304,6 +318,43 @@ class Sealing(Sites):
         said = [line for line in watch.lines_for(1) if "the home of domain 1, is " not in line]
         self.assertEqual(said, [])
         self.assertEqual(keeper.ask("suspected"), "")
+
+    def test_keys_change_while_programs_cast(self):
+        self.start(3, sealed=(1, 2, 3))
+        delivered = dict.fromkeys(self.numbers, 0)
+
+        def have_heard(count: int) -> bool:
+            """Whether all programs were pushed so many casts. What they have to send goes out meanwhile."""
+            for site, program in self.programs.items():
+                while push := program.read(0.01):
+                    delivered[site] += isinstance(push, castd.Deliver)
+            return set(delivered.values()) == {count}
+
+        count = 0
+        for numbers in ((1, 2), (2, 1), (2,)):
+            for changed in self.numbers:
+                for program in self.programs.values():
+                    for _ in range(BURST):
+                        program.send(castd.Cast(1, castd.CAUSAL, b"x"))
+                count += BURST * len(self.programs)
+                have_heard(count)
+                path = keys_of(self.setup, changed, *numbers)
+                self.assertEqual(self.keepers[changed].castctl("keys"), (0, "ok\n"))
+                self.watches[changed].wait_for_lines(f"keys: {path}: taken")
+        wait_until(lambda: have_heard(count), "each cast is delivered everywhere")
+        for keeper in self.keepers.values():
+            self.assertIn("undecoded 0", keeper.ask("datagrams"))
+        self.assertEqual(self.suspected(), "")
+        with self.subTest("those that cannot be used change nothing"):
+            path = pathlib.Path(keys_of(self.setup, 1, 3))
+            path.chmod(0o644)
+            self.watches[1].wait_for_lines(f"goes on with the keys that it has: keys: {path}: others than its user can use it")
+            told = f"keys: {path}: not a plain file that only its user can use\n"
+            self.assertEqual(self.keepers[1].castctl("keys"), (1, told))
+            self.programs[1].cast(1, b"y", PATIENCE)
+            for program in self.programs.values():
+                wait_for_push(program, lambda push: isinstance(push, castd.Deliver))
+            self.assertIn("undecoded 0", self.keepers[1].ask("datagrams"))
 
     def test_keys_that_are_missing_are_named(self):
         setup = self.setup_of(3, sealed=(1, 2, 3))

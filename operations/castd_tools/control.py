@@ -26,7 +26,7 @@ RETIRE = "retire"
 HOME_SILENT, HOME_HEARD = "home-silent", "home-heard"
 
 # How the lines begin that say that something was not done.
-_REFUSALS = ("fault ", "refused ", "no domain", "no memory", "halted ", KEEPER, UNHEALTHY)
+_REFUSALS = ("fault ", "refused ", "no domain", "no memory", "halted ", "keys: ", KEEPER, UNHEALTHY)
 
 
 class LineError(Exception):

@@ -11,7 +11,7 @@ import sys
 import time
 from collections.abc import Iterator
 
-from castd_tools import control, daemon, metrics, numbers, spare_ports, unix_sockets
+from castd_tools import control, daemon, keys, metrics, numbers, spare_ports, unix_sockets
 from castd_tools.command_line import Failure, SiteTool, stop_signals
 from castd_tools.configuration import Configuration, Domain
 from castd_tools.console import OK, STOP, Console, Unanswered
@@ -31,7 +31,7 @@ _NO_MEMORY = 5
 
 TOOL = SiteTool(
     "castd-keeper",
-    "castd-keeper CONFIG --site N [--control PATH] [--program PATH] [--state DIR] [--record DIR] [-- WORD...]",
+    "castd-keeper CONFIG --site N [--control PATH] [--program PATH] [--state DIR] [--record DIR] [--keys FILE] [-- WORD...]",
     "Starts `castd serve CONFIG --site N WORD...`, keeps its console, and answers castctl at a control socket. Lines of"
     " standard input are answered on standard output. SIGTERM and SIGINT stop the daemon in order. A site number is"
     " used once: a second start under it is refused.",
@@ -65,6 +65,7 @@ def _options(words: list[str]) -> argparse.Namespace:
         help="the folder where used site numbers are noted, which has to be there (/var/lib/castd)",
     )
     add("--record", metavar="DIR", help="the folder of the daemon's record; none if left out")
+    add("--keys", metavar="FILE", default=keys.USUAL_FILE, help=f"the keys of a sealed site ({keys.USUAL_FILE})")
     options = TOOL.options(own)
     options.more = ["--record", options.record, *more] if options.record else more
     return options
@@ -75,6 +76,8 @@ async def _keep(options: argparse.Namespace) -> int:
     stop = stop_signals()
     configuration = TOOL.configuration(options)
     domains = configuration.domains_of(options.site)
+    if options.site in configuration.sealed:
+        options.more = ["--keys", options.keys, *options.more]
     with contextlib.ExitStack() as held:
         claim = held.enter_context(_claimed(options, configuration))
         held.enter_context(spare_ports.held(configuration, options.site, TOOL.complain))

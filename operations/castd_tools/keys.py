@@ -89,6 +89,15 @@ def read(path: str) -> dict[int, list[Key]]:
     return found
 
 
+def mark(path: str) -> tuple[int, ...] | None:
+    """What is another one once another file has this path, or the file was written. None where there is no file."""
+    try:
+        found = os.lstat(path)
+    except OSError:
+        return None
+    return found.st_dev, found.st_ino, found.st_size, found.st_mtime_ns, found.st_ctime_ns
+
+
 def read_master(path: str) -> bytes:
     """The master in a file: 64 digits of base 16. A `KeysError` where it has none."""
     text = _private(path).strip()

@@ -116,7 +116,8 @@ class Watch:
             for domain in domains
             if domain.home == options.site
         }
-        self._keys = _keys_of(configuration, options, self._others)
+        self._key_file, self._key_mark = options.keys, keys.mark(options.keys)
+        self._keys = self._read_keys()
         self._incarnation = secrets.token_hex(8)
         self._beliefs = {site: SealedBelief() if site in self._keys else Belief() for site in self._others}
         self._teller = Teller()
@@ -160,11 +161,39 @@ class Watch:
             self._teller.say(f"{told}its programs are no longer served here, and those of other domains are")
             await self._have_done(f"{control.RETIRE} {domain}")
 
+    def _read_keys(self) -> dict[int, list[keys.Key]]:
+        """The keys for each sealed site among the others, if the own site is sealed. A `Failure` where one is missing."""
+        sealed = self._others & self._configuration.sealed if self._site in self._configuration.sealed else set()
+        if not sealed:
+            return {}
+        try:
+            found = keys.read(self._key_file)
+        except keys.KeysError as error:
+            raise Failure(CONFIGURATION, f"keys: {error}") from error
+        missing = ", ".join(map(str, sorted(sealed - found.keys())))
+        if missing:
+            raise Failure(CONFIGURATION, f"keys: {self._key_file}: no key for these sealed sites: {missing}")
+        return {site: found[site] for site in sealed}
+
+    def _take_changed_keys(self) -> None:
+        """Takes the keys once their file was changed. Where these cannot be used, it says so, and the old ones stay."""
+        mark = keys.mark(self._key_file)
+        if not self._keys or mark == self._key_mark:
+            return
+        self._key_mark = mark
+        try:
+            self._keys.update(self._read_keys())
+        except Failure as failure:
+            self._teller.say(f"goes on with the keys that it has: {failure}")
+        else:
+            self._teller.say(f"keys: {self._key_file}: taken")
+
     async def _beat(self) -> None:
         """Beats as long as the daemon answers."""
         interval = self._patience / _BEATS_A_PATIENCE
         while True:
             begun = time.monotonic()
+            self._take_changed_keys()
             news = await self._news()
             if news:
                 for site, belief in self._beliefs.items():
@@ -305,21 +334,6 @@ class Watch:
         )
         beats.undecodable, beats.foreign, self._counts_told = 0, 0, now
         beats.unsealed.clear()
-
-
-def _keys_of(configuration: Configuration, options: argparse.Namespace, others: set[int]) -> dict[int, list[keys.Key]]:
-    """The keys for each sealed site among others, if the own site is sealed. A `Failure` where one is missing."""
-    sealed = others & configuration.sealed if options.site in configuration.sealed else set()
-    if not sealed:
-        return {}
-    try:
-        found = keys.read(options.keys)
-    except keys.KeysError as error:
-        raise Failure(CONFIGURATION, f"keys: {error}") from error
-    missing = ", ".join(map(str, sorted(sealed - found.keys())))
-    if missing:
-        raise Failure(CONFIGURATION, f"keys: {options.keys}: no key for these sealed sites: {missing}")
-    return {site: found[site] for site in sealed}
 
 
 def _pairs(lines: list[str]) -> frozenset[tuple[int, int]]:

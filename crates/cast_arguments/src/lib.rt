@@ -26,11 +26,13 @@ pub enum Asked {
         domain: Option<DomainNo>,
     },
     /// To run the daemon of a site by the configuration in the file of this name, with so many
-    /// workers, 1 to 64, and to record in this folder what it does, if one is named.
+    /// workers, 1 to 64, with the keys in the file of this name, if one is named, and to record in
+    /// this folder what it does, if one is named.
     Serve {
         config: String,
         site: SiteNo,
         workers: u8,
+        keys: Option<String>,
         record: Option<String>,
     },
     /// To say what the daemon of a site would serve by the configuration in the file of this name.
@@ -86,6 +88,7 @@ fn serve_command<'a>(alloc: Global) -> Made<'a> {
     let command = Command::new(alloc, "serve").about("Runs the daemon of a site");
     let command = with_site(alloc, command);
     let command = with_argument(command, workers_argument(alloc));
+    let command = with_argument(command, keys_argument(alloc));
     with_argument(command, record_argument(alloc))
 }
 
@@ -136,6 +139,13 @@ fn workers_argument<'a>(alloc: Global) -> Arg<'a> {
     named(alloc, "workers", "How many threads serve, 1 to 64")
         .default_value("4")
         .value_parser(value_parser!(u8).range(1..65))
+}
+
+// Where the keys of the host are.
+fn keys_argument<'a>(alloc: Global) -> Arg<'a> {
+    named(alloc, "keys", "The keys of the host, for sealed sites")
+        .value_name("FILE")
+        .action(ArgAction::Set)
 }
 
 // Where what the daemon does is recorded.
@@ -205,6 +215,18 @@ fn replay_arguments(alloc: Global, inner: &ArgMatches<'_>) -> Result<Option<Aske
     }))
 }
 
+// A word that may be left out.
+fn optional(
+    alloc: Global,
+    inner: &ArgMatches<'_>,
+    name: &str,
+) -> Result<Option<String>, AllocError> {
+    match inner.get_str(name) {
+        Some(word) => Ok(Some(String::from_str(alloc, word)?)),
+        None => Ok(None),
+    }
+}
+
 // What `serve` was asked for.
 fn serve_arguments(alloc: Global, inner: &ArgMatches<'_>) -> Result<Option<Asked>, AllocError> {
     let (Some(config), Some(site), Some(workers)) = (
@@ -214,15 +236,12 @@ fn serve_arguments(alloc: Global, inner: &ArgMatches<'_>) -> Result<Option<Asked
     ) else {
         return Ok(None);
     };
-    let record = match inner.get_str("record") {
-        Some(folder) => Some(String::from_str(alloc, folder)?),
-        None => None,
-    };
     Ok(Some(Asked::Serve {
         config: String::from_str(alloc, config)?,
         site: SiteNo(site),
         workers,
-        record,
+        keys: optional(alloc, inner, "keys")?,
+        record: optional(alloc, inner, "record")?,
     }))
 }
 

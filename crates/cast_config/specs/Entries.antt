@@ -11,15 +11,17 @@ use Rattle.cast_config.specs.declared.sites.SiteAddress.{SiteAddress}
 use Rattle.cast_config.specs.declared.fault.Field.TheVariants.{Number, Address, Home, Sites, Groups}
 use Rattle.cast_config.specs.declared.fault.Field.TheVariants.{Socket, Sessions, Held, Outbox}
 use Rattle.cast_config.specs.declared.fault.Field.TheVariants.{Resend, Bundle, Datagram, Delay}
+use Rattle.cast_config.specs.declared.fault.Field.TheVariants.{Sealed}
 use Rattle.cast_config.specs.declared.fault.ConfigFault.{ConfigFault}
 use Rattle.cast_config.specs.Fields.{boolean_at, number_at, number_at_or, numbers_at, text_at}
 
--- a site with the text of its address
+-- a site with the text of its address, and whether it is sealed
 unfoldable pub site_of : Members → Result SiteAddress ConfigFault
 site_of members = do
   n ← number_at Number 1 65535 members
   text ← text_at Address members
-  Ok (record { site = record { 0 = n }; address = text })
+  sealed ← boolean_at Sealed members
+  Ok (record { site = record { 0 = n }; address = text; is_sealed = sealed })
 
 -- the quotas, where the usual ones stand for those that are absent
 unfoldable pub quotas_of : Members → Result Quotas ConfigFault

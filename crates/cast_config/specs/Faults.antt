@@ -26,6 +26,9 @@ field_text field.Network = codes "network"
 field_text field.Bundle = codes "bundle"
 field_text field.Datagram = codes "datagram"
 field_text field.Delay = codes "delay"
+field_text field.Sealed = codes "sealed"
+field_text field.Key = codes "key"
+field_text field.Secret = codes "secret"
 
 abbrev pub cause_text : Cause → List ℕ
 cause_text cause.NotToml = codes "not toml"

@@ -2,3 +2,4 @@ pub mod Faults
 pub mod Fields
 pub mod Entries
 pub mod Documents
+pub mod Keys

@@ -38,8 +38,8 @@ fn quotas_of(table: &Table) -> Result<Quotas, ConfigFault>
     })
 }
 
-// Sites of these numbers.
-fn sites_from(alloc: Global, numbers: &[u16]) -> Result<Vec<SiteNo>, NoMemory>
+/// Sites of these numbers.
+pub fn sites_from(alloc: Global, numbers: &[u16]) -> Result<Vec<SiteNo>, NoMemory>
     ensures { IfOk result (λ sites. sites.items ≡ sites_from numbers.now) }
 {
     numbers.iter().map(|number| SiteNo(*number)).collect(alloc)

@@ -34,6 +34,11 @@ pub enum Field {
     Bundle,
     Datagram,
     Delay,
+    /// Whether a site is sealed.
+    Sealed,
+    /// The tables of keys.
+    Key,
+    Secret,
 }
 
 impl Field {
@@ -59,6 +64,9 @@ impl Field {
             Field::Bundle => "bundle",
             Field::Datagram => "datagram",
             Field::Delay => "delay",
+            Field::Sealed => "sealed",
+            Field::Key => "key",
+            Field::Secret => "secret",
         }
     }
 }

@@ -59,9 +59,9 @@ fn all_tables<'a>(
     Ok(tables)
 }
 
-// The tables of the array at a field of the document.
+/// The tables of the array at a field of the document.
 #[tactic(auto, unfolding(crate::specs::Documents::tables_at))]
-fn tables_at<'a>(
+pub fn tables_at<'a>(
     alloc: Global,
     document: &'a Table,
     field: Field,
@@ -72,8 +72,8 @@ fn tables_at<'a>(
     all_tables(alloc, items_of(require(document, field)?, field)?, field)
 }
 
-// The document that a text is.
-fn document(alloc: Global, text: &str) -> Result<Table, ConfigFault>
+/// The document that a text is.
+pub fn document(alloc: Global, text: &str) -> Result<Table, ConfigFault>
     ensures { GivesAs (λ table. table_view table)
         result (document_or_fault (parse_document text.now)) }
 {

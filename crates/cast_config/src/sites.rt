@@ -6,7 +6,7 @@ ghost use Rattle.cast_config.specs.Entries.{site_of};
 ghost use Rattle.cast_config.specs.Documents.{checked_sites, is_listed, site_numbers, sites_of};
 
 use crate::fault::{Cause, ConfigFault, Field};
-use crate::fields::{are_distinct, fault, number_at, text_at};
+use crate::fields::{are_distinct, boolean_at, fault, number_at, text_at};
 use crate::text::Text;
 use cast_types::{List, NoMemory, SiteNo};
 use std::alloc::Global;
@@ -18,6 +18,8 @@ pub struct SiteAddress {
     pub site: SiteNo,
     /// `host:port`, as it stands there: it is resolved when the daemon starts.
     pub address: Text,
+    /// Whether its frames come behind seals, where the other site is sealed too.
+    pub is_sealed: bool,
 }
 
 // What the table of a site says.
@@ -27,9 +29,11 @@ fn site_of(alloc: Global, table: &Table) -> Result<SiteAddress, ConfigFault>
 {
     let number = number_at(table, Field::Number, 1, 65_535)?;
     let address = text_at(table, Field::Address)?;
+    let is_sealed = boolean_at(table, Field::Sealed)?;
     Ok(SiteAddress {
         site: SiteNo(number as u16),
         address: Text::copy_of(alloc, address)?,
+        is_sealed,
     })
 }
 

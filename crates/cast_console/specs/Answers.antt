@@ -26,6 +26,7 @@ event_of (line.Retire d) = None
 event_of line.Trace = None
 event_of line.Datagrams = None
 event_of line.Record = None
+event_of line.Keys = None
 event_of line.Stop = None
 
 -- the same, where a line is one
@@ -51,6 +52,7 @@ line_text (line.Retire d) t s came = retire_text d s.table
 line_text line.Trace t s came = trace_text s
 line_text line.Datagrams t s came = datagrams_text t.datagrams
 line_text line.Record t s came = record_text t.record
+line_text line.Keys t s came = codes "ok"
 line_text line.Stop t s came = codes "ok"
 
 -- the same, and why a line is none

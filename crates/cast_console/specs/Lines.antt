@@ -73,12 +73,13 @@ head_text head.Retire = codes "retire"
 head_text head.Trace = codes "trace"
 head_text head.Datagrams = codes "datagrams"
 head_text head.Record = codes "record"
+head_text head.Keys = codes "keys"
 head_text head.Stop = codes "stop"
 
 abbrev pub heads : List Head
 heads =
     head.Domains ∷ head.Show ∷ head.Groups ∷ head.Suspect ∷ head.Quota ∷ head.Retire ∷ head.Trace
-    ∷ head.Datagrams ∷ head.Record ∷ head.Stop ∷ []
+    ∷ head.Datagrams ∷ head.Record ∷ head.Keys ∷ head.Stop ∷ []
 
 unfoldable pub head_of : List ℕ → Result Head LineFault
 head_of word = or_line_fault (named_among head_text heads word)
@@ -121,6 +122,7 @@ behind head.Retire ws = of_domain line.Retire ws
 behind head.Trace ws = bare line.Trace ws
 behind head.Datagrams ws = bare line.Datagrams ws
 behind head.Record ws = bare line.Record ws
+behind head.Keys ws = bare line.Keys ws
 behind head.Stop ws = bare line.Stop ws
 
 abbrev pub line_of_words : List (List ℕ) → Result Line LineFault

@@ -173,7 +173,7 @@ fn answer_line<L: Ledger>(
         Line::Trace => text_answer(trace_text(alloc, kept)),
         Line::Datagrams => text_answer(datagrams_text(alloc, told.datagrams)),
         Line::Record => text_answer(record_text(alloc, told.record)),
-        Line::Stop => text_answer(String::from_str(alloc, "ok")),
+        Line::Keys | Line::Stop => text_answer(String::from_str(alloc, "ok")),
     }
 }
 

@@ -31,6 +31,8 @@ pub enum Line {
     Datagrams,
     /// How far the record is.
     Record,
+    /// The keys are to be read again.
+    Keys,
     /// The program is to end.
     Stop,
 }
@@ -87,6 +89,7 @@ pub(crate) enum Head {
     Trace,
     Datagrams,
     Record,
+    Keys,
     Stop,
 }
 
@@ -104,6 +107,7 @@ fn head_of(word: &str) -> Result<Head, LineFault>
         "trace" => Ok(Head::Trace),
         "datagrams" => Ok(Head::Datagrams),
         "record" => Ok(Head::Record),
+        "keys" => Ok(Head::Keys),
         "stop" => Ok(Head::Stop),
         _ => Err(LineFault::UnknownWord),
     }
@@ -231,6 +235,7 @@ fn behind(head: Head, rest: Option<&str>) -> Result<Line, LineFault>
         Head::Trace => bare(rest, Line::Trace),
         Head::Datagrams => bare(rest, Line::Datagrams),
         Head::Record => bare(rest, Line::Record),
+        Head::Keys => bare(rest, Line::Keys),
         Head::Stop => bare(rest, Line::Stop),
     }
 }

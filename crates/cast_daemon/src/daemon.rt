@@ -14,6 +14,7 @@ use std::alloc::Global;
 use std::io::{BufRead, Write};
 use std::marker::Brand;
 use std::net::Net;
+use std::random::RandomSource;
 use std::rt::{Clock, Files};
 use std::sync::Wait;
 use std::sync::ledger::{Blank, Ledger};
@@ -30,6 +31,7 @@ fn run<L, R, B, W, E, G, K>(
     rt: &R,
     alloc: Global,
     setup: &Setup,
+    keys: Option<&str>,
     blank: Blank,
     workers: u8,
     record: Option<K>,
@@ -40,7 +42,7 @@ fn run<L, R, B, W, E, G, K>(
 ) -> u8
 where
     L: Ledger + Send + Sync,
-    R: Threads + Wait + Clock + Net + Files + Sync,
+    R: Threads + Wait + Clock + Net + Files + RandomSource + Sync,
     B: BufRead + Drop,
     W: Write,
     E: Write,
@@ -65,23 +67,25 @@ where
     let trimmer = Trimmer::new(recorded, rt);
     let table = LockedTable::new(alloc, kept, lanes, spare, trimmer);
     cast_serve::serve(
-        rt, alloc, setup, &table, &tape, workers, record, console, out, err, log,
+        rt, alloc, setup, keys, &table, &tape, workers, record, console, out, err, log,
     )
 }
 
 /// Runs a daemon until the console says `stop`, and answers the status of the program. `ready` is
 /// written once it serves. Why it does not run is written to `err`, and what an operator has to
-/// know while it does to `log`. If there is something to write a record to, each event that is
-/// served is written there, as a script that replays.
+/// know while it does to `log`. The keys are in the file of this name, if one is given. If there is
+/// something to write a record to, each event that is served is written there, as a script that
+/// replays.
 ///
 /// The status is 0 after `stop`; 3 if the first lines of the record cannot be written; 7 if an
 /// address cannot be resolved or bound, or a path cannot be bound, which is named; 5 if there is no
-/// memory for the daemon or its threads; and 6 if two domains of the set-up have one number, or a
-/// domain's groups do not rise, which no set-up has that was read.
+/// memory for the daemon or its threads; and 6 if the keys have a fault, or if two domains of the
+/// set-up have one number, or a domain's groups do not rise, which no set-up has that was read.
 pub fn serve<R, B, W, E, G, K>(
     rt: &R,
     alloc: Global,
     setup: &Setup,
+    keys: Option<&str>,
     workers: u8,
     record: Option<K>,
     console: B,
@@ -90,7 +94,7 @@ pub fn serve<R, B, W, E, G, K>(
     log: G,
 ) -> u8
 where
-    R: Threads + Wait + Clock + Net + Files + Sync,
+    R: Threads + Wait + Clock + Net + Files + RandomSource + Sync,
     B: BufRead + Drop,
     W: Write,
     E: Write,
@@ -106,6 +110,6 @@ where
     }
     let blank = Blank::new(PARTS);
     run::<Brand, R, B, W, E, G, K>(
-        rt, alloc, setup, blank, workers, record, console, out, err, log,
+        rt, alloc, setup, keys, blank, workers, record, console, out, err, log,
     )
 }

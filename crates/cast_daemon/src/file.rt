@@ -7,6 +7,7 @@ use cast_types::{NoMemory, SiteNo};
 use std::alloc::Global;
 use std::io::{BufRead, Write};
 use std::net::Net;
+use std::random::RandomSource;
 use std::rt::{Clock, Files};
 use std::sync::Wait;
 use std::thread::Threads;
@@ -43,13 +44,14 @@ fn setup_of<R: Files + AllocGlobal, E: Write>(
     }
 }
 
-/// Runs the daemon of a site by the configuration in the file of this name, with so many workers,
-/// as `serve` does, and answers the status of the program: also 3 where the file cannot be read or
-/// is not UTF-8, 6 where its configuration has a fault, which is named with its field, and 5 where
-/// memory ran out.
+/// Runs the daemon of a site by the configuration in the file of this name, with the keys in the
+/// file of another name, if one is given, and with so many workers, as `serve` does. Answers the
+/// status of the program: also 3 where the configuration cannot be read or is not UTF-8, 6 where it
+/// has a fault, which is named with its field, and 5 where memory ran out.
 pub fn serve_file<R, B, W, E, G, K>(
     rt: &R,
     name: &str,
+    keys: Option<&str>,
     site: SiteNo,
     workers: u8,
     record: Option<K>,
@@ -59,7 +61,7 @@ pub fn serve_file<R, B, W, E, G, K>(
     log: G,
 ) -> u8
 where
-    R: Threads + Wait + Clock + Net + Files + AllocGlobal + Sync,
+    R: Threads + Wait + Clock + Net + Files + RandomSource + AllocGlobal + Sync,
     B: BufRead + Drop,
     W: Write,
     E: Write,
@@ -68,7 +70,9 @@ where
 {
     let alloc = rt.alloc();
     match setup_of(rt, alloc, name, site, err) {
-        Ok(setup) => serve(rt, alloc, &setup, workers, record, console, out, err, log),
+        Ok(setup) => serve(
+            rt, alloc, &setup, keys, workers, record, console, out, err, log,
+        ),
         Err(status) => status,
     }
 }
@@ -81,7 +85,8 @@ fn text_of(alloc: Global, setup: &Setup) -> Result<String, NoMemory> {
     for one in setup.addresses.as_slice() {
         let site = one.site.0;
         let address = one.address.as_str();
-        writeln!(text, "# site {site} address {address}")?;
+        let sealed = if one.is_sealed { " sealed" } else { "" };
+        writeln!(text, "# site {site} address {address}{sealed}")?;
     }
     for one in setup.sockets.as_slice() {
         let domain = one.domain.0;

@@ -104,6 +104,7 @@ fn cast_and_look<L: Ledger, C: Clock, R: Wait>(
 fn instruction_of<L: Ledger>(kept: &Kept<L>, line: &str) -> Option<Instruction> {
     match parse(line) {
         Ok(Line::Stop) => Some(Instruction::Stop),
+        Ok(Line::Keys) => Some(Instruction::Keys),
         Ok(Line::Retire(domain)) if kept.table().show(domain).is_some() => {
             Some(Instruction::Retire(domain))
         }

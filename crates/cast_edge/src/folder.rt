@@ -3,14 +3,18 @@ use std::alloc::{AllocError, Global};
 use std::fs::File;
 use std::io;
 use std::io::Write;
+use std::os::unix::fs::OpenOptionsExt;
 use std::rt::Files;
 
 // No file has more bytes, unless what is written at once does.
 const MOST_BYTES: u64 = 67_108_864;
 
+// The mode of a file: only its user reads the payloads of all tenants.
+const MODE: u32 = 0o600;
+
 /// Writes files `castd-SITE-NNNNNN.script` of at most 64 MiB in a folder, numbered from 1. What is
-/// written at once stands in one file. What is written first stands at the head of each file. A
-/// write fails if a file that it would begin is there already.
+/// written at once stands in one file. What is written first stands at the head of each file. Only
+/// the user can read or write them. A write fails if a file that it would begin is there already.
 #[derive(Drop)]
 pub struct Folder<'a, R> {
     files: &'a R,
@@ -47,7 +51,11 @@ impl<'a, R: Files> Folder<'a, R> {
     // Begins one more file.
     fn begin(&mut self) -> io::Result<()> {
         self.count = self.count.saturating_add(1);
-        let mut file = File::create_new(self.files, self.path()?.as_str())?;
+        let mut file = File::options()
+            .write(true)
+            .create_new(true)
+            .mode(MODE)
+            .open(self.files, self.path()?.as_str())?;
         file.write_all(self.head.as_slice())?;
         self.size = self.head.len() as u64;
         Ok(())

@@ -8,7 +8,7 @@ use std::fmt::{Display, Formatter};
 use std::io::Write;
 use std::sync::Wait;
 
-/// A fault that an operator has to know.
+/// What an operator has to know.
 #[derive(Clone, Copy, Debug, PartialEq, Eq)]
 pub enum Report {
     /// Want of memory halted the domain.
@@ -25,6 +25,11 @@ pub enum Report {
     /// So many datagrams for the site were not sent: there was no room for them, or the system
     /// refused them. Most frames are sent again.
     Unsent(SiteNo, u64),
+    /// The daemon began, and exchanges datagrams without seals with so many other sites.
+    Plain(u64),
+    /// So many datagrams for the site's link were passed over: they came from another address than
+    /// the site's, or without its seal.
+    PassedOver(SiteNo, u64),
     /// So many datagrams found no memory to be sent. Most frames are sent again.
     Unspelled(u64),
     /// The sockets of the datagrams failed.
@@ -60,6 +65,19 @@ impl Display for Report {
                 write!(
                     f,
                     "castd: site {number}: datagrams that could not be sent: {count}"
+                )
+            }
+            Report::Plain(count) => {
+                write!(
+                    f,
+                    "castd: other sites that exchange datagrams without seals: {count}"
+                )
+            }
+            Report::PassedOver(site, count) => {
+                let number = site.0;
+                write!(
+                    f,
+                    "castd: site {number}: datagrams from elsewhere or without its seal: {count}"
                 )
             }
             Report::Unspelled(count) => {

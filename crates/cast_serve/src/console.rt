@@ -1,10 +1,11 @@
 //! The operator's lines.
+use crate::keys::KeyFile;
 use cast_shared::{Instruction, Reply, Shared, SharedTable};
 use crossbeam_channel::Sender;
 use std::alloc::Global;
 use std::fmt::Display;
 use std::io::{BufRead, ErrorKind, Write};
-use std::rt::Clock;
+use std::rt::{Clock, Files};
 use std::sync::Wait;
 use std::time::Duration;
 use std::{str, thread};
@@ -17,10 +18,11 @@ fn say<T: Display, W: Write>(what: &T, out: &mut W) {
 
 // Answers a line, and does what it asks, and hands on what its event came to. Answers whether the
 // daemon is to stop.
-fn answer_line<T: SharedTable, R: Wait, W: Write>(
+fn answer_line<T: SharedTable, R: Wait + Files, W: Write>(
     rt: &R,
     shared: &Shared<'_, T>,
     share: &mut T::Share,
+    keys: &KeyFile<'_>,
     line: Option<&str>,
     dones: &Sender<T::Done>,
     out: &mut W,
@@ -42,6 +44,12 @@ fn answer_line<T: SharedTable, R: Wait, W: Write>(
     }
     if let Some(Instruction::Retire(domain)) = instruction {
         shared.desk.lock(rt).retire(rt, domain);
+    }
+    if instruction == Some(Instruction::Keys)
+        && let Err(why) = keys.take(rt, shared.alloc)
+    {
+        say(&why, out);
+        return false;
     }
     match text {
         Ok(text) => say(&text, out),
@@ -87,10 +95,11 @@ fn text_of(line: &[u8]) -> Option<&str> {
 }
 
 /// Answers the lines of a console, until one says `stop`. Their end does not end the daemon.
-pub fn run_console<T: SharedTable, R: Wait + Clock, B: BufRead + Drop, W: Write>(
+pub fn run_console<T: SharedTable, R: Wait + Clock + Files, B: BufRead + Drop, W: Write>(
     rt: &R,
     shared: &Shared<'_, T>,
     share: T::Share,
+    keys: &KeyFile<'_>,
     console: B,
     dones: Sender<T::Done>,
     out: &mut W,
@@ -105,6 +114,7 @@ pub fn run_console<T: SharedTable, R: Wait + Clock, B: BufRead + Drop, W: Write>
                     rt,
                     shared,
                     &mut share,
+                    keys,
                     text_of(line.as_slice()),
                     &dones,
                     out,

@@ -2,20 +2,25 @@
 ghost use Rattle.std.specs.Prelude.{◌<◌};
 
 use crate::console::run_console;
+use crate::keys::{KeyFile, NoKeys};
 use cast_config::{DomainSocket, Setup};
 use cast_device::{Watched, tell};
 use cast_edge::{Count, Report, Silence, Stables, Unacknowledged, run_reporter};
 use cast_events::{Config, DomainConfig, Raw};
+use cast_seal::SEAL_LEN;
 use cast_shared::{
     Desk, Pace, Record, Shared, SharedTable, Tape, Traffic, Turnstile, run_recorder,
 };
-use cast_sockets::{Link, Listening, SocketFault, Sockets, bind, resolve_all, widen};
+use cast_sockets::{
+    Keyrings, Link, Listening, SocketFault, Sockets, are_sealed, bind, resolve_all, widen,
+};
 use cast_threads::{Server, run_dispatcher, run_program, run_receiver, server_of};
 use cast_types::{NoMemory, SiteNo};
 use crossbeam_channel::{Receiver, Sender};
 use std::alloc::Global;
 use std::io::{BufRead, ErrorKind, Write};
 use std::net::Net;
+use std::random::RandomSource;
 use std::rt::{Clock, Files};
 use std::sync::atomic::AtomicU64;
 use std::sync::{Mutex, Wait};
@@ -123,13 +128,27 @@ fn report_unsent<T: SharedTable, R: Wait>(rt: &R, shared: &Shared<'_, T>, counts
     }
 }
 
+// Tells the operator how many datagrams by the link of each site were passed over.
+fn report_passed_over<T: SharedTable, R: Wait>(
+    rt: &R,
+    shared: &Shared<'_, T>,
+    counts: &mut [Count],
+) {
+    for (link, count) in shared.links.iter().zip(counts.iter_mut()) {
+        if let Some(passed_over) = count.reach(link.passed_over()) {
+            shared.report(rt, Report::PassedOver(link.site, passed_over));
+        }
+    }
+}
+
 // Tells the domains the time, and asks once more for what was refused.
 fn run_ticker<T: SharedTable, R: Wait + Clock>(
     rt: &R,
     server: Server<'_, T>,
     unsent: Vec<Count>,
+    passed_over: Vec<Count>,
 ) -> io::Result<()> {
-    let (mut server, mut unsent) = (server, unsent);
+    let (mut server, mut unsent, mut passed_over) = (server, unsent, passed_over);
     let shared = server.shared;
     let start = Instant::now(rt)?;
     let mut until_all = 0;
@@ -142,6 +161,7 @@ fn run_ticker<T: SharedTable, R: Wait + Clock>(
         shared.desk.lock(rt).hand_in_ends(rt);
         send_again(rt, &mut server);
         report_unsent(rt, shared, unsent.as_mut_slice());
+        report_passed_over(rt, shared, passed_over.as_mut_slice());
         let is_halted = shared.trim_after_halt(rt);
         take_outboxes(rt, &mut server, is_halted || until_all == 0);
         until_all = if until_all == 0 {
@@ -168,6 +188,7 @@ struct Ends<D> {
 struct Ground<'a, T: SharedTable> {
     shared: Shared<'a, T>,
     sockets: &'a Sockets,
+    keys: &'a KeyFile<'a>,
 }
 
 // A share of the count for a thread.
@@ -244,9 +265,10 @@ where
     T::Done: Send,
 {
     let unsent = vec![in shared.alloc; Count::new(); shared.links.len()]?;
+    let passed_over = vec![in shared.alloc; Count::new(); shared.links.len()]?;
     let server = server_of(rt, shared)?;
     let _ = scope.spawn(move || {
-        let _ = run_ticker(rt, server, unsent);
+        let _ = run_ticker(rt, server, unsent, passed_over);
     })?;
     Ok(())
 }
@@ -333,7 +355,7 @@ where
     let ended = match started {
         Ok(dones) => match share_of(rt, &ground.shared) {
             Ok(share) => {
-                run_console(rt, &ground.shared, share, console, dones, out);
+                run_console(rt, &ground.shared, share, ground.keys, console, dones, out);
                 Ok(())
             }
             Err(error) => Err(error),
@@ -428,6 +450,19 @@ fn silences_of(alloc: Global, own: SiteNo, links: &[Link]) -> Result<Vec<Silence
     Ok(all)
 }
 
+// The most bytes of a bundle. The datagrams of a sealed site have a seal, too.
+fn bundle_of(setup: &Setup) -> Option<usize> {
+    let seal = if are_sealed(setup, setup.config.site) {
+        SEAL_LEN
+    } else {
+        0
+    };
+    match setup.bundle {
+        Some(most) => Some((most as usize).saturating_sub(seal)),
+        None => None,
+    }
+}
+
 // Runs a daemon over its sockets, until the console says `stop`. Answers what the operator has to
 // know of the end of its record.
 fn run<T, R, B, W, E, K>(
@@ -438,6 +473,8 @@ fn run<T, R, B, W, E, K>(
     tape: &Tape,
     workers: u8,
     sockets: &Sockets,
+    keyrings: &Keyrings,
+    keys: &KeyFile<'_>,
     console: B,
     out: &mut W,
     log: E,
@@ -479,6 +516,7 @@ where
             desk: &desk,
             table,
             links: sockets.links.as_slice(),
+            keyrings,
             paces: paces.as_slice(),
             unacknowledged: unacknowledged.as_slice(),
             silences: silences.as_slice(),
@@ -489,10 +527,12 @@ where
             tape,
             is_recorded,
             own: setup.config.site,
-            bundle: setup.bundle.map(|most| most as usize),
+            bundle: bundle_of(setup),
         },
         sockets,
+        keys,
     };
+    report_plain(rt, &ground.shared);
     let ends = Ends {
         queue,
         answers,
@@ -525,6 +565,9 @@ const UNWRITABLE: u8 = 3;
 // The status of a program that found no memory.
 const NO_MEMORY: u8 = 5;
 
+// The status of a program whose keys are at fault.
+const UNFIT: u8 = 6;
+
 // The status of a program that cannot resolve or bind an address, or bind a path.
 const UNBOUND: u8 = 7;
 
@@ -539,6 +582,29 @@ fn end_unbound<E: Write>(err: &mut Watched<E>, fault: SocketFault<'_>) -> u8 {
             tell(err, &["castd: no memory\n"]);
             NO_MEMORY
         }
+    }
+}
+
+// Says why there are no keys, and answers the status of the program.
+fn end_unsealed<E: Write>(err: &mut Watched<E>, why: NoKeys<'_>) -> u8 {
+    let _ = writeln!(err.device, "castd: {why}");
+    if why == NoKeys::NoMemory {
+        NO_MEMORY
+    } else {
+        UNFIT
+    }
+}
+
+// Tells the operator with how many other sites the daemon exchanges datagrams without seals.
+fn report_plain<T: SharedTable, R: Wait>(rt: &R, shared: &Shared<'_, T>) {
+    let mut count: u64 = 0;
+    for link in shared.links {
+        if link.site != shared.own && !link.is_sealed() {
+            count = count.saturating_add(1);
+        }
+    }
+    if count > 0 {
+        shared.report(rt, Report::Plain(count));
     }
 }
 
@@ -566,16 +632,19 @@ fn end_unrecorded<E: Write>(err: &mut Watched<E>, error: &io::Error) -> u8 {
 
 /// Runs a daemon of a table until the console says `stop`, and answers the status of the program.
 /// `ready` is written once it serves. Why it does not run is written to `err`, and what an operator
-/// has to know while it does to `log`. If there is something to write a record to, each event that
-/// the table cuts off its trace for this tape is written there, as a script that replays.
+/// has to know while it does to `log`. The keys are in the file of this name, if one is given. If
+/// there is something to write a record to, each event that the table cuts off its trace for this
+/// tape is written there, as a script that replays.
 ///
-/// The status is 0 after `stop`; 3 if the first lines of the record cannot be written; 7 if an
-/// address cannot be resolved or bound, or a path cannot be bound, which is named; and 5 if there
-/// is no memory for the daemon or its threads.
+/// The status is 0 after `stop`; 3 if the first lines of the record cannot be written; 6 if the
+/// keys cannot be read, have a fault, or lack one for a sealed site; 7 if an address cannot be
+/// resolved or bound, or a path cannot be bound, which is named; and 5 if there is no memory for
+/// the daemon or its threads.
 pub fn serve<T, R, B, W, E, G, K>(
     rt: &R,
     alloc: Global,
     setup: &Setup,
+    keys: Option<&str>,
     table: &T,
     tape: &Tape,
     workers: u8,
@@ -590,18 +659,26 @@ where
     T::Share: Send,
     T::Job: Send,
     T::Done: Send,
-    R: Threads + Wait + Clock + Net + Files + Sync,
+    R: Threads + Wait + Clock + Net + Files + RandomSource + Sync,
     B: BufRead + Drop,
     W: Write,
     E: Write,
     G: Write + Send + Drop,
     K: Write + Send + Drop,
 {
+    let Ok(keyrings) = Keyrings::new(alloc) else {
+        return end_unsealed(err, NoKeys::NoMemory);
+    };
+    let keys = KeyFile::new(setup, keys, &keyrings);
+    let drawn = match keys.take_first(rt, alloc) {
+        Ok(drawn) => drawn,
+        Err(why) => return end_unsealed(err, why),
+    };
     let peers = match resolve_all(rt, alloc, setup.addresses.as_slice()) {
         Ok(peers) => peers,
         Err(fault) => return end_unbound(err, fault),
     };
-    let sockets = match bind(rt, alloc, setup, &peers) {
+    let sockets = match bind(rt, alloc, setup, &peers, drawn) {
         Ok(sockets) => sockets,
         Err(fault) => return end_unbound(err, fault),
     };
@@ -613,7 +690,8 @@ where
         }
     };
     match run(
-        rt, alloc, setup, table, tape, workers, &sockets, console, out, log, record,
+        rt, alloc, setup, table, tape, workers, &sockets, &keyrings, &keys, console, out, log,
+        record,
     ) {
         Ok(report) => {
             if let Some(what) = report {

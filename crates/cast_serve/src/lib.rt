@@ -6,5 +6,6 @@
 
 mod console;
 mod daemon;
+mod keys;
 
 pub use daemon::serve;

@@ -5,7 +5,7 @@ use crate::record::Tape;
 use crate::table::SharedTable;
 use cast_edge::{Report, Silence, Stables, Unacknowledged};
 use cast_events::{Asked, Datagrams, Recording, Told};
-use cast_sockets::Link;
+use cast_sockets::{Keyrings, Link};
 use cast_types::SiteNo;
 use std::alloc::Global;
 use std::sync::atomic::{AtomicU64, Ordering};
@@ -72,6 +72,7 @@ pub struct Shared<'a, T: SharedTable> {
     pub desk: &'a Mutex<Desk>,
     pub table: &'a T,
     pub links: &'a [Link],
+    pub keyrings: &'a Keyrings,
     /// Of each domain that has other sites.
     pub paces: &'a [Pace],
     /// Of each domain and each of its other sites.
@@ -113,9 +114,19 @@ impl<T: SharedTable> Shared<'_, T> {
         is_halted
     }
 
+    // How many datagrams were passed over before their bytes were read.
+    fn passed_over(&self) -> u64 {
+        let mut all: u64 = 0;
+        for link in self.links {
+            all = all.saturating_add(link.passed_over());
+        }
+        all
+    }
+
     /// What the daemon tells of itself beside its table.
     pub fn told<R: Wait>(&self, rt: &R) -> Told {
         let (lost, undecoded) = self.desk.lock(rt).failures();
+        let passed_over = self.passed_over();
         let record = if self.is_recorded {
             self.tape.state(rt)
         } else {
@@ -124,18 +135,16 @@ impl<T: SharedTable> Shared<'_, T> {
         Told {
             datagrams: Datagrams {
                 sent: self.traffic.sent.load(Ordering::SeqCst),
-                received: self.traffic.received.load(Ordering::SeqCst),
+                received: self
+                    .traffic
+                    .received
+                    .load(Ordering::SeqCst)
+                    .saturating_add(passed_over),
                 lost,
-                undecoded,
+                undecoded: undecoded.saturating_add(passed_over),
             },
             record,
         }
-    }
-
-    /// Counts datagrams that came from another address than that of the site.
-    pub fn count_foreign<R: Wait>(&self, rt: &R, count: u64) {
-        self.traffic.received.fetch_add(count, Ordering::SeqCst);
-        self.desk.lock(rt).count_unread(rt, count);
     }
 
     /// The job of what is asked. `None` for bytes that are no frame, and where memory ran out;

@@ -16,6 +16,8 @@ pub enum Instruction {
     Stop,
     /// The programs of the domain are no longer to be served.
     Retire(DomainNo),
+    /// The keys are to be read again.
+    Keys,
 }
 
 /// What came of a line of the console.

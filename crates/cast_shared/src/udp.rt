@@ -1,7 +1,7 @@
 //! The wire between sites: a socket for each of them.
 use bytes::Bytes;
 use cast_link::{LinkFault, Wire};
-use cast_sockets::{Link, Received};
+use cast_sockets::{Keyrings, Link, Received};
 use cast_types::{NoMemory, SiteNo};
 use libc::net as c;
 use libc::types::pollfd;
@@ -17,7 +17,9 @@ const IN_A_ROW: u32 = 32;
 #[derive(Drop)]
 struct Inbox<'a> {
     alloc: Global,
+    own: SiteNo,
     links: &'a [Link],
+    keyrings: &'a Keyrings,
     room: Vec<u8>,
     // What the system was asked of each link, and what it told.
     looked: Vec<pollfd>,
@@ -26,22 +28,21 @@ struct Inbox<'a> {
     in_a_row: u32,
     // The site of the last datagram.
     sender: Option<SiteNo>,
-    // How many datagrams were passed over since they came from elsewhere.
-    foreign: u64,
 }
 
 impl<'a> Inbox<'a> {
     // Nothing came. Takes no memory yet.
-    fn new(alloc: Global, links: &'a [Link]) -> Self {
+    fn new(alloc: Global, own: SiteNo, links: &'a [Link], keyrings: &'a Keyrings) -> Self {
         Inbox {
             alloc,
+            own,
             links,
+            keyrings,
             room: Vec::new(alloc),
             looked: Vec::new(alloc),
             place: links.len(),
             in_a_row: 0,
             sender: None,
-            foreign: 0,
         }
     }
 
@@ -106,14 +107,15 @@ impl<'a> Inbox<'a> {
             };
             match self.look(link) {
                 Received::Datagram(count) => {
-                    self.sender = Some(link.site);
                     let Some(bytes) = self.room.get(..count) else {
                         return Ok(None);
                     };
-                    return Ok(Some(Bytes::copy_from_slice(self.alloc, bytes)?));
+                    if let Some(body) = link.open(self.own, self.keyrings, bytes) {
+                        self.sender = Some(link.site);
+                        return Ok(Some(Bytes::copy_from_slice(self.alloc, body)?));
+                    }
                 }
-                Received::Foreign => self.foreign = self.foreign.saturating_add(1),
-                Received::Nothing => {}
+                Received::Foreign | Received::Nothing => {}
             }
         }
         Ok(None)
@@ -138,17 +140,25 @@ impl<'a> Inbox<'a> {
 /// The links of a daemon, as a thread sends by them and receives.
 #[derive(Drop)]
 pub struct Udp<'a> {
+    own: SiteNo,
     links: &'a [Link],
+    keyrings: &'a Keyrings,
     inbox: Inbox<'a>,
+    // The room for a sealed datagram.
+    sealed: Vec<u8>,
     failures: u64,
 }
 
 impl<'a> Udp<'a> {
-    /// An end that sends by these links. Takes no memory until it receives.
-    pub fn new(alloc: Global, links: &'a [Link]) -> Self {
+    /// An end of the own site that sends by these links, behind seals of these keys where they are
+    /// sealed. Takes no memory until it receives, or seals what it sends.
+    pub fn new(alloc: Global, own: SiteNo, links: &'a [Link], keyrings: &'a Keyrings) -> Self {
         Udp {
+            own,
             links,
-            inbox: Inbox::new(alloc, links),
+            keyrings,
+            inbox: Inbox::new(alloc, own, links, keyrings),
+            sealed: Vec::new(alloc),
             failures: 0,
         }
     }
@@ -163,14 +173,6 @@ impl<'a> Udp<'a> {
     pub fn sender(&self) -> Option<SiteNo> {
         self.inbox.sender
     }
-
-    /// How many datagrams were passed over since this was asked last, since they came from another
-    /// address than their link's.
-    pub fn take_foreign(&mut self) -> u64 {
-        let count = self.inbox.foreign;
-        self.inbox.foreign = 0;
-        count
-    }
 }
 
 impl Wire for Udp<'_> {
@@ -178,7 +180,7 @@ impl Wire for Udp<'_> {
 
     fn send(&mut self, to: SiteNo, bytes: &[u8]) -> bool {
         let is_sent = match self.links.iter().find(|link| link.site == to) {
-            Some(link) => link.send(bytes),
+            Some(link) => link.give(self.own, self.keyrings, &mut self.sealed, bytes),
             None => false,
         };
         if !is_sent {

@@ -1,5 +1,6 @@
 //! The sockets for datagrams between sites: one for each site that this one exchanges datagrams
 //! with.
+use crate::keyring::{Keyrings, NONCE};
 use cast_types::SiteNo;
 use libc::net as c;
 use os::FromRawFd;
@@ -29,7 +30,7 @@ pub struct Peer {
 pub enum Received {
     /// A datagram of so many bytes.
     Datagram(usize),
-    /// A datagram that does not come from the site's address.
+    /// A datagram that does not come from the site's address, which is counted.
     Foreign,
     /// No datagram waits.
     Nothing,
@@ -47,14 +48,21 @@ pub struct Link {
     socket: UdpSocket,
     // The system sends to that address, and passes over what comes from others.
     is_connected: AtomicBool,
+    // What the site sends comes behind seals, and what it is sent goes behind them.
+    is_sealed: bool,
+    // With how many datagrams sealed for the site, a nonce that no other one has.
+    drawn: u64,
+    sealed: AtomicU64,
     // How many datagrams were not sent.
     unsent: AtomicU64,
+    // How many came from another address, or without the site's seal.
+    passed_over: AtomicU64,
 }
 
 impl Link {
     // Takes a socket for the datagrams of a site. Where the system knows no way to that yet, the
     // socket stays without a peer.
-    fn new(socket: UdpSocket, peer: Peer) -> io::Result<Link> {
+    fn new(socket: UdpSocket, peer: Peer, is_sealed: bool, drawn: u64) -> io::Result<Link> {
         socket.set_nonblocking(true)?;
         let is_connected = socket.connect(peer.address).is_ok();
         let address = if is_connected {
@@ -67,7 +75,11 @@ impl Link {
             address,
             socket,
             is_connected: AtomicBool::new(is_connected),
+            is_sealed,
+            drawn,
+            sealed: AtomicU64::new(0),
             unsent: AtomicU64::new(0),
+            passed_over: AtomicU64::new(0),
         })
     }
 
@@ -91,8 +103,56 @@ impl Link {
         }
     }
 
-    /// Sends a datagram, if there is room for it now. Answers whether it is on its way.
-    pub fn send(&self, bytes: &[u8]) -> bool {
+    // A nonce that none of the daemon's datagrams for the site had.
+    fn next_nonce(&self) -> [u8; NONCE] {
+        let count = self.sealed.fetch_add(1, Ordering::SeqCst);
+        let mut nonce = [0u8; NONCE];
+        nonce[..8].copy_from_slice(&self.drawn.to_be_bytes());
+        nonce[8..].copy_from_slice(&count.to_be_bytes());
+        nonce
+    }
+
+    /// Sends a datagram from the own site, behind a seal if the link is sealed. Answers whether it
+    /// is on its way. The room is for the sealed datagram.
+    pub fn give(&self, own: SiteNo, keyrings: &Keyrings, room: &mut Vec<u8>, bytes: &[u8]) -> bool {
+        if !self.is_sealed {
+            return self.send(bytes);
+        }
+        let Some(keyring) = keyrings.find(self.site) else {
+            return false;
+        };
+        let nonce = self.next_nonce();
+        keyring.seal(room, own, self.site, &nonce, bytes).is_ok() && self.send(room.as_slice())
+    }
+
+    /// What a datagram of the site for the own one has: what is behind its seal, if the link is
+    /// sealed. `None`, which is counted, if no key of the site opens it.
+    pub fn open<'a>(
+        &self,
+        own: SiteNo,
+        keyrings: &Keyrings,
+        datagram: &'a [u8],
+    ) -> Option<&'a [u8]> {
+        if !self.is_sealed {
+            return Some(datagram);
+        }
+        let body = match keyrings.find(self.site) {
+            Some(keyring) => keyring.open(self.site, own, datagram),
+            None => None,
+        };
+        if body.is_none() {
+            self.passed_over.fetch_add(1, Ordering::SeqCst);
+        }
+        body
+    }
+
+    /// Whether the site and the own one seal what they send each other.
+    pub fn is_sealed(&self) -> bool {
+        self.is_sealed
+    }
+
+    // Sends a datagram, if there is room for it now. Answers whether it is on its way.
+    fn send(&self, bytes: &[u8]) -> bool {
         let is_sent = match self.send_now(bytes) {
             Ok(_) => true,
             // That nobody received an earlier one is told in place of sending this one.
@@ -114,11 +174,18 @@ impl Link {
                 if from.ip() == self.address.ip() && from.port() == self.address.port() {
                     Received::Datagram(count)
                 } else {
+                    self.passed_over.fetch_add(1, Ordering::SeqCst);
                     Received::Foreign
                 }
             }
             Err(_) => Received::Nothing,
         }
+    }
+
+    /// How many datagrams were passed over, since they came from another address, or without the
+    /// site's seal.
+    pub fn passed_over(&self) -> u64 {
+        self.passed_over.load(Ordering::SeqCst)
     }
 
     /// How many datagrams were not sent, since there was no room for them, or the system refused
@@ -208,24 +275,26 @@ fn bind_beside(first: &UdpSocket, is_ipv4: bool) -> io::Result<UdpSocket> {
     Ok(socket)
 }
 
-/// Binds a socket for the own site, and at the same address one for each of these others. No other
-/// user can bind that address meanwhile, and nobody can afterwards. Gives also a second handle of
-/// the first.
+/// Binds a socket for the own site, and at the same address one for each of these others, each with
+/// whether it is sealed. No other user can bind that address meanwhile, and nobody can afterwards.
+/// Gives also a second handle of the first. No other daemon of the site drew the same number.
 pub fn bind_links<R: Net>(
     rt: &R,
     alloc: Global,
-    own: Peer,
-    others: &[Peer],
+    own: (Peer, bool),
+    others: Vec<(Peer, bool)>,
+    drawn: u64,
 ) -> io::Result<(Vec<Link>, OwnedFd)> {
+    let (own, own_is_sealed) = own;
     let first = UdpSocket::bind(rt, own.address)?;
     let handle = OwnedFd::from(first.try_clone()?);
     share(&first, true)?;
     let mut links = Vec::new(alloc);
-    for peer in others {
+    for (peer, is_sealed) in others {
         let next = bind_beside(&first, own.address.is_ipv4())?;
-        links.push(Link::new(next, *peer)?)?;
+        links.push(Link::new(next, peer, is_sealed, drawn)?)?;
     }
-    links.push(Link::new(first, own)?)?;
+    links.push(Link::new(first, own, own_is_sealed, drawn)?)?;
     for link in links.as_slice() {
         share(&link.socket, false)?;
     }

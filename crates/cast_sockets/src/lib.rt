@@ -6,7 +6,9 @@
 #![tactic(auto)]
 
 mod datagrams;
+mod keyring;
 mod sockets;
 
 pub use datagrams::{Link, Peer, Received, widen};
+pub use keyring::{Keyring, Keyrings, KeysFault, are_sealed};
 pub use sockets::{Listening, SocketFault, Sockets, bind, resolve_all};

@@ -1,5 +1,6 @@
 //! The sockets of a daemon: those for datagrams, and one for the programs of each domain.
 use crate::datagrams::{Link, Peer, bind_links};
+use crate::keyring::{are_sealed, is_partner};
 use cast_config::{DomainSocket, Setup, SiteAddress};
 use cast_types::{DomainNo, NoMemory, SiteNo};
 use std::alloc::Global;
@@ -193,28 +194,25 @@ fn bind_all<'a, R: Net + Files>(
     Ok(listening)
 }
 
-// The other sites that have a domain with this one.
-fn partners(alloc: Global, setup: &Setup, peers: &[Peer]) -> Result<Vec<Peer>, NoMemory> {
+// The other sites that have a domain with this one, each with whether it is sealed.
+fn partners(alloc: Global, setup: &Setup, peers: &[Peer]) -> Result<Vec<(Peer, bool)>, NoMemory> {
     let mut found = Vec::new(alloc);
     for peer in peers {
-        let domains = setup.config.domains.as_slice();
-        if peer.site != setup.config.site
-            && domains
-                .iter()
-                .any(|domain| domain.sites.as_slice().contains(&peer.site))
-        {
-            found.push(*peer)?;
+        if peer.site != setup.config.site && is_partner(setup, peer.site) {
+            found.push((*peer, are_sealed(setup, peer.site)))?;
         }
     }
     Ok(found)
 }
 
-/// Binds the sockets of a daemon, or answers the name of the first that cannot be bound.
+/// Binds the sockets of a daemon, or answers the name of the first that cannot be bound. What a
+/// link is sealed with is distinct if no other daemon of the site drew the same number.
 pub fn bind<'a, R: Net + Files>(
     rt: &R,
     alloc: Global,
     setup: &'a Setup,
     peers: &[Peer],
+    drawn: u64,
 ) -> Result<Sockets, SocketFault<'a>> {
     let own = setup.config.site;
     let name = address_of(setup.addresses.as_slice(), own);
@@ -224,7 +222,8 @@ pub fn bind<'a, R: Net + Files>(
     let Ok(partners) = partners(alloc, setup, peers) else {
         return Err(SocketFault::NoMemory);
     };
-    let (links, handle) = match bind_links(rt, alloc, *peer, partners.as_slice()) {
+    let first = (*peer, are_sealed(setup, own));
+    let (links, handle) = match bind_links(rt, alloc, first, partners, drawn) {
         Ok(bound) => bound,
         Err(error) if error.kind() == io::ErrorKind::OutOfMemory => {
             return Err(SocketFault::NoMemory);

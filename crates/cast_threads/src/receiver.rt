@@ -118,20 +118,11 @@ impl<T: SharedTable> Receiver<'_, T> {
         true
     }
 
-    // Counts the datagrams that were passed over.
-    fn count_foreign<R: Wait>(&mut self, rt: &R) {
-        let count = self.server.wire.take_foreign();
-        if count > 0 {
-            self.server.shared.count_foreign(rt, count);
-        }
-    }
-
     // Serves a datagram and those that wait behind it, and finishes them. Answers whether there may
     // be more.
     fn serve_all<R: Wait + Clock>(&mut self, rt: &R, first: Bytes) -> bool {
         self.serve(rt, first);
         let is_more = self.serve_waiting(rt);
-        self.count_foreign(rt);
         self.finish(rt);
         is_more
     }

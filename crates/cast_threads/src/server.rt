@@ -65,7 +65,7 @@ impl<'a, T: SharedTable> Server<'a, T> {
         Server {
             shared,
             share,
-            wire: Udp::new(shared.alloc, shared.links),
+            wire: Udp::new(shared.alloc, shared.own, shared.links, shared.keyrings),
             room: Vec::new(shared.alloc),
             gathered: Outs::new(shared.alloc),
             heard: None,

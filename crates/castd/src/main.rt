@@ -52,12 +52,14 @@ fn main(rt: HostRuntime) -> ExitCode {
                 config,
                 site,
                 workers,
+                keys,
                 record,
             },
         ) => match folder_of(&rt, record, site.0) {
             Ok(folder) => serve_file(
                 &rt,
                 &config,
+                keys.as_deref(),
                 site,
                 workers,
                 folder,

@@ -40,6 +40,10 @@ pub returns-in-record : goal.returns-in-record
 unfolding head_of
 returns-in-record c = rw c.in-record.is refl
 
+pub returns-in-keys : goal.returns-in-keys
+unfolding head_of
+returns-in-keys c = rw c.in-keys.is refl
+
 pub returns-in-stop : goal.returns-in-stop
 unfolding head_of
 returns-in-stop c = rw c.in-stop.is refl
@@ -57,5 +61,6 @@ returns-in_default c =
       | head.Trace ↦ c.in_default.not-trace
       | head.Datagrams ↦ c.in_default.not-datagrams
       | head.Record ↦ c.in_default.not-record
+      | head.Keys ↦ c.in_default.not-keys
       | head.Stop ↦ c.in_default.not-stop
     ]))
