@@ -9,7 +9,7 @@ use Rattle.cast_message.specs.declared.message.Message.{Message}
 use Rattle.cast_types.specs.Counts.{CountList}
 use Rattle.cast_types.specs.Names.{group_eq}
 use Rattle.cast_types.specs.declared.names.GroupNo.{GroupNo}
-use Rattle.cast_world.proofs.Facts.{NeverEntered}
+use Rattle.cast_world.specs.Properties.{NeverEntered}
 
 pub contains_here : {X : Type 0} (a c : List X) (x : X) → Contains (a ++ x ∷ c) x
 contains_here a c x = Contains-append_right a (x ∷ c) x (Contains-append_left (x ∷ []) c x (0, omega arith, refl))

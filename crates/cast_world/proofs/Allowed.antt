@@ -1,6 +1,7 @@
 -- A message that is ready is allowed.
+use Rattle.cast_types.proofs.Orders.{uid_itself}
 use Rattle.std.proofs.Common.{ap, arith, inl, inr, subst, sym, ◌∙◌}
-use Rattle.std.proofs.lemmas.Bool.{and_parts, cases_lt, eqb-true, false_from_ne_true, false≢true, leb-true, ltb-true, or_cases}
+use Rattle.std.proofs.lemmas.Bool.{and_parts, cases_lt, eqb-true, false_from_ne_true, false≢true, leb-true, ltb-true, or_cases, true≢false}
 use Rattle.std.proofs.lemmas.List.Elements.{Contains-append_left, Contains-append_right}
 use Rattle.std.proofs.lemmas.Map.Views.{tells_apart}
 use Rattle.std.specs.FinMap.Entries.{find}
@@ -141,6 +142,19 @@ past_delivered p m h u all group view one le other =
     found_among u p.delivered (passes (has_delivered p) (past_in m h) all u
     (contains_kept (λ v. not (uid_eq m.id v)) (map (uid_in h (view_of m.times h)) (covered_entries (clock_of m.times h).counts))
     u (subst (λ v. Contains (map (uid_in h (view_of m.times h)) (covered_entries (clock_of m.times h).counts)) v) is at) apart))
+
+-- a message that is ready was not delivered
+pub ready_new : (groups : List GroupNo) (gate : GroupNo → Gate) (turn : GroupNo → Turn) (p : Process) (m : Message) →
+    is_ready groups gate turn p m ≡ true → Contains p.delivered m.id → ⊥
+ready_new groups gate turn p m ready at =
+    let a =
+    and_parts (is_causally_ready groups gate p m)
+    (not (is_atomic (kind_of m.body)) || has_turn (turn m.id.group) (entry_of m.id)) ready in
+    let b = and_parts (is_member (p.standing m.id.group)) _ a.0 in
+    let c = and_parts (m.id.view == (gate m.id.group).number) _ b.1 in
+    let d = and_parts (is_open_to (gate m.id.group) (entry_of m.id)) _ c.1 in
+    let new = (and_parts (not (has_delivered p m.id)) _ d.1).0 in
+    true≢false (sym new ∙ ap not (among_of uid_eq uid_itself p.delivered m.id at))
 
 module _ (groups : List GroupNo) (gate : GroupNo → Gate) (turn : GroupNo → Turn) (p : Process) (m : Message)
     (known : (g : GroupNo) → is_outside (p.standing g) ≡ false → Contains groups g)

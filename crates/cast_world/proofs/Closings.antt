@@ -31,7 +31,7 @@ use Rattle.cast_view.specs.declared.member.Pending.{Pending}
 use Rattle.cast_view.specs.declared.phase.Decision.{Decision}
 use Rattle.cast_view.specs.declared.phase.Phase.TheVariants.{Installing}
 use Rattle.cast_world.proofs.Acts.{contains_here}
-use Rattle.cast_world.proofs.Facts.{Each, IsIn}
+use Rattle.cast_world.proofs.Facts.{Each}
 use Rattle.cast_world.proofs.Firsts.{firsts}
 use Rattle.cast_world.proofs.Flush.{Choice, Chosen, IsChosen, SiteAgrees, numbers}
 use Rattle.cast_world.proofs.FlushLaters.{Extends}
@@ -46,6 +46,7 @@ use Rattle.cast_world.proofs.Steps.{Now, ahead_at, own_holds, own_is, sites_at}
 use Rattle.cast_world.proofs.Windows.{Safe}
 use Rattle.cast_world.specs.Agreement.{IsPrefix, is_in}
 use Rattle.cast_world.specs.Network.{Network}
+use Rattle.cast_world.specs.Properties.{IsIn}
 use Rattle.std.proofs.lemmas.List.{append-nil, map-append}
 use Rattle.std.proofs.lemmas.List.Elements.{filter-append}
 use Rattle.cast_message.specs.declared.site.SiteFrame.TheVariants as frame

@@ -16,12 +16,13 @@ use Rattle.cast_types.specs.declared.names.Uid.{Uid}
 use Rattle.cast_world.proofs.Acts.{contains_around, contains_here, does, does_not, entered_other, enters, first_entry}
 use Rattle.cast_world.proofs.Allowed.{contains_more}
 use Rattle.cast_world.proofs.Derivation.{first_source, risen, source, unique}
-use Rattle.cast_world.proofs.Facts.{ActWell, Each, Facts, IsIn, NeverEntered}
+use Rattle.cast_world.proofs.Facts.{ActWell, Each, Facts}
 use Rattle.cast_world.proofs.Runs.{facts, holds_in_every}
 use Rattle.cast_world.proofs.Times.{below_at_most}
 use Rattle.cast_world.specs.HappenedBefore.{NeverLeft, acts_of}
 use Rattle.cast_world.specs.Laws.{AllDeliveriesWereSent, AllNamesAreUnique, AllStampsRise, AllStampsRiseStrictly}
 use Rattle.cast_world.specs.Network.{Network, Reaches}
+use Rattle.cast_world.specs.Properties.{IsIn, NeverEntered}
 use Rattle.cast_world.specs.declared.step.Step.{Step}
 
 -- views are entered one after the other
@@ -136,7 +137,7 @@ passes_above w f p g view before cut a b c e is stays counted_it within =
 -- The laws
 
 module _ (sites : List SiteNo) (config : SiteNo → DomainConfig) (steps : List Step) (w : Network) (r : Reaches sites config steps w) where
-  abbrev fact : Facts w
+  abbrev pub fact : Facts w
   fact = facts (config record { 0 = 0 }).home w (holds_in_every sites config steps w r)
 
 pub stamps_rise : AllStampsRiseStrictly

@@ -10,13 +10,14 @@ use Rattle.cast_types.specs.Names.{entry_of}
 use Rattle.cast_types.specs.declared.names.Proc.{Proc}
 use Rattle.cast_types.specs.declared.names.Uid.{Uid}
 use Rattle.cast_world.proofs.Acts.{contains_around, contains_here, entered_other, first_entry}
-use Rattle.cast_world.proofs.Facts.{ActWell, Each, Facts, HasDelivered, HasDone, IsIn, SentWell}
+use Rattle.cast_world.proofs.Facts.{ActWell, Each, Facts, HasDelivered, HasDone, SentWell}
 use Rattle.cast_world.proofs.Lists.{contains_split, sent_same}
 use Rattle.cast_world.specs.HappenedBefore.{Edge, HappenedBefore, IsDue, NeverLeft, StandsBefore, acts_of, edge, path}
 use Rattle.cast_world.specs.Laws.{Below, Covers, DeliversInOrder}
 use Rattle.cast_world.specs.Network.{Network}
+use Rattle.cast_world.specs.Properties.{IsIn}
 
-stands : (acts a c : List Act) (x y : Act) → acts ≡ a ++ y ∷ c → Contains a x → StandsBefore acts x y
+pub stands : (acts a c : List Act) (x y : Act) → acts ≡ a ++ y ∷ c → Contains a x → StandsBefore acts x y
 stands acts a c x y e has =
     let s = contains_split a x has in
     (s.0, s.1, c, e ∙ ap (λ z. z ++ y ∷ c) s.2)
@@ -87,16 +88,18 @@ module _ (w : Network) (f : Facts w) where
   first_source x m (edge e) = let d = done x m e in source m.id.proc x d.0 (Sent m ∷ d.1) d.2 d.3
   first_source x m (path {y = y} h e) = first_source x y h
 
+  -- a view whose messages the stamp of a delivered message covers is not entered afterwards
+  pub too_late : (p : Proc) (x : Uid) (m : Message) (a c : List Act) → acts_of w p ≡ a ++ Delivered m ∷ c → Covers m.times x →
+      (cut : CountList) → Contains c (Entered x.group x.view cut) → ⊥
+  too_late p x m a c e covers cut at =
+      let s = contains_split _ _ at in
+      let is = e ∙ ap (λ z. a ++ Delivered m ∷ z) s.2 ∙ sym (append_assoc a (Delivered m ∷ s.0) (Entered x.group x.view cut ∷ s.1)) in
+      let low =
+      (f.each p (a ++ Delivered m ∷ s.0) s.1 (Entered x.group x.view cut) is).above m (inr (contains_here a s.0 (Delivered m))) in
+      elim covers [ inl above ↦ omega (arith, above, low) | inr level ↦ omega (arith, level.0, low) ]
+
   module _ (p : Proc) (x : Uid) (m : Message) (due : IsDue (acts_of w p) x m) (a c : List Act) (e : acts_of w p ≡ a ++ Delivered m ∷ c)
       (covers : Covers m.times x) (other : x ≡ m.id → ⊥) (counted : 1 ≤ x.count) where
-    too_late : (cut : CountList) → Contains c (Entered x.group x.view cut) → ⊥
-    too_late cut at =
-        let s = contains_split _ _ at in
-        let is = e ∙ ap (λ z. a ++ Delivered m ∷ z) s.2 ∙ sym (append_assoc a (Delivered m ∷ s.0) (Entered x.group x.view cut ∷ s.1)) in
-        let low =
-        (f.each p (a ++ Delivered m ∷ s.0) s.1 (Entered x.group x.view cut) is).above m (inr (contains_here a s.0 (Delivered m))) in
-        elim covers [ inl above ↦ omega (arith, above, low) | inr level ↦ omega (arith, level.0, low) ]
-
     inside : (cut : CountList) → Contains a (Entered x.group x.view cut) → HasDelivered a x
     inside cut at =
         let s = contains_split _ _ at in
@@ -145,5 +148,5 @@ module _ (w : Network) (f : Facts w) where
             from.at y.1 in
             stands _ s.0 s.1 _ _ s.2 (subst (λ z. Contains s.0 (Delivered z)) same y.2)
         | inr (inl same) ↦ absurd (entered_other m x.id.group x.id.view due.entered.0 same)
-        | inr (inr later) ↦ absurd (too_late p x.id m due s.0 s.1 s.2 covers other from.well.counted due.entered.0 later)
+        | inr (inr later) ↦ absurd (too_late p x.id m s.0 s.1 s.2 covers due.entered.0 later)
       ]

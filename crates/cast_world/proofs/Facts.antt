@@ -14,17 +14,10 @@ use Rattle.cast_types.specs.declared.names.Proc.{Proc}
 use Rattle.cast_types.specs.declared.names.Standing.{Standing}
 use Rattle.cast_types.specs.declared.names.Standing.TheVariants.{Joining, Member}
 use Rattle.cast_types.specs.declared.names.Uid.{Uid}
-use Rattle.cast_world.specs.HappenedBefore.{NeverLeft, acts_of}
+use Rattle.cast_world.specs.HappenedBefore.{acts_of}
 use Rattle.cast_world.specs.Laws.{Below, Covers}
 use Rattle.cast_world.specs.Network.{Network}
-
-abbrev pub NeverEntered : GroupNo → List Act → Type 0
-NeverEntered g acts = (n : ℕ) (cut : CountList) → Contains acts (Entered g n cut) → ⊥
-
--- after these acts the process is a member, in this view
-abbrev pub IsIn : List Act → GroupNo → ℕ → Type 0
-IsIn acts g view =
-    (a b : List Act) × (cut : CountList) × (acts ≡ a ++ Entered g view cut ∷ b) × NeverLeft g b × NeverEntered g b
+use Rattle.cast_world.specs.Properties.{IsIn}
 
 abbrev pub HasDone : List Act → Message → Type 0
 HasDone acts m = Contains acts (Sent m) ⊎ Contains acts (Delivered m)

@@ -21,9 +21,10 @@ use Rattle.cast_view.specs.MemberSide.{MemberSide, has_view, members_of}
 use Rattle.cast_view.specs.declared.member.Pending.{Pending}
 use Rattle.cast_view.specs.declared.phase.Decision.{Decision}
 use Rattle.cast_view.specs.declared.phase.Phase.TheVariants.{Installing}
-use Rattle.cast_world.proofs.Facts.{Each, IsCounted, IsIn}
+use Rattle.cast_world.proofs.Facts.{Each, IsCounted}
 use Rattle.cast_world.proofs.Homes.{Awaits, reports_of}
 use Rattle.cast_world.proofs.Invariants.{Sites}
+use Rattle.cast_world.specs.Properties.{IsIn}
 use Rattle.cast_message.specs.declared.site.SiteFrame.TheVariants as frame
 
 -- what the home decided with a view: its members, and the cut of the view that it ended
@@ -96,7 +97,8 @@ pub record OneAgrees (choice : Choice) (number : GroupNo → ℕ) (here : SiteNo
   pub has : (m : Message) → Contains acts (Delivered m) → Contains delivered m.id
   pub given : (m : Message) → Contains acts (Delivered m) → (1 ≤ k) × (k ≤ used)
   pub sender : (m : Message) → Contains acts (Delivered m) → IsMembers choice number m.id
-  pub entered : (g : GroupNo) (n : ℕ) (cut : CountList) → Contains acts (Entered g n cut) → (n ≤ number g) × (cut ≡ (choice g n).cut)
+  pub entered : (g : GroupNo) (n : ℕ) (cut : CountList) → Contains acts (Entered g n cut) →
+      (n ≤ number g) × (cut ≡ (choice g n).cut) × IsChosen choice g n (record { site = here; serial = k })
   pub cuts : Each CutWell acts
 
 -- a home's members and decision are those that were chosen, it awaits whom it must, and its reports were told

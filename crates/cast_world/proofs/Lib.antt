@@ -71,3 +71,4 @@ pub mod Singles
 pub mod Counted
 pub mod ListsAreActs
 pub mod Told
+pub mod Properties

@@ -9,7 +9,8 @@ use Rattle.cast_message.specs.declared.message.Message.{Message}
 use Rattle.cast_types.specs.Counts.{CountList}
 use Rattle.cast_types.specs.declared.names.GroupNo.{GroupNo}
 use Rattle.cast_types.specs.declared.names.Uid.{Uid}
-use Rattle.cast_world.proofs.Facts.{Each, HasDelivered, HasDone, IsIn}
+use Rattle.cast_world.proofs.Facts.{Each, HasDelivered, HasDone}
+use Rattle.cast_world.specs.Properties.{IsIn}
 
 unfoldable pub head_or : {X : Type 0} → X → List X → X
 head_or d [] = d
@@ -186,6 +187,10 @@ entered_same g h n v cut other e = (ap (group_or g) e, ap view_or e)
 pub sent_same : (x y : Message) → ◌≡◌ {A = Act} (Sent x) (Sent y) → x ≡ y
 unfolding sent_or
 sent_same x y e = ap (sent_or x) e
+
+pub delivered_same : (x y : Message) → ◌≡◌ {A = Act} (Delivered x) (Delivered y) → x ≡ y
+unfolding delivered_or
+delivered_same x y e = ap (delivered_or x) e
 
 is_delivery : Act → Bool
 is_delivery (Sent m) = false

@@ -17,10 +17,12 @@ use Rattle.cast_rules.specs.History.{history}
 use Rattle.cast_rules.specs.Noted.{abcasts_by, delivered_by}
 use Rattle.cast_rules.specs.Rules.Asking.{is_home}
 use Rattle.cast_rules.specs.Run.{IsStep, after_event}
-use Rattle.cast_rules.specs.State.{State, noting_act, outside}
+use Rattle.cast_rules.specs.State.{State, gate_of, noting_act, outside}
+use Rattle.cast_rules.specs.Turns.{turn_of}
 use Rattle.cast_message.specs.Bodies.{kind_of}
 use Rattle.cast_message.specs.Membership.{Membership}
 use Rattle.cast_message.specs.declared.message.Message.{Message}
+use Rattle.cast_events.specs.declared.config.DomainConfig.{DomainConfig}
 use Rattle.cast_events.specs.declared.event.Event.{Event}
 use Rattle.cast_events.specs.declared.event.Taken.{Taken}
 use Rattle.cast_types.specs.Counts.{CountList}
@@ -32,19 +34,21 @@ use Rattle.cast_types.specs.declared.names.SiteNo.{SiteNo}
 use Rattle.cast_types.specs.declared.names.Standing.TheVariants.{Joining}
 use Rattle.cast_types.specs.declared.names.Uid.{Uid}
 use Rattle.cast_world.proofs.Acts.{contains_here}
-use Rattle.cast_world.proofs.Allowed.{contains_more}
+use Rattle.cast_world.proofs.Allowed.{contains_more, ready_new}
 use Rattle.cast_world.proofs.Events.{Any, after_event_keeps, any_came, rests_keeps}
 use Rattle.cast_world.proofs.Invariants.{WasSent}
 use Rattle.cast_world.proofs.Kept.{Kept}
 use Rattle.cast_world.proofs.Laters.{set_all, set_both}
 use Rattle.cast_world.proofs.OrderLaters.{one_message}
+use Rattle.cast_world.proofs.Orders.{Apart}
+use Rattle.cast_world.proofs.Prefixes.{apart_more}
 use Rattle.cast_world.proofs.Pushes.{EachTold, told_in_every}
 use Rattle.cast_world.proofs.Runs.{causal_delivery, holds_in_every}
 use Rattle.cast_world.proofs.Steps.{AllHold}
 use Rattle.cast_world.specs.Agreement.{abcasts_of_view, is_abcast, is_in}
 use Rattle.cast_world.specs.HappenedBefore.{StandsBefore, acts_of}
 use Rattle.cast_world.specs.Laws.{AllAbcastsAreActs, AllListsAreActs, AllListsAreInOrder, IsBefore}
-use Rattle.cast_world.specs.Network.{Becomes, Happens, Leads, Network, event_of, start}
+use Rattle.cast_world.specs.Network.{Becomes, Happens, Leads, Network, Reaches, event_of, start}
 use Rattle.cast_world.specs.declared.step.Step.{Step}
 
 -- where each of a list fails a test, none passes
@@ -53,7 +57,7 @@ none_any t [] none = refl
 none_any t (x ∷ xs) none =
     ap (λ b. b || list_any t xs) (none x (contains_here [] xs x)) ∙ none_any t xs (λ y has. none y (contains_more x xs y has))
 
-delivered_append : (xs ys : List Act) → delivered_by (xs ++ ys) ≡ delivered_by xs ++ delivered_by ys
+pub delivered_append : (xs ys : List Act) → delivered_by (xs ++ ys) ≡ delivered_by xs ++ delivered_by ys
 delivered_append [] ys = refl
 delivered_append (Sent m ∷ xs) ys = delivered_append xs ys
 delivered_append (Delivered m ∷ xs) ys = ap (λ us. m.id ∷ us) (delivered_append xs ys)
@@ -65,13 +69,17 @@ none_more : (acts : List Act) (y : Act) → delivered_by (y ∷ []) ≡ [] → d
 none_more acts y none =
     sym (append-nil (delivered_by acts)) ∙ ap (λ us. delivered_by acts ++ us) (sym none) ∙ sym (delivered_append acts (y ∷ []))
 
-module _ (s : State) where
-  -- each process's list is that of its acts, and the site is the same as in s
-  abbrev IsListed : State → Type 0
-  IsListed t = (t.here ≡ s.here) × (t.config ≡ s.config) × ((k : ℕ) → (t.process k).delivered ≡ delivered_by (t.acts k))
+-- a process's list is that of its acts, and has no id twice
+abbrev pub Fit : Process → List Act → Type 0
+Fit p acts = (p.delivered ≡ delivered_by acts) × Apart p.delivered
 
-  abbrev Fit : Process → List Act → Type 0
-  Fit p acts = p.delivered ≡ delivered_by acts
+with_act : (p : Process) (acts : List Act) (y : Act) → delivered_by (y ∷ []) ≡ [] → Fit p acts → Fit p (acts ++ y ∷ [])
+with_act p acts y none fit = (fit.0 ∙ none_more acts y none, fit.1)
+
+module _ (s : State) where
+  -- so is each process's, and the site is the same as in s
+  abbrev IsListed : State → Type 0
+  IsListed t = (t.here ≡ s.here) × (t.config ≡ s.config) × ((k : ℕ) → Fit (t.process k) (t.acts k))
 
   with_one : (t : State) → IsListed t → (k : ℕ) (p : Process) (acts : List Act) → Fit p acts → (j : ℕ) →
       Fit (set_at (λ a b. a == b) t.process k p j) (set_at (λ a b. a == b) t.acts k acts j)
@@ -79,14 +87,15 @@ module _ (s : State) where
 
   standing_one : (t : State) → IsListed t → (k : ℕ) (p : Process) → p.delivered ≡ (t.process k).delivered → (j : ℕ) →
       Fit (set_at (λ a b. a == b) t.process k p j) (t.acts j)
-  standing_one t l k p same = set_all (λ j q. Fit q (t.acts j)) t.process k p l.2 (same ∙ l.2 k)
+  standing_one t l k p same = set_all (λ j q. Fit q (t.acts j)) t.process k p l.2 (same ∙ (l.2 k).0, subst Apart (sym same) (l.2 k).1)
 
   outside_listed : (t : State) → IsListed t → (k : ℕ) (g : GroupNo) → IsListed (outside t k g)
   outside_listed t l k g = (l.0, l.1, go (is_member ((t.process k).standing g)))
     where
       go : (b : Bool) (j : ℕ) → Fit (set_at (λ a c. a == c) t.process k (put_outside g (t.process k)) j)
           ((if b then (noting_act t k (Left g)).acts else t.acts) j)
-      go true = with_one t l k (put_outside g (t.process k)) (t.acts k ++ Left g ∷ []) (l.2 k ∙ none_more (t.acts k) (Left g) refl)
+      go true = with_one t l k (put_outside g (t.process k)) (t.acts k ++ Left g ∷ [])
+          (with_act (t.process k) (t.acts k) (Left g) refl (l.2 k))
       go false = standing_one t l k (put_outside g (t.process k)) refl
 
   passing_listed : (t : State) → IsListed t →
@@ -99,13 +108,13 @@ module _ (s : State) where
 
       one : (k : ℕ) (b : Bool) →
           Fit (if b then put_outside g (t.process k) else t.process k) (if b then t.acts k ++ Left g ∷ [] else t.acts k)
-      one k true = l.2 k ∙ none_more (t.acts k) (Left g) refl
+      one k true = with_act (t.process k) (t.acts k) (Left g) refl (l.2 k)
       one k false = l.2 k
 
       two : (k : ℕ) (b : Bool) →
           Fit (if b then in_view g n ((putting_out t g skipped members).process k) else (putting_out t g skipped members).process k)
           (if b then (putting_out t g skipped members).acts k ++ Entered g n cut ∷ [] else (putting_out t g skipped members).acts k)
-      two k true = one k (is_put_out t g skipped members k) ∙ none_more ((putting_out t g skipped members).acts k) (Entered g n cut) refl
+      two k true = with_act (left.process k) (left.acts k) (Entered g n cut) refl (one k (is_put_out t g skipped members k))
       two k false = one k (is_put_out t g skipped members k)
 
   kept_listed : Kept IsListed Any (is_home history s)
@@ -133,15 +142,18 @@ module _ (s : State) where
         let m : Message = next_message t g k content in (
           l.0,
           l.1,
-          with_one t l k (record (t.process k) { time = m.times }) (t.acts k ++ Sent m ∷ []) (l.2 k ∙ none_more (t.acts k) (Sent m) refl),
+          with_one t l k (record (t.process k) { time = m.times }) (t.acts k ++ Sent m ∷ [])
+              (with_act (t.process k) (t.acts k) (Sent m) refl (l.2 k)),
         );
     receives = λ t from m l came view member. l;
     delivers = λ t k m l c ready. (
       l.0,
       l.1,
       with_one t l k (record (t.process k) { time = join (t.process k).time m.times; delivered = (t.process k).delivered ++ m.id ∷ [] })
-          (t.acts k ++ Delivered m ∷ [])
-          (ap (λ us. us ++ m.id ∷ []) (l.2 k) ∙ sym (delivered_append (t.acts k) (Delivered m ∷ []))),
+          (t.acts k ++ Delivered m ∷ []) (
+            ap (λ us. us ++ m.id ∷ []) (l.2 k).0 ∙ sym (delivered_append (t.acts k) (Delivered m ∷ [])),
+            apart_more (t.process k).delivered m.id (l.2 k).1 (ready_new t.config.groups (gate_of t) (turn_of t k) (t.process k) m ready),
+          ),
     );
     freezes = λ t g l current. l;
     pends = λ t from g p tail l came current. l;
@@ -150,20 +162,20 @@ module _ (s : State) where
   }
 
   step_listed : (e : Event) (answer : Taken) (t : State) → IsStep s e answer t →
-      ((k : ℕ) → (s.process k).delivered ≡ delivered_by (s.acts k)) → (k : ℕ) → (t.process k).delivered ≡ delivered_by (t.acts k)
+      ((k : ℕ) → Fit (s.process k) (s.acts k)) → (k : ℕ) → Fit (t.process k) (t.acts k)
   step_listed e answer t is before = (rests_keeps IsListed Any (is_home history s) kept_listed (after_event s e) t is.rests
       (after_event_keeps IsListed Any (is_home history s) kept_listed s e (refl, refl, before) (any_came e))).2
 
 -- Every run
 
-abbrev EachListed : Network → Type 0
-EachListed w = (s : SiteNo) (k : ℕ) → ((w.at s).process k).delivered ≡ delivered_by ((w.at s).acts k)
+abbrev pub EachListed : Network → Type 0
+EachListed w = (s : SiteNo) (k : ℕ) → Fit ((w.at s).process k) ((w.at s).acts k)
 
 moves_listed : (w v : Network) (step : Step) → Happens w step v → EachListed w → EachListed v
 moves_listed w v step happens all = go (event_of w step) happens
   where
-    after_it : (t : State) → ((k : ℕ) → (t.process k).delivered ≡ delivered_by (t.acts k)) → (s : SiteNo) (k : ℕ) (b : Bool) →
-        ((if b then t else w.at s).process k).delivered ≡ delivered_by ((if b then t else w.at s).acts k)
+    after_it : (t : State) → ((k : ℕ) → Fit (t.process k) (t.acts k)) → (s : SiteNo) (k : ℕ) (b : Bool) →
+        Fit ((if b then t else w.at s).process k) ((if b then t else w.at s).acts k)
     after_it t listed s k true = listed k
     after_it t listed s k false = all s k
 
@@ -177,8 +189,12 @@ leads_listed : (steps : List Step) (w v : Network) → Leads w steps v → EachL
 leads_listed [] w v same all = subst EachListed (sym same) all
 leads_listed (step ∷ steps) w v (u, one, more) all = leads_listed steps u v more (moves_listed w u step one all)
 
+pub listed_in_every : (sites : List SiteNo) (config : SiteNo → DomainConfig) (steps : List Step) (w : Network) →
+    Reaches sites config steps w → EachListed w
+listed_in_every sites config steps w r = leads_listed steps (start sites config) w r.leads (λ s k. (refl, tt))
+
 pub lists_are_acts : AllListsAreActs
-lists_are_acts sites config steps w r p = leads_listed steps (start sites config) w r.leads (λ s k. refl) p.site p.serial
+lists_are_acts sites config steps w r p = (listed_in_every sites config steps w r p.site p.serial).0
 
 -- what stands before another thing among the acts stands before it in the list
 listed_before : (acts : List Act) (x m : Message) → StandsBefore acts (Delivered x) (Delivered m) → IsBefore (delivered_by acts) x.id m.id

@@ -16,12 +16,13 @@ use Rattle.cast_types.specs.declared.names.GroupNo.{GroupNo}
 use Rattle.cast_types.specs.declared.names.Proc.{Proc}
 use Rattle.cast_types.specs.declared.names.Standing.{Standing}
 use Rattle.cast_types.specs.declared.names.Standing.TheVariants.{Joining, Member, Outside}
-use Rattle.cast_world.proofs.Facts.{ActWell, DeliveredWell, Fits, IsAllowed, IsIn, IsSorted}
+use Rattle.cast_world.proofs.Facts.{ActWell, DeliveredWell, Fits, IsAllowed, IsSorted}
 use Rattle.cast_world.proofs.Lists.{done_delivered, done_entered, done_left, done_sent, each_more}
 use Rattle.cast_world.proofs.Lists.{entered_same, has_more, is_in_less, is_in_message, left_not_entered}
 use Rattle.cast_world.proofs.Times.{Once, below_bumped, below_entering, below_join, below_view, bumped_covers}
 use Rattle.cast_world.proofs.Times.{bumped_view, entered_view, join_covers, other_view, view_join}
 use Rattle.cast_world.specs.Laws.{Below, Covers}
+use Rattle.cast_world.specs.Properties.{IsIn}
 
 is_outside_of : Standing → Bool
 is_outside_of Outside = true

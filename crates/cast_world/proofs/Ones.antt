@@ -17,13 +17,14 @@ use Rattle.cast_types.specs.declared.names.SiteNo.{SiteNo}
 use Rattle.cast_types.specs.declared.names.Standing.{Standing}
 use Rattle.cast_types.specs.declared.names.Standing.TheVariants.{Joining, Member, Outside}
 use Rattle.cast_view.specs.MemberSide.{MemberSide, has_view}
-use Rattle.cast_world.proofs.Facts.{IsAllowed, IsIn, IsSorted}
+use Rattle.cast_world.proofs.Facts.{IsAllowed, IsSorted}
 use Rattle.cast_world.proofs.Invariants.{Ahead, IsDecided, Known, OneHolds, Sites, WasSent}
 use Rattle.cast_world.proofs.Lists.{before_delivered, before_entered, before_left, before_sent}
 use Rattle.cast_world.proofs.Local.{cases_group, delivering_fits, entering_fits, joining_fits, leaving_fits}
 use Rattle.cast_world.proofs.Local.{not_joining, not_member_fits, outside_not_joining, sending_fits, view_kept}
 use Rattle.cast_world.proofs.Times.{bumped_sorted, bumped_view, entered_sorted, entered_view}
 use Rattle.cast_world.proofs.Times.{joined_sorted, other_view, sorted_once, view_join}
+use Rattle.cast_world.specs.Properties.{IsIn}
 
 pub set_here : {V : Type 0} (f : GroupNo → V) (g : GroupNo) (v : V) (h : GroupNo) → g ≡ h → set_at group_eq f g v h ≡ v
 set_here f g v h e = ap (λ b. if b then v else f h) (eq-eqb g.0 h.0 (ap (λ (k : GroupNo). k.0) e))

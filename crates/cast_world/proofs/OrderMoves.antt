@@ -24,7 +24,7 @@ use Rattle.cast_types.specs.declared.names.Standing.TheVariants.{Member}
 use Rattle.cast_types.specs.declared.names.Uid.{Uid}
 use Rattle.cast_view.specs.MemberSide.{is_pending, is_process}
 use Rattle.cast_world.proofs.Acts.{contains_here}
-use Rattle.cast_world.proofs.Allowed.{found_among, ready_allowed}
+use Rattle.cast_world.proofs.Allowed.{found_among, ready_allowed, ready_new}
 use Rattle.cast_world.proofs.Facts.{IsAllowed}
 use Rattle.cast_world.proofs.Flush.{Choice, numbers}
 use Rattle.cast_world.proofs.FlushSteps.{Flushing, own_agrees}
@@ -124,20 +124,14 @@ module _ (home : SiteNo) (w : Network) (a : SiteNo) where
       abbrev done : List Entry
       done = done_in g v (t.abcasts k)
 
-      not_had : not (has_delivered (t.process k) m.id) ≡ true
-      not_had =
-          let parts = and_parts (is_causally_ready t.config.groups (gate_of t) (t.process k) m) _ ready in
-          let b = and_parts (is_member ((t.process k).standing g)) _ parts.0 in
-          let n = and_parts (m.id.view == v) _ b.1 in
-          let o = and_parts (is_open_to (gate_of t g) (entry_of m.id)) _ n.1 in
-          (and_parts (not (has_delivered (t.process k) m.id)) _ o.1).0
+      not_had : Contains (t.process k).delivered m.id → ⊥
+      not_had = ready_new t.config.groups (gate_of t) (turn_of t k) (t.process k) m ready
 
       is_new : Contains (t.abcasts k) m.id → ⊥
-      is_new c = true≢false (sym not_had ∙ ap not (abcast_had k m.id c).5)
+      is_new c = not_had (found_among m.id (t.process k).delivered (abcast_had k m.id c).5)
 
       never_did : Contains (t.acts k) (Delivered m) → ⊥
-      never_did did =
-          true≢false (sym not_had ∙ ap not (uid_among (t.process k).delivered m.id (((own_agrees home w a t choice f).ones k).has m did)))
+      never_did did = not_had (((own_agrees home w a t choice f).ones k).has m did)
 
       pub is_member_here : (t.process k).standing g ≡ Member
       is_member_here =

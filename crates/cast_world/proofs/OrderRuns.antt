@@ -22,7 +22,6 @@ use Rattle.cast_types.specs.declared.names.SiteNo.{SiteNo}
 use Rattle.cast_types.specs.declared.names.Standing.TheVariants.{Member}
 use Rattle.cast_world.proofs.Acts.{does, does_not, enters}
 use Rattle.cast_world.proofs.Events.{after_event_keeps, rests_keeps}
-use Rattle.cast_world.proofs.Facts.{IsIn, NeverEntered}
 use Rattle.cast_world.proofs.Flush.{Choice, numbers}
 use Rattle.cast_world.proofs.FlushRuns.{AllAgree, flush_first, flush_last, no_choice, same_number, start_agrees}
 use Rattle.cast_world.proofs.Ones.{outside_not_member}
@@ -39,6 +38,7 @@ use Rattle.cast_world.specs.Agreement.{IsPrefix, IsWithin, abcasts_in, abcasts_o
 use Rattle.cast_world.specs.HappenedBefore.{NeverLeft, acts_of}
 use Rattle.cast_world.specs.Laws.{AllOrdersAgree}
 use Rattle.cast_world.specs.Network.{Becomes, Happens, Leads, Network, Reaches, event_of, move_site, start}
+use Rattle.cast_world.specs.Properties.{IsIn, NeverEntered}
 use Rattle.cast_world.specs.declared.step.Step.{Step}
 
 -- networks with all that holds

@@ -21,7 +21,7 @@ use Rattle.cast_world.proofs.Acts.{contains_around, contains_here, entered_other
 use Rattle.cast_world.proofs.Allowed.{contains_kept, passed}
 use Rattle.cast_world.proofs.Cuts.{delivered_within}
 use Rattle.cast_world.proofs.Events.{after_event_keeps, rests_keeps}
-use Rattle.cast_world.proofs.Facts.{Facts, IsIn}
+use Rattle.cast_world.proofs.Facts.{Facts}
 use Rattle.cast_world.proofs.FlushRuns.{AllKept, kept_in_every, passes_with_cut}
 use Rattle.cast_world.proofs.Homes.{among_kept}
 use Rattle.cast_world.proofs.Lists.{contains_split, entered_same, never_nil}
@@ -33,6 +33,7 @@ use Rattle.cast_world.specs.Agreement.{Passes, delivered_of, of_view}
 use Rattle.cast_world.specs.HappenedBefore.{NeverLeft, acts_of}
 use Rattle.cast_world.specs.Laws.{AllDeliverTheSame, PassesWithCut, SameMessages}
 use Rattle.cast_world.specs.Network.{Becomes, Happens, Leads, Network, Reaches, event_of, start}
+use Rattle.cast_world.specs.Properties.{IsIn}
 use Rattle.cast_world.specs.declared.step.Step.{Step}
 
 -- Every run

@@ -1,4 +1,4 @@
--- A process delivers messages of the views that it is in, and its views rise.
+-- A process sends and delivers messages of the views that it is in, and its views rise.
 use Rattle.std.proofs.Common.{ap, append_assoc, arith, inl, inr, subst, sym, ◌∙◌}
 use Rattle.std.proofs.lemmas.Bool.{and_parts, eqb-true}
 use Rattle.std.proofs.lemmas.List.Elements.{Contains-push_cases}
@@ -22,7 +22,7 @@ use Rattle.cast_types.specs.declared.names.SiteNo.{SiteNo}
 use Rattle.cast_types.specs.declared.names.Standing.{Standing}
 use Rattle.cast_types.specs.declared.names.Standing.TheVariants.{Joining, Member, Outside}
 use Rattle.cast_world.proofs.Allowed.{ready_allowed}
-use Rattle.cast_world.proofs.Facts.{Each, IsIn}
+use Rattle.cast_world.proofs.Facts.{Each}
 use Rattle.cast_world.proofs.Kept.{Kept}
 use Rattle.cast_world.proofs.Laters.{later_same, set_all, set_both}
 use Rattle.cast_world.proofs.Lists.{each_more, entered_same, entry_delivered, entry_left, entry_sent}
@@ -34,9 +34,10 @@ use Rattle.cast_world.proofs.Steps.{Arrived, Now, kept_now, next_of, own_holds, 
 use Rattle.cast_world.proofs.Times.{below_join, below_view, bumped_view, entered_view, other_view}
 use Rattle.cast_world.proofs.Views.{passing_above}
 use Rattle.cast_world.specs.Network.{Network}
+use Rattle.cast_world.specs.Properties.{IsIn}
 
 abbrev pub SeenWell : List Act → Act → Type 0
-SeenWell a (Sent m) = Unit {0}
+SeenWell a (Sent m) = IsIn a m.id.group m.id.view
 SeenWell a (Delivered m) = IsIn a m.id.group m.id.view
 SeenWell a (Entered g n cut) = (v : ℕ) (c : CountList) → Contains a (Entered g v c) → v < n
 SeenWell a (Left g) = Unit {0}
@@ -122,11 +123,12 @@ module _ (p : Process) (acts : List Act) (o : OneSeen p.time p.standing acts) wh
     seen = o.seen;
   }
 
-  seen_sent : (m : Message) → ((h : GroupNo) → view_of m.times h ≡ view_of p.time h) → OneSeen m.times p.standing (acts ++ Sent m ∷ [])
-  seen_sent m same = record {
+  seen_sent : (m : Message) → ((h : GroupNo) → view_of m.times h ≡ view_of p.time h) → p.standing m.id.group ≡ Member →
+      view_of p.time m.id.group ≡ m.id.view → OneSeen m.times p.standing (acts ++ Sent m ∷ [])
+  seen_sent m same member view = record {
     inside = λ h is. subst (λ v. IsIn (acts ++ Sent m ∷ []) h v) (sym (same h)) (in_sent acts m h (view_of p.time h) (o.inside h is));
     reached = λ h v cut at. let was = o.reached h v cut (entry_sent acts m h v cut at) in let is = same h in omega (arith, was, is);
-    seen = each_more SeenWell acts (Sent m) o.seen tt;
+    seen = each_more SeenWell acts (Sent m) o.seen (subst (λ v. IsIn acts m.id.group v) view (o.inside m.id.group member));
   }
 
   seen_delivers : (m : Message) → ((h : GroupNo) → p.standing h ≡ Member → view_of (join p.time m.times) h ≡ view_of p.time h) →
@@ -258,7 +260,9 @@ module _ (home : SiteNo) (w : Network) (a : SiteNo) where
       k.sends t g n content i.0 member may,
       changed t i.1 n (record (t.process n) { time = (next_message t g n content).times })
           (t.acts n ++ Sent (next_message t g n content) ∷ [])
-          (seen_sent (t.process n) (t.acts n) (i.1 n) (next_message t g n content) (λ h. bumped_view (t.process n).time g (local t n) h)),
+          (let is : (t.process n).standing g ≡ Member = member_is _ member in
+          seen_sent (t.process n) (t.acts n) (i.1 n) (next_message t g n content) (λ h. bumped_view (t.process n).time g (local t n) h)
+          is (sym (((own_holds home w a t i.0).ones n).member g is).0)),
     );
     receives = λ t from m i came view member. (k.receives t from m i.0 came view member, i.1);
     delivers = λ t n m i c ready. (

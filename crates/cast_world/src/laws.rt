@@ -5,6 +5,10 @@ ghost use Rattle.cast_world.specs.Laws.{AllJoinsGoForward, AllListsAreActs, AllL
 ghost use Rattle.cast_world.specs.Laws.{AllNamesAreUnique, AllOrdersAgree, AllPassWithCut};
 ghost use Rattle.cast_world.specs.Laws.{AllPushesAreActs, AllStampsRise, AllStampsRiseStrictly};
 ghost use Rattle.cast_world.specs.Laws.{AllStartsAreKnown, AllViewsAreDecided, CausalDelivery};
+ghost use Rattle.cast_world.specs.Properties.{AllDeliverCausally, AllDeliverFirstInFirstOut};
+ghost use Rattle.cast_world.specs.Properties.{AllDeliverInSendingView, AllDeliverInView};
+ghost use Rattle.cast_world.specs.Properties.{AllDeliverOnce, AllEnterAsMembers, AllInstallsAgree};
+ghost use Rattle.cast_world.specs.Properties.{AllSendInView, AllViewsRise};
 ghost use Rattle.cast_world.specs.Worlds.{AllAnswersAreLists, AllRunsAreNetworks, AllTellInOrder};
 ghost use Rattle.cast_world.specs.Worlds.{AllTellOneOrder, AllTellTheSame, AllToldOrdersAgree};
 
@@ -14,6 +18,39 @@ ghost use Rattle.cast_world.specs.Worlds.{AllTellOneOrder, AllTellTheSame, AllTo
 pub fn causal_delivery()
     ensures acts { CausalDelivery }
     ensures listed { AllListsAreInOrder }
+{}
+
+/// Causal delivery: who delivers a message and one that happened before it delivers that one first,
+/// whichever groups they are of. FIFO delivery: who delivers two messages of one sender delivers
+/// them in the order in which they were sent.
+pub fn deliveries_keep_order()
+    ensures causal { AllDeliverCausally }
+    ensures first_in_first_out { AllDeliverFirstInFirstOut }
+{}
+
+/// No duplication: no process delivers two messages of one id, nor one twice.
+pub fn no_duplication()
+    ensures { AllDeliverOnce }
+{}
+
+/// Sending view delivery: who sends a message, and who delivers it, is then in the view that the
+/// message names. So a message that is delivered in a view was sent by its sender in that view.
+pub fn messages_keep_to_views()
+    ensures sent { AllSendInView }
+    ensures delivered { AllDeliverInView }
+    ensures sending_view { AllDeliverInSendingView }
+{}
+
+/// Local monotonicity: the views of a group that a process enters rise.
+pub fn views_rise()
+    ensures { AllViewsRise }
+{}
+
+/// Self inclusion: each Install of a view names as a member whoever enters the view. And all
+/// Installs of a view name the same members, and the same process to tell its order first.
+pub fn views_have_one_membership()
+    ensures self_inclusion { AllEnterAsMembers }
+    ensures same { AllInstallsAgree }
 {}
 
 /// What a process delivered is, in order, what its acts say that it delivered; and the ABCASTs that

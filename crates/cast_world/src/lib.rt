@@ -17,6 +17,16 @@
 //!   `laws::stamps_rise`. View numbers in times and stamps were decided at the home before:
 //!   `laws::views_are_decided`. A joining process enters a view above the one that it had heard of:
 //!   `laws::joins_go_forward`.
+//! - Causal and FIFO delivery: who delivers two messages, of which one happened before the other or
+//!   was sent before it by the same process, delivers that one first: `laws::deliveries_keep_order`
+//!   (`causal`, `first_in_first_out`). No duplication: no process delivers two messages of one id:
+//!   `laws::no_duplication`.
+//! - Sending view delivery: who sends a message, and who delivers it, is then in the view that the
+//!   message names: `laws::messages_keep_to_views` (`sent`, `delivered`, `sending_view`).
+//! - Local monotonicity: the views of a group that a process enters rise: `laws::views_rise`. Self
+//!   inclusion: each Install of a view names as a member whoever enters the view; and all Installs
+//!   of a view name the same members and holder: `laws::views_have_one_membership`
+//!   (`self_inclusion`, `same`).
 //! - No process sends two messages of one name; what is delivered was sent by its sender:
 //!   `laws::{names_are_unique, deliveries_were_sent}`.
 //! - Whoever forges frames, a domain keeps few messages: `laws::what_is_kept_is_bounded`. After any
