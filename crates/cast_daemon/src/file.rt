@@ -51,7 +51,7 @@ fn setup_of<R: Files + AllocGlobal, E: Write>(
 pub fn serve_file<R, B, W, E, G, K>(
     rt: &R,
     name: &str,
-    keys: Option<&str>,
+    keys: Option<String>,
     site: SiteNo,
     workers: u8,
     record: Option<K>,

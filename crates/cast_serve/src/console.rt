@@ -1,5 +1,6 @@
 //! The operator's lines.
 use crate::keys::KeyFile;
+use cast_config::Setup;
 use cast_shared::{Instruction, Reply, Shared, SharedTable};
 use crossbeam_channel::Sender;
 use std::alloc::Global;
@@ -22,7 +23,8 @@ fn answer_line<T: SharedTable, R: Wait + Files, W: Write>(
     rt: &R,
     shared: &Shared<'_, T>,
     share: &mut T::Share,
-    keys: &KeyFile<'_>,
+    setup: &Setup,
+    keys: &KeyFile,
     line: Option<&str>,
     dones: &Sender<T::Done>,
     out: &mut W,
@@ -46,7 +48,7 @@ fn answer_line<T: SharedTable, R: Wait + Files, W: Write>(
         shared.desk.lock(rt).retire(rt, domain);
     }
     if instruction == Some(Instruction::Keys)
-        && let Err(why) = keys.take(rt, shared.alloc)
+        && let Err(why) = keys.take(rt, shared.alloc, setup, shared.keyrings)
     {
         say(&why, out);
         return false;
@@ -99,7 +101,8 @@ pub fn run_console<T: SharedTable, R: Wait + Clock + Files, B: BufRead + Drop, W
     rt: &R,
     shared: &Shared<'_, T>,
     share: T::Share,
-    keys: &KeyFile<'_>,
+    setup: &Setup,
+    keys: &KeyFile,
     console: B,
     dones: Sender<T::Done>,
     out: &mut W,
@@ -114,6 +117,7 @@ pub fn run_console<T: SharedTable, R: Wait + Clock + Files, B: BufRead + Drop, W
                     rt,
                     shared,
                     &mut share,
+                    setup,
                     keys,
                     text_of(line.as_slice()),
                     &dones,

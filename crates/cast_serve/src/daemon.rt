@@ -188,7 +188,8 @@ struct Ends<D> {
 struct Ground<'a, T: SharedTable> {
     shared: Shared<'a, T>,
     sockets: &'a Sockets,
-    keys: &'a KeyFile<'a>,
+    setup: &'a Setup,
+    keys: &'a KeyFile,
 }
 
 // A share of the count for a thread.
@@ -355,7 +356,16 @@ where
     let ended = match started {
         Ok(dones) => match share_of(rt, &ground.shared) {
             Ok(share) => {
-                run_console(rt, &ground.shared, share, ground.keys, console, dones, out);
+                run_console(
+                    rt,
+                    &ground.shared,
+                    share,
+                    ground.setup,
+                    ground.keys,
+                    console,
+                    dones,
+                    out,
+                );
                 Ok(())
             }
             Err(error) => Err(error),
@@ -474,7 +484,7 @@ fn run<T, R, B, W, E, K>(
     workers: u8,
     sockets: &Sockets,
     keyrings: &Keyrings,
-    keys: &KeyFile<'_>,
+    keys: &KeyFile,
     console: B,
     out: &mut W,
     log: E,
@@ -530,6 +540,7 @@ where
             bundle: bundle_of(setup),
         },
         sockets,
+        setup,
         keys,
     };
     report_plain(rt, &ground.shared);
@@ -644,7 +655,7 @@ pub fn serve<T, R, B, W, E, G, K>(
     rt: &R,
     alloc: Global,
     setup: &Setup,
-    keys: Option<&str>,
+    keys: Option<String>,
     table: &T,
     tape: &Tape,
     workers: u8,
@@ -669,8 +680,8 @@ where
     let Ok(keyrings) = Keyrings::new(alloc) else {
         return end_unsealed(err, NoKeys::NoMemory);
     };
-    let keys = KeyFile::new(setup, keys, &keyrings);
-    let drawn = match keys.take_first(rt, alloc) {
+    let keys = KeyFile { name: keys };
+    let drawn = match keys.take_first(rt, alloc, setup, &keyrings) {
         Ok(drawn) => drawn,
         Err(why) => return end_unsealed(err, why),
     };

@@ -54,33 +54,28 @@ impl Display for NoKeys<'_> {
     }
 }
 
-/// Where the keys of a daemon are, and what takes them.
+/// Where the keys of a daemon are.
 #[derive(Drop)]
-pub struct KeyFile<'a> {
-    setup: &'a Setup,
-    // `None` if it was given no keys.
-    name: Option<&'a str>,
-    keyrings: &'a Keyrings,
+pub struct KeyFile {
+    /// The name of the file. `None` if the daemon was given no keys.
+    pub name: Option<String>,
 }
 
-impl<'a> KeyFile<'a> {
-    /// The keys in the file of this name, if one is named. None is read yet.
-    pub fn new(setup: &'a Setup, name: Option<&'a str>, keyrings: &'a Keyrings) -> Self {
-        KeyFile {
-            setup,
-            name,
-            keyrings,
-        }
-    }
-
-    /// Reads the keys, and has the daemon take them in place of those that it has. Where there is a
-    /// fault, it goes on with these.
-    pub fn take<R: Files + Wait>(&self, rt: &R, alloc: Global) -> Result<(), NoKeys<'a>> {
-        let keys = match self.name {
-            Some(name) => keys_in(rt, alloc, name)?,
+impl KeyFile {
+    /// Reads the keys, and has the daemon of this set-up take them in place of those that it has.
+    /// Where there is a fault, it goes on with these.
+    pub fn take<'a, R: Files + Wait>(
+        &'a self,
+        rt: &R,
+        alloc: Global,
+        setup: &'a Setup,
+        keyrings: &Keyrings,
+    ) -> Result<(), NoKeys<'a>> {
+        let keys = match &self.name {
+            Some(name) => keys_in(rt, alloc, name.as_str())?,
             None => List::new(alloc),
         };
-        match self.keyrings.take(rt, alloc, self.setup, keys.as_slice()) {
+        match keyrings.take(rt, alloc, setup, keys.as_slice()) {
             Ok(()) => Ok(()),
             Err(KeysFault::Missing(address)) => Err(NoKeys::Missing(address)),
             Err(KeysFault::TooMany(address)) => Err(NoKeys::TooMany(address)),
@@ -90,14 +85,16 @@ impl<'a> KeyFile<'a> {
 
     /// Takes the keys when the daemon starts. Gives a number that no other daemon of the site drew,
     /// if the site is sealed.
-    pub fn take_first<R: Files + RandomSource + Wait>(
-        &self,
+    pub fn take_first<'a, R: Files + RandomSource + Wait>(
+        &'a self,
         rt: &R,
         alloc: Global,
+        setup: &'a Setup,
+        keyrings: &Keyrings,
     ) -> Result<u64, NoKeys<'a>> {
-        self.take(rt, alloc)?;
+        self.take(rt, alloc, setup, keyrings)?;
         let mut bytes = [0u8; 8];
-        if are_sealed(self.setup, self.setup.config.site) && rt.fill_bytes(&mut bytes).is_err() {
+        if are_sealed(setup, setup.config.site) && rt.fill_bytes(&mut bytes).is_err() {
             return Err(NoKeys::NotDrawn);
         }
         Ok(u64::from_be_bytes(bytes))

@@ -59,7 +59,7 @@ fn main(rt: HostRuntime) -> ExitCode {
             Ok(folder) => serve_file(
                 &rt,
                 &config,
-                keys.as_deref(),
+                keys,
                 site,
                 workers,
                 folder,
