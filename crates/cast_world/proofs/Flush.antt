@@ -97,8 +97,7 @@ pub record OneAgrees (choice : Choice) (number : GroupNo → ℕ) (here : SiteNo
   pub has : (m : Message) → Contains acts (Delivered m) → Contains delivered m.id
   pub given : (m : Message) → Contains acts (Delivered m) → (1 ≤ k) × (k ≤ used)
   pub sender : (m : Message) → Contains acts (Delivered m) → IsMembers choice number m.id
-  pub entered : (g : GroupNo) (n : ℕ) (cut : CountList) → Contains acts (Entered g n cut) →
-      (n ≤ number g) × (cut ≡ (choice g n).cut) × IsChosen choice g n (record { site = here; serial = k })
+  pub entered : (g : GroupNo) (n : ℕ) (cut : CountList) → Contains acts (Entered g n cut) → (n ≤ number g) × (cut ≡ (choice g n).cut)
   pub cuts : Each CutWell acts
 
 -- a home's members and decision are those that were chosen, it awaits whom it must, and its reports were told

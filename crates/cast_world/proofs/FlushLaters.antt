@@ -1,7 +1,7 @@
 -- What holds of flushes still holds when others have moved and the home has decided more.
 use Rattle.std.proofs.Common.{ap, arith, inl, inr, subst, sym, ◌∙◌}
 use Rattle.std.specs.Prelude.{◌+◌, Contains, IsTrue, refl, ℕ, ◌≡◌, ◌≤◌}
-use Rattle.cast_rules.specs.State.{State, local}
+use Rattle.cast_rules.specs.State.{State}
 use Rattle.cast_message.specs.declared.site.SiteFrame.{SiteFrame}
 use Rattle.cast_types.specs.Counts.{CountList, is_within}
 use Rattle.cast_types.specs.Names.{entry_of}
@@ -84,11 +84,8 @@ module _ (home : SiteNo) (choice more : Choice) (at next : Sites) (ext : Extends
       has = (y.ones k).has;
       given = (y.ones k).given;
       sender = λ m c. members_later m.id ((y.ones k).sender m c);
-      entered = λ g n cut c. let was = (y.ones k).entered g n cut c in let same = sym ((ext g).1 n was.0) in (
-        (let up = (ext g).0 in let low = was.0 in omega (arith, up, low)),
-        was.1 ∙ ap (λ (z : Chosen). z.cut) same,
-        subst (λ (z : Chosen). Contains z.members.list (local t k)) same was.2,
-      );
+      entered = λ g n cut c. let was = (y.ones k).entered g n cut c in
+          ((let up = (ext g).0 in let low = was.0 in omega (arith, up, low)), was.1 ∙ ap (λ (z : Chosen). z.cut) (sym ((ext g).1 n was.0)));
       cuts = (y.ones k).cuts;
     };
     homes = λ g. let same = (ext g).1 (t.home g).number (x.homes g).number in record {

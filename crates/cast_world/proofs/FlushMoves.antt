@@ -18,7 +18,7 @@ use Rattle.cast_types.specs.declared.names.Standing.{Standing}
 use Rattle.cast_types.specs.declared.names.Standing.TheVariants.{Member}
 use Rattle.cast_types.specs.declared.names.Uid.{Uid}
 use Rattle.cast_view.specs.MemberSide.{MemberSide, members_of, with_view}
-use Rattle.cast_world.proofs.Flush.{Choice, CutWell, IsChosen, IsMembers, OneAgrees, Told}
+use Rattle.cast_world.proofs.Flush.{Choice, CutWell, IsMembers, OneAgrees, Told}
 use Rattle.cast_world.proofs.Laters.{set_all, set_group_all}
 use Rattle.cast_world.proofs.Lists.{before_delivered, before_entered, before_left, before_sent, each_more}
 use Rattle.cast_world.proofs.Lists.{entered_same, entry_delivered, entry_left, entry_sent, same_cut}
@@ -216,10 +216,9 @@ module _ (choice : Choice) (number : GroupNo → ℕ) (here : SiteNo) (used : �
     cuts = each_more CutWell acts (Delivered m) o.cuts tt;
   }
 
-  pub agree_entered : (g : GroupNo) (n : ℕ) (cut : CountList) → n ≤ number g → cut ≡ (choice g n).cut →
-      IsChosen choice g n (record { site = here; serial = k }) → CutWell acts (Entered g n cut) →
+  pub agree_entered : (g : GroupNo) (n : ℕ) (cut : CountList) → n ≤ number g → cut ≡ (choice g n).cut → CutWell acts (Entered g n cut) →
       Next group standing delivered (acts ++ Entered g n cut ∷ [])
-  agree_entered g n cut low same chosen well = record {
+  agree_entered g n cut low same well = record {
     listed = o.listed;
     has = λ y at. o.has y (before_entered acts g n cut y at);
     given = λ y at. o.given y (before_entered acts g n cut y at);
@@ -230,8 +229,6 @@ module _ (choice : Choice) (number : GroupNo → ℕ) (here : SiteNo) (used : �
           let is = entered_same g h n v cut other new in (
             subst (λ x. v ≤ number x) is.0 (subst (λ y. y ≤ number g) is.1 low),
             sym (same_cut g h n v cut other new) ∙ same ∙ ap (λ x. (choice x n).cut) is.0 ∙ ap (λ y. (choice h y).cut) is.1,
-            subst (λ x. IsChosen choice x v (record { site = here; serial = k })) is.0
-                (subst (λ y. IsChosen choice g y (record { site = here; serial = k })) is.1 chosen),
           )
     ];
     cuts = each_more CutWell acts (Entered g n cut) o.cuts well;

@@ -363,20 +363,13 @@ module _ (choice : Choice) (at : Sites) (home s : SiteNo) (t : State) (x : SiteH
             sender = (y.ones k).sender;
             entered = (y.ones k).entered;
             cuts = (y.ones k).cuts;
-          } g n cut decided (well k e).0 (subst (λ (m : Membership). Contains m.list (local t k)) (chosen members (sym seen_here)) named)
-          (well k e).1
+          } g n cut decided (well k e).0 (well k e).1
         where
-          among : is_among proc_eq (local t k) members.list ≡ true
-          among = (and_parts _ (is_among proc_eq (local t k) members.list) e).1
-
-          named : Contains members.list (local t k)
-          named = proc_among members.list (local t k) among
-
-          seen_here : Some members ≡ local_view t.here members
-          seen_here = ap (λ b. if b then Some members else None) (sym (at_site t.here k members.list among))
-
           listed_now : Contains (members_of side) (local t k)
-          listed_now = subst (λ v. Contains (members_of (with_end (t.group g) n v)) (local t k)) seen_here named
+          listed_now =
+              subst (λ b. Contains (members_of (with_end (t.group g) n (if b then Some members else None))) (local t k))
+              (sym (at_site t.here k members.list (and_parts _ (is_among proc_eq (local t k) members.list) e).1))
+              (proc_among members.list (local t k) (and_parts _ (is_among proc_eq (local t k) members.list) e).1)
 
       go_in : (k : ℕ) (b : Bool) → enters t g members request k ≡ b →
           One next k (if b then in_view g n (t.process k) else t.process k) (if b then t.acts k ++ Entered g n cut ∷ [] else t.acts k)

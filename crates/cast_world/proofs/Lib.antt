@@ -71,4 +71,5 @@ pub mod Singles
 pub mod Counted
 pub mod ListsAreActs
 pub mod Told
+pub mod Installs
 pub mod Properties

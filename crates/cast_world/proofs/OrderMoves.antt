@@ -5,8 +5,8 @@ use Rattle.std.proofs.lemmas.Bool.{and_parts, cases_lt, eq-eqb, eqb-true, false_
 use Rattle.std.proofs.lemmas.List.{append-nil, length-append, length_push}
 use Rattle.std.proofs.lemmas.List.Elements.{Contains-push}
 use Rattle.std.specs.Prelude.{◌&&◌, ◌+◌, ◌++◌, ◌==◌, Contains, List, Option, Some, [], false}
-use Rattle.std.specs.Prelude.{if◌then◌else◌, is_some, length, not, refl, true, unwrap_or, ℕ, ◌∷◌, ◌≡◌, ◌≤◌}
-use Rattle.cast_ready.specs.Ready.{has_delivered, is_causally_ready, is_member, is_open_to}
+use Rattle.std.specs.Prelude.{if◌then◌else◌, is_some, length, refl, true, unwrap_or, ℕ, ◌∷◌, ◌≡◌, ◌≤◌}
+use Rattle.cast_ready.specs.Ready.{has_delivered, is_causally_ready, is_member}
 use Rattle.cast_rules.specs.Acts.Act.{Delivered, Sent}
 use Rattle.cast_rules.specs.Noted.{abcasts_by}
 use Rattle.cast_rules.specs.Order.{order_of, told_by, token_told}

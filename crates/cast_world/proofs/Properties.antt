@@ -8,34 +8,32 @@ use Rattle.cast_rules.specs.Acts.Act.{Delivered, Entered, Sent}
 use Rattle.cast_rules.specs.Noted.{delivered_by}
 use Rattle.cast_message.specs.Membership.{Membership}
 use Rattle.cast_message.specs.declared.message.Message.{Message}
-use Rattle.cast_events.specs.declared.config.DomainConfig.{DomainConfig}
 use Rattle.cast_types.specs.Counts.{CountList}
 use Rattle.cast_types.specs.declared.names.GroupNo.{GroupNo}
 use Rattle.cast_types.specs.declared.names.Proc.{Proc}
 use Rattle.cast_types.specs.declared.names.SiteNo.{SiteNo}
-use Rattle.cast_types.specs.declared.names.Uid.{Uid}
 use Rattle.cast_world.proofs.Acts.{contains_around, contains_cons, contains_here, entered_other}
 use Rattle.cast_world.proofs.Allowed.{contains_more}
 use Rattle.cast_world.proofs.Cuts.{fact}
 use Rattle.cast_world.proofs.Derivation.{first_source, risen, stands, too_late}
 use Rattle.cast_world.proofs.Facts.{Each, Facts}
-use Rattle.cast_world.proofs.Flush.{IsChosen}
 use Rattle.cast_world.proofs.FlushRuns.{AllKept, kept_in_every}
+use Rattle.cast_world.proofs.Installs.{by_install, entered_in_every}
 use Rattle.cast_world.proofs.Lists.{contains_split, delivered_same, entered_same, is_in_less}
 use Rattle.cast_world.proofs.ListsAreActs.{EachListed, delivered_append, listed_in_every}
 use Rattle.cast_world.proofs.Orders.{Apart}
 use Rattle.cast_world.proofs.Prefixes.{apart_both}
+use Rattle.cast_world.proofs.Runs.{holds_in_every}
 use Rattle.cast_world.proofs.Same.{EachSeen, seen_in_every}
 use Rattle.cast_world.proofs.Seen.{SeenWell}
-use Rattle.cast_world.specs.Agreement.{WasInstalled}
-use Rattle.cast_world.specs.HappenedBefore.{HappenedBefore, StandsBefore, acts_of, edge}
+use Rattle.cast_world.specs.HappenedBefore.{StandsBefore, acts_of, edge}
 use Rattle.cast_world.specs.Laws.{Covers}
-use Rattle.cast_world.specs.Network.{Network, Reaches}
+use Rattle.cast_world.specs.Network.{Network}
 use Rattle.cast_world.specs.Properties.{AllDeliverCausally, AllDeliverFirstInFirstOut, AllDeliverInSendingView}
-use Rattle.cast_world.specs.Properties.{AllDeliverInView, AllDeliverOnce, AllEnterAsMembers, AllInstallsAgree, AllSendInView}
-use Rattle.cast_world.specs.Properties.{AllViewsRise, DeliversCausally, DeliversFirstInFirstOut, DeliversInSendingView}
-use Rattle.cast_world.specs.Properties.{DeliversInView, DeliversOnce, EntersAsMember, InstallsAgree, IsIn, SendsInView, ViewsRise}
-use Rattle.cast_world.specs.declared.step.Step.{Step}
+use Rattle.cast_world.specs.Properties.{AllDeliverInView, AllDeliverOnce, AllEnterAsMembers, AllEnterByInstalls}
+use Rattle.cast_world.specs.Properties.{AllInstallsAgree, AllSendInView, AllViewsRise, DeliversCausally, DeliversFirstInFirstOut}
+use Rattle.cast_world.specs.Properties.{DeliversInSendingView, DeliversInView, DeliversOnce, EntersAsMember, EntersByInstall}
+use Rattle.cast_world.specs.Properties.{InstallsAgree, IsIn, SendsInView, ViewsRise}
 use Rattle.cast_message.specs.declared.site.SiteFrame.TheVariants as frame
 
 -- No duplication
@@ -157,14 +155,6 @@ module _ (w : Network) (seen : EachSeen w) where
       (contains_here a b (Entered g view before))
 
 module _ (home : SiteNo) (w : Network) (all : AllKept home w) where
-  as_member : EntersAsMember w
-  as_member p g view cut members tail at (from, to, request, end, installed) =
-      let own : IsChosen all.1 g view p =
-      subst (λ (s : SiteNo). IsChosen all.1 g view (record { site = s; serial = p.serial })) (all.0.sites p.site).here_is
-      (((all.2.sites p.site).ones p.serial).entered g view cut at).2 in
-      subst (λ (m : Membership). Contains m.list p)
-      (sym (all.2.packets (record { from = from; to = to; frame = frame.Install g view members request end tail }) installed).0) own
-
   agree : InstallsAgree w
   agree g view members others tail other (from, to, request, cut, one) (from_other, to_other, request_other, cut_other, two) =
       (all.2.packets (record { from = from; to = to; frame = frame.Install g view members request cut tail }) one).0
@@ -173,6 +163,11 @@ module _ (home : SiteNo) (w : Network) (all : AllKept home w) where
         to = to_other;
         frame = frame.Install g view others request_other cut_other other;
       }) two).0
+
+as_member : (w : Network) → EntersByInstall w → InstallsAgree w → EntersAsMember w
+as_member w by agreed p g view cut members tail at installed =
+    let one = by p g view cut at in
+    subst (λ (m : Membership). Contains m.list p) (agreed g view one.0 members one.1 tail one.2 installed) one.3
 
 -- The laws
 
@@ -200,8 +195,13 @@ deliver_in_sending_view sites config steps w r =
 pub views_rise : AllViewsRise
 views_rise sites config steps w r = rise w (seen_in_every sites config steps w r)
 
-pub enter_as_members : AllEnterAsMembers
-enter_as_members sites config steps w r = as_member (config record { 0 = 0 }).home w (kept_in_every sites config steps w r)
-
 pub installs_agree : AllInstallsAgree
 installs_agree sites config steps w r = agree (config record { 0 = 0 }).home w (kept_in_every sites config steps w r)
+
+pub enter_by_installs : AllEnterByInstalls
+enter_by_installs sites config steps w r =
+    by_install (config record { 0 = 0 }).home w (holds_in_every sites config steps w r) (entered_in_every sites config steps w r)
+
+pub enter_as_members : AllEnterAsMembers
+enter_as_members sites config steps w r =
+    as_member w (enter_by_installs sites config steps w r) (installs_agree sites config steps w r)

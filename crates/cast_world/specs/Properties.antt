@@ -78,7 +78,16 @@ ViewsRise w =
     (p : Proc) (g : GroupNo) (view next : ℕ) (before cut : CountList) →
     StandsBefore (acts_of w p) (Entered g view before) (Entered g next cut) → view < next
 
--- self inclusion: each Install of a view names as a member whoever enters the view
+-- self inclusion: who enters a view does so by an Install of the view that was sent, and that names
+-- the process as a member
+abbrev pub EntersByInstall : Network → Type 0
+EntersByInstall w =
+    (p : Proc) (g : GroupNo) (view : ℕ) (cut : CountList) →
+    Contains (acts_of w p) (Entered g view cut) →
+    (members : Membership) × (tail : Tail) × WasInstalled w g view members tail
+    × Contains members.list p
+
+-- and so does each Install of the view
 abbrev pub EntersAsMember : Network → Type 0
 EntersAsMember w =
     (p : Proc) (g : GroupNo) (view : ℕ) (cut : CountList) (members : Membership) (tail : Tail) →
@@ -113,6 +122,9 @@ AllDeliverInSendingView = HoldsInEveryNetwork DeliversInSendingView
 
 abbrev pub AllViewsRise : Type 0
 AllViewsRise = HoldsInEveryNetwork ViewsRise
+
+abbrev pub AllEnterByInstalls : Type 0
+AllEnterByInstalls = HoldsInEveryNetwork EntersByInstall
 
 abbrev pub AllEnterAsMembers : Type 0
 AllEnterAsMembers = HoldsInEveryNetwork EntersAsMember

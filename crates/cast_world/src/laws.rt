@@ -7,7 +7,8 @@ ghost use Rattle.cast_world.specs.Laws.{AllPushesAreActs, AllStampsRise, AllStam
 ghost use Rattle.cast_world.specs.Laws.{AllStartsAreKnown, AllViewsAreDecided, CausalDelivery};
 ghost use Rattle.cast_world.specs.Properties.{AllDeliverCausally, AllDeliverFirstInFirstOut};
 ghost use Rattle.cast_world.specs.Properties.{AllDeliverInSendingView, AllDeliverInView};
-ghost use Rattle.cast_world.specs.Properties.{AllDeliverOnce, AllEnterAsMembers, AllInstallsAgree};
+ghost use Rattle.cast_world.specs.Properties.{AllDeliverOnce, AllEnterAsMembers};
+ghost use Rattle.cast_world.specs.Properties.{AllEnterByInstalls, AllInstallsAgree};
 ghost use Rattle.cast_world.specs.Properties.{AllSendInView, AllViewsRise};
 ghost use Rattle.cast_world.specs.Worlds.{AllAnswersAreLists, AllRunsAreNetworks, AllTellInOrder};
 ghost use Rattle.cast_world.specs.Worlds.{AllTellOneOrder, AllTellTheSame, AllToldOrdersAgree};
@@ -46,9 +47,11 @@ pub fn views_rise()
     ensures { AllViewsRise }
 {}
 
-/// Self inclusion: each Install of a view names as a member whoever enters the view. And all
-/// Installs of a view name the same members, and the same process to tell its order first.
+/// Self inclusion: who enters a view does so by an Install of the view that was sent, and each
+/// Install of the view names the process as a member. All Installs of a view name the same members,
+/// and the same process to tell its order first.
 pub fn views_have_one_membership()
+    ensures installed { AllEnterByInstalls }
     ensures self_inclusion { AllEnterAsMembers }
     ensures same { AllInstallsAgree }
 {}

@@ -24,9 +24,9 @@
 //! - Sending view delivery: who sends a message, and who delivers it, is then in the view that the
 //!   message names: `laws::messages_keep_to_views` (`sent`, `delivered`, `sending_view`).
 //! - Local monotonicity: the views of a group that a process enters rise: `laws::views_rise`. Self
-//!   inclusion: each Install of a view names as a member whoever enters the view; and all Installs
-//!   of a view name the same members and holder: `laws::views_have_one_membership`
-//!   (`self_inclusion`, `same`).
+//!   inclusion: who enters a view does so by an Install of it that was sent, and each Install of it
+//!   names the process as a member. All Installs of a view name the same members and holder:
+//!   `laws::views_have_one_membership` (`installed`, `self_inclusion`, `same`).
 //! - No process sends two messages of one name; what is delivered was sent by its sender:
 //!   `laws::{names_are_unique, deliveries_were_sent}`.
 //! - Whoever forges frames, a domain keeps few messages: `laws::what_is_kept_is_bounded`. After any
