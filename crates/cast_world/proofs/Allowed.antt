@@ -23,7 +23,7 @@ use Rattle.cast_types.specs.declared.names.GroupNo.{GroupNo}
 use Rattle.cast_types.specs.declared.names.Proc.{Proc}
 use Rattle.cast_types.specs.declared.names.Standing.TheVariants.{Member}
 use Rattle.cast_types.specs.declared.names.Uid.{Uid}
-use Rattle.cast_world.proofs.Facts.{IsAllowed}
+use Rattle.cast_world.proofs.Facts.{ComesNew, IsAllowed}
 use Rattle.cast_world.proofs.Times.{proc_exact, unwrapped}
 
 pub passes : {X : Type 0} (test : X → Bool) (xs : List X) → list_all test xs ≡ true → (x : X) → Contains xs x → test x ≡ true
@@ -145,8 +145,8 @@ past_delivered p m h u all group view one le other =
 
 -- a message that is ready was not delivered
 pub ready_new : (groups : List GroupNo) (gate : GroupNo → Gate) (turn : GroupNo → Turn) (p : Process) (m : Message) →
-    is_ready groups gate turn p m ≡ true → Contains p.delivered m.id → ⊥
-ready_new groups gate turn p m ready at =
+    is_ready groups gate turn p m ≡ true → ComesNew m → Contains p.delivered m.id → ⊥
+ready_new groups gate turn p m ready new_one at =
     let a =
     and_parts (is_causally_ready groups gate p m)
     (not (is_atomic (kind_of m.body)) || has_turn (turn m.id.group) (entry_of m.id)) ready in

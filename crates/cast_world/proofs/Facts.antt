@@ -59,6 +59,14 @@ WaitsForTurn m = Unit {0}
 abbrev pub IsCounted : Entry → Type 0
 IsCounted e = Unit {0}
 
+-- which messages are new to whoever delivers them: each
+abbrev pub ComesNew : Message → Type 0
+ComesNew m = Unit {0}
+
+-- which messages are sent and delivered in the view that they name alone: each
+abbrev pub KeepsToView : Message → Type 0
+KeepsToView m = Unit {0}
+
 -- a message that a process sent, after these acts: it has the process's name, counts itself, and covers all done before
 pub record SentWell (me : Proc) (a : List Act) (z : Message) : Type 0 where
   pub own : z.id.proc ≡ me

@@ -152,7 +152,8 @@ module _ (s : State) where
       with_one t l k (record (t.process k) { time = join (t.process k).time m.times; delivered = (t.process k).delivered ++ m.id ∷ [] })
           (t.acts k ++ Delivered m ∷ []) (
             ap (λ us. us ++ m.id ∷ []) (l.2 k).0 ∙ sym (delivered_append (t.acts k) (Delivered m ∷ [])),
-            apart_more (t.process k).delivered m.id (l.2 k).1 (ready_new t.config.groups (gate_of t) (turn_of t k) (t.process k) m ready),
+            apart_more (t.process k).delivered m.id (l.2 k).1
+                (ready_new t.config.groups (gate_of t) (turn_of t k) (t.process k) m ready tt),
           ),
     );
     freezes = λ t g l current. l;

@@ -125,7 +125,7 @@ module _ (home : SiteNo) (w : Network) (a : SiteNo) where
       done = done_in g v (t.abcasts k)
 
       not_had : Contains (t.process k).delivered m.id → ⊥
-      not_had = ready_new t.config.groups (gate_of t) (turn_of t k) (t.process k) m ready
+      not_had = ready_new t.config.groups (gate_of t) (turn_of t k) (t.process k) m ready tt
 
       is_new : Contains (t.abcasts k) m.id → ⊥
       is_new c = not_had (found_among m.id (t.process k).delivered (abcast_had k m.id c).5)

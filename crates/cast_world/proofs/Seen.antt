@@ -22,7 +22,7 @@ use Rattle.cast_types.specs.declared.names.SiteNo.{SiteNo}
 use Rattle.cast_types.specs.declared.names.Standing.{Standing}
 use Rattle.cast_types.specs.declared.names.Standing.TheVariants.{Joining, Member, Outside}
 use Rattle.cast_world.proofs.Allowed.{ready_allowed}
-use Rattle.cast_world.proofs.Facts.{Each}
+use Rattle.cast_world.proofs.Facts.{Each, KeepsToView}
 use Rattle.cast_world.proofs.Kept.{Kept}
 use Rattle.cast_world.proofs.Laters.{later_same, set_all, set_both}
 use Rattle.cast_world.proofs.Lists.{each_more, entered_same, entry_delivered, entry_left, entry_sent}
@@ -124,15 +124,15 @@ module _ (p : Process) (acts : List Act) (o : OneSeen p.time p.standing acts) wh
   }
 
   seen_sent : (m : Message) → ((h : GroupNo) → view_of m.times h ≡ view_of p.time h) → p.standing m.id.group ≡ Member →
-      view_of p.time m.id.group ≡ m.id.view → OneSeen m.times p.standing (acts ++ Sent m ∷ [])
+      (KeepsToView m → view_of p.time m.id.group ≡ m.id.view) → OneSeen m.times p.standing (acts ++ Sent m ∷ [])
   seen_sent m same member view = record {
     inside = λ h is. subst (λ v. IsIn (acts ++ Sent m ∷ []) h v) (sym (same h)) (in_sent acts m h (view_of p.time h) (o.inside h is));
     reached = λ h v cut at. let was = o.reached h v cut (entry_sent acts m h v cut at) in let is = same h in omega (arith, was, is);
-    seen = each_more SeenWell acts (Sent m) o.seen (subst (λ v. IsIn acts m.id.group v) view (o.inside m.id.group member));
+    seen = each_more SeenWell acts (Sent m) o.seen (subst (λ v. IsIn acts m.id.group v) (view tt) (o.inside m.id.group member));
   }
 
   seen_delivers : (m : Message) → ((h : GroupNo) → p.standing h ≡ Member → view_of (join p.time m.times) h ≡ view_of p.time h) →
-      p.standing m.id.group ≡ Member → view_of p.time m.id.group ≡ m.id.view →
+      p.standing m.id.group ≡ Member → (KeepsToView m → view_of p.time m.id.group ≡ m.id.view) →
       OneSeen (join p.time m.times) p.standing (acts ++ Delivered m ∷ [])
   seen_delivers m same member view = record {
     inside = λ h is.
@@ -141,7 +141,7 @@ module _ (p : Process) (acts : List Act) (o : OneSeen p.time p.standing acts) wh
         let was = o.reached h v cut (entry_delivered acts m h v cut at) in
         let up = below_view p.time (join p.time m.times) (below_join p.time m.times) h in
         omega (arith, was, up);
-    seen = each_more SeenWell acts (Delivered m) o.seen (subst (λ v. IsIn acts m.id.group v) view (o.inside m.id.group member));
+    seen = each_more SeenWell acts (Delivered m) o.seen (subst (λ v. IsIn acts m.id.group v) (view tt) (o.inside m.id.group member));
   }
 
   seen_enters : (g : GroupNo) (n : ℕ) (cut : CountList) → view_of p.time g < n →
@@ -233,7 +233,7 @@ module _ (home : SiteNo) (w : Network) (a : SiteNo) where
       seen_delivers (t.process n) (t.acts n) (i.1 n) m
       (λ h is. joined_view (sites_at home w a t) home t.here t.used t.config.groups t.group n (t.process n) (t.acts n)
       one m (x.received m c) allowed h is)
-      member (sym (view ∙ (one.member m.id.group member).0))
+      member (λ keeps. sym (view ∙ (one.member m.id.group member).0))
 
   pub kept_seen : Kept SeenNow (Arrived home w a) (site_eq a home)
   kept_seen = record {
@@ -262,7 +262,7 @@ module _ (home : SiteNo) (w : Network) (a : SiteNo) where
           (t.acts n ++ Sent (next_message t g n content) ∷ [])
           (let is : (t.process n).standing g ≡ Member = member_is _ member in
           seen_sent (t.process n) (t.acts n) (i.1 n) (next_message t g n content) (λ h. bumped_view (t.process n).time g (local t n) h)
-          is (sym (((own_holds home w a t i.0).ones n).member g is).0)),
+          is (λ keeps. sym (((own_holds home w a t i.0).ones n).member g is).0)),
     );
     receives = λ t from m i came view member. (k.receives t from m i.0 came view member, i.1);
     delivers = λ t n m i c ready. (
