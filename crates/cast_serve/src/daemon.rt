@@ -475,16 +475,16 @@ fn bundle_of(setup: &Setup) -> Option<usize> {
 
 // Runs a daemon over its sockets, until the console says `stop`. Answers what the operator has to
 // know of the end of its record.
-fn run<T, R, B, W, E, K>(
+fn run<'a, T, R, B, W, E, K>(
     rt: &R,
     alloc: Global,
-    setup: &Setup,
-    table: &T,
-    tape: &Tape,
+    setup: &'a Setup,
+    table: &'a T,
+    tape: &'a Tape,
     workers: u8,
-    sockets: &Sockets,
-    keyrings: &Keyrings,
-    keys: &KeyFile,
+    sockets: &'a Sockets,
+    keyrings: &'a Keyrings,
+    keys: &'a KeyFile,
     console: B,
     out: &mut W,
     log: E,
