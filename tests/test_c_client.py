@@ -328,7 +328,8 @@ class Scripted(CCase):
             path = f"{self.folder}/{turn}"
             answers = answer({abcast(1): reply(1, OWN_ABCAST), abcast(2): reply(2, 0)})
             with ScriptedServer(path, write(OPENED), answers):
-                lines = self.run_calls(path, "abcast 100 1 a", "abcast 5000 1 a", "read 0", "read 0")
+                # The end of its time comes at another moment between two tries in each turn.
+                lines = self.run_calls(path, f"abcast {100 + turn} 1 a", "abcast 5000 1 a", "read 0", "read 0")
             self.assertEqual([lines[0], *lines[2:]], ["done", "done", "opened 1.1", "none"])
             results.add(lines[1])
         # At the end of its time it may just be at the daemon again.
