@@ -5,9 +5,10 @@ from __future__ import annotations
 import os
 import pathlib
 import struct
+import subprocess
 
 import raw
-from harness import Setup, castd, wait_until
+from harness import PATIENCE, PROGRAM, Setup, castd, wait_until
 from test_daemon import ASK, DATA, Daemon, DaemonCase, Site, cast
 
 SECRETS = {2: bytes(range(32)), 3: bytes(range(1, 33))}
@@ -154,6 +155,14 @@ class Seals(DaemonCase):
         before = self.undecoded()
         second.send(second.seal(ask, number=NUMBER))
         wait_until(lambda: self.undecoded() == before + 1, "the old ones stay")
+
+    def test_a_check_says_which_sites_are_sealed(self):
+        setup = self.setup_of(3, {"number": 1}, sealed=(1, 2))
+        words = [PROGRAM, "check", setup.config, "--site", "1"]
+        said = subprocess.run(words, capture_output=True, text=True, timeout=PATIENCE, check=True).stdout
+        sealed = {1: " sealed", 2: " sealed", 3: ""}
+        for site, address in setup.addresses.items():
+            self.assertIn(f"# site {site} address {address}{sealed[site]}\n", said)
 
     def test_keys_that_cannot_be_used_are_named(self):
         setup = self.setup_of(3, {"number": 1}, sealed=(1, 2, 3))

@@ -143,33 +143,32 @@ past_delivered p m h u all group view one le other =
     (contains_kept (λ v. not (uid_eq m.id v)) (map (uid_in h (view_of m.times h)) (covered_entries (clock_of m.times h).counts))
     u (subst (λ v. Contains (map (uid_in h (view_of m.times h)) (covered_entries (clock_of m.times h).counts)) v) is at) apart))
 
--- a message that is ready was not delivered
-pub ready_new : (groups : List GroupNo) (gate : GroupNo → Gate) (turn : GroupNo → Turn) (p : Process) (m : Message) →
-    is_ready groups gate turn p m ≡ true → ComesNew m → Contains p.delivered m.id → ⊥
-ready_new groups gate turn p m ready new_one at =
+-- a message that is ready is new, and all groups allow it
+parts_of_ready : (groups : List GroupNo) (gate : GroupNo → Gate) (turn : GroupNo → Turn) (p : Process) (m : Message) →
+    is_ready groups gate turn p m ≡ true →
+    (not (has_delivered p m.id) ≡ true) × (list_all (λ h. group_allows (p.standing h) p (gate h) m h) groups ≡ true)
+parts_of_ready groups gate turn p m ready =
     let a =
     and_parts (is_causally_ready groups gate p m)
     (not (is_atomic (kind_of m.body)) || has_turn (turn m.id.group) (entry_of m.id)) ready in
     let b = and_parts (is_member (p.standing m.id.group)) _ a.0 in
     let c = and_parts (m.id.view == (gate m.id.group).number) _ b.1 in
     let d = and_parts (is_open_to (gate m.id.group) (entry_of m.id)) _ c.1 in
-    let new = (and_parts (not (has_delivered p m.id)) _ d.1).0 in
-    true≢false (sym new ∙ ap not (among_of uid_eq uid_itself p.delivered m.id at))
+    let e = and_parts (not (has_delivered p m.id)) _ d.1 in
+    (e.0, (and_parts _ (has_room (join p.time m.times)) e.1).0)
+
+-- it was not delivered
+pub ready_new : (groups : List GroupNo) (gate : GroupNo → Gate) (turn : GroupNo → Turn) (p : Process) (m : Message) →
+    is_ready groups gate turn p m ≡ true → ComesNew m → Contains p.delivered m.id → ⊥
+ready_new groups gate turn p m ready new_one at =
+    true≢false (sym (parts_of_ready groups gate turn p m ready).0 ∙ ap not (among_of uid_eq uid_itself p.delivered m.id at))
 
 module _ (groups : List GroupNo) (gate : GroupNo → Gate) (turn : GroupNo → Turn) (p : Process) (m : Message)
     (known : (g : GroupNo) → is_outside (p.standing g) ≡ false → Contains groups g)
     (numbers : (g : GroupNo) → p.standing g ≡ Member → (gate g).number ≡ view_of p.time g)
     (ready : is_ready groups gate turn p m ≡ true) where
   all_allow : list_all (λ h. group_allows (p.standing h) p (gate h) m h) groups ≡ true
-  all_allow =
-      let a =
-      and_parts (is_causally_ready groups gate p m)
-      (not (is_atomic (kind_of m.body)) || has_turn (turn m.id.group) (entry_of m.id)) ready in
-      let b = and_parts (is_member (p.standing m.id.group)) _ a.0 in
-      let c = and_parts (m.id.view == (gate m.id.group).number) _ b.1 in
-      let d = and_parts (is_open_to (gate m.id.group) (entry_of m.id)) _ c.1 in
-      let e = and_parts (not (has_delivered p m.id)) _ d.1 in
-      (and_parts _ (has_room (join p.time m.times)) e.1).0
+  all_allow = (parts_of_ready groups gate turn p m ready).1
 
   as_member : (g : GroupNo) → p.standing g ≡ Member → group_allows Member p (gate g) m g ≡ true
   as_member g is = subst (λ st. group_allows st p (gate g) m g ≡ true) is (passes _ groups all_allow g (known g (ap is_outside is)))
