@@ -64,7 +64,7 @@ where
     let tape = Tape::new(alloc);
     let recorded = record.is_some().then_some(&tape);
     let spare = SpareCount::new(all, PARTS);
-    let trimmer = Trimmer::new(recorded, rt);
+    let trimmer = Trimmer::new(recorded);
     let table = LockedTable::new(alloc, kept, lanes, spare, trimmer);
     cast_serve::serve(
         rt, alloc, setup, keys, &table, &tape, workers, record, console, out, err, log,

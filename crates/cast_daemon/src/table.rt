@@ -10,19 +10,18 @@ use cast_shared::{Came, Instruction, Pace, Reply, SharedTable, Wakings, Wanted};
 use cast_types::{DomainNo, SiteNo};
 use crossbeam_channel::{Receiver, Sender};
 use std::alloc::Global;
-use std::rt::Clock;
 use std::sync::ledger::Ledger;
 use std::sync::{Mutex, MutexGuard, Wait};
 
 /// The table of a daemon behind its lock, with the lanes of its domains, the part of the count that
 /// no thread has, and what trims the trace.
 #[derive(Drop)]
-pub struct LockedTable<'a, L: Ledger, C> {
+pub struct LockedTable<'a, L: Ledger> {
     alloc: Global,
     kept: Mutex<Kept<L>>,
     lanes: Lanes,
     spare: Mutex<SpareCount<L>>,
-    trimmer: Trimmer<'a, C>,
+    trimmer: Trimmer<'a>,
 }
 
 // The domain that a job concerns, if it is one alone.
@@ -34,9 +33,9 @@ fn domain_of(job: &Job) -> Option<DomainNo> {
 }
 
 // Does a job. A trace that is recorded is cut, and not trimmed, so that none of its events is lost.
-fn complete<L: Ledger, C: Clock, R: Wait>(
+fn complete<L: Ledger, R: Wait>(
     rt: &R,
-    trimmer: &Trimmer<'_, C>,
+    trimmer: &Trimmer<'_>,
     kept: &mut Kept<L>,
     share: &mut CountShare<L>,
     job: Job,
@@ -63,9 +62,9 @@ fn due<L: Ledger>(paces: &[Pace], kept: &Kept<L>, domain: Option<DomainNo>) -> u
 }
 
 // Does a job, and answers the place of the pace whose readers may go on.
-fn serve_and_look<L: Ledger, C: Clock, R: Wait>(
+fn serve_and_look<L: Ledger, R: Wait>(
     rt: &R,
-    trimmer: &Trimmer<'_, C>,
+    trimmer: &Trimmer<'_>,
     kept: &mut Kept<L>,
     share: &mut CountShare<L>,
     job: Job,
@@ -78,9 +77,9 @@ fn serve_and_look<L: Ledger, C: Clock, R: Wait>(
 }
 
 // Does the job of a cast, unless its program has to wait: then the job comes back.
-fn cast_and_look<L: Ledger, C: Clock, R: Wait>(
+fn cast_and_look<L: Ledger, R: Wait>(
     rt: &R,
-    trimmer: &Trimmer<'_, C>,
+    trimmer: &Trimmer<'_>,
     kept: &mut Kept<L>,
     share: &mut CountShare<L>,
     job: Job,
@@ -113,10 +112,10 @@ fn instruction_of<L: Ledger>(kept: &Kept<L>, line: &str) -> Option<Instruction> 
 }
 
 // Answers a line, and cuts the trace as `complete` does.
-fn answer_line<L: Ledger, C: Clock, R: Wait>(
+fn answer_line<L: Ledger, R: Wait>(
     rt: &R,
     alloc: Global,
-    trimmer: &Trimmer<'_, C>,
+    trimmer: &Trimmer<'_>,
     kept: &mut Kept<L>,
     share: &mut CountShare<L>,
     told: &Told,
@@ -156,14 +155,14 @@ fn came_of(alloc: Global, done: Done) -> Came {
 // Has a worker go by the lanes. Cuts the trace after what it served, if it is recorded and has many
 // events.
 #[derive(Drop)]
-struct WorkerGate<'a, R, L: Ledger, C> {
+struct WorkerGate<'a, R, L: Ledger> {
     rt: &'a R,
-    trimmer: &'a Trimmer<'a, C>,
+    trimmer: &'a Trimmer<'a>,
     kept: &'a Mutex<Kept<L>>,
     lanes: &'a Lanes,
 }
 
-impl<'a, R: Wait, L: Ledger, C: Clock> Gate for WorkerGate<'a, R, L, C> {
+impl<'a, R: Wait, L: Ledger> Gate for WorkerGate<'a, R, L> {
     // The lane of the domain, and that the worker is next.
     type Pass = (Option<MutexGuard<'a, ()>>, MutexGuard<'a, ()>);
 
@@ -183,7 +182,7 @@ impl<'a, R: Wait, L: Ledger, C: Clock> Gate for WorkerGate<'a, R, L, C> {
     }
 }
 
-impl<'a, L: Ledger, C: Clock> LockedTable<'a, L, C> {
+impl<'a, L: Ledger> LockedTable<'a, L> {
     /// A table with the whole count, of which no thread has a share yet, the lanes of its domains,
     /// and what trims its trace.
     pub fn new(
@@ -191,7 +190,7 @@ impl<'a, L: Ledger, C: Clock> LockedTable<'a, L, C> {
         kept: Kept<L>,
         lanes: Lanes,
         spare: SpareCount<L>,
-        trimmer: Trimmer<'a, C>,
+        trimmer: Trimmer<'a>,
     ) -> Self {
         LockedTable {
             alloc,
@@ -203,7 +202,7 @@ impl<'a, L: Ledger, C: Clock> LockedTable<'a, L, C> {
     }
 }
 
-impl<L: Ledger, C> LockedTable<'_, L, C> {
+impl<L: Ledger> LockedTable<'_, L> {
     // Locks the table. Of all threads that want to, one waits at its lock.
     fn lock<R: Wait>(&self, rt: &R) -> MutexGuard<'_, Kept<L>> {
         let _next = self.lanes.be_next(rt);
@@ -211,7 +210,7 @@ impl<L: Ledger, C> LockedTable<'_, L, C> {
     }
 }
 
-impl<L: Ledger + Send + Sync, C: Clock + Sync> SharedTable for LockedTable<'_, L, C> {
+impl<L: Ledger + Send + Sync> SharedTable for LockedTable<'_, L> {
     type Share = CountShare<L>;
 
     type Job = Job;
@@ -339,7 +338,7 @@ impl<L: Ledger + Send + Sync, C: Clock + Sync> SharedTable for LockedTable<'_, L
         }
     }
 
-    fn trim<R: Wait>(&self, rt: &R) -> bool {
-        self.trimmer.trim(rt, &mut self.lock(rt))
+    fn trim<R: Wait>(&self, rt: &R) {
+        self.trimmer.trim(rt, &mut self.lock(rt));
     }
 }

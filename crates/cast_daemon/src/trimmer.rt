@@ -4,7 +4,6 @@ use cast_events::Event;
 use cast_message::{Body, Command, Request, SiteFrame};
 use cast_pool::{Done, Job, Kept, Task};
 use cast_shared::{CUT, Tape};
-use std::rt::Clock;
 use std::sync::Wait;
 use std::sync::atomic::{AtomicU64, Ordering};
 use std::sync::ledger::Ledger;
@@ -13,20 +12,13 @@ use std::sync::ledger::Ledger;
 // finds none of them at hand.
 const MOST_BYTES: u64 = 1_048_576;
 
-// A trim copies the table. So many times as long as it took, no trim follows on account of
-// payloads.
-const REST: u64 = 16;
-
 /// Trims the trace, or, if a daemon is recorded, cuts its events off and gives them to the tape.
 /// Its calls are made under the table's lock.
 #[derive(Drop)]
-pub struct Trimmer<'a, C> {
+pub struct Trimmer<'a> {
     tape: Option<&'a Tape>,
-    clock: &'a C,
     // Bytes of the payloads in the trace, at most.
     held: AtomicU64,
-    // Microseconds on the clock until which no trim follows on account of payloads.
-    rests_until: AtomicU64,
 }
 
 /// How many bytes of payload a job has.
@@ -49,14 +41,22 @@ pub fn payload_len(job: &Job) -> u64 {
     len as u64
 }
 
-impl<'a, C: Clock> Trimmer<'a, C> {
+// Cuts the events off the trace, and gives them to the tape.
+fn cut<L: Ledger, R: Wait>(rt: &R, tape: &Tape, kept: &mut Kept<L>) {
+    let events = kept.events();
+    let entries = kept.cut(tape.room(rt));
+    if !entries.is_empty() {
+        let before = events.saturating_sub(entries.len() as u64);
+        tape.add(rt, before, entries);
+    }
+}
+
+impl<'a> Trimmer<'a> {
     /// Of a trace without events. Those that are cut off it go to the tape, if there is one.
-    pub fn new(tape: Option<&'a Tape>, clock: &'a C) -> Self {
+    pub fn new(tape: Option<&'a Tape>) -> Self {
         Trimmer {
             tape,
-            clock,
             held: AtomicU64::new(0),
-            rests_until: AtomicU64::new(0),
         }
     }
 
@@ -65,41 +65,19 @@ impl<'a, C: Clock> Trimmer<'a, C> {
         self.tape.is_none()
     }
 
-    // Microseconds on the clock. `None` if it fails.
-    fn now(&self) -> Option<u64> {
-        let now = self.clock.monotonic().ok()?;
-        u64::try_from(now.as_micros()).ok()
-    }
-
-    // Cuts the events off the trace. False if there was no memory for that.
-    fn cut<L: Ledger, R: Wait>(&self, rt: &R, tape: &Tape, kept: &mut Kept<L>) -> bool {
-        let events = kept.events();
-        let Ok(entries) = kept.cut(tape.room(rt)) else {
-            return false;
-        };
-        if !entries.is_empty() {
-            let before = events.saturating_sub(entries.len() as u64);
-            tape.add(rt, before, entries);
+    /// Has no event stay in the trace.
+    pub fn trim<L: Ledger, R: Wait>(&self, rt: &R, kept: &mut Kept<L>) {
+        match self.tape {
+            Some(tape) => cut(rt, tape, kept),
+            None => kept.trim(),
         }
-        true
-    }
-
-    /// Has no event stay in the trace. False if there was no memory for that.
-    pub fn trim<L: Ledger, R: Wait>(&self, rt: &R, kept: &mut Kept<L>) -> bool {
-        let is_trimmed = match self.tape {
-            Some(tape) => self.cut(rt, tape, kept),
-            None => kept.trim().is_ok(),
-        };
-        if is_trimmed {
-            self.held.store(0, Ordering::SeqCst);
-        }
-        is_trimmed
+        self.held.store(0, Ordering::SeqCst);
     }
 
     /// Cuts the events off the trace, if they are recorded and there are many.
     pub fn cut_many<L: Ledger, R: Wait>(&self, rt: &R, kept: &mut Kept<L>) {
         if self.tape.is_some() && kept.trace_len() >= CUT {
-            let _ = self.trim(rt, kept);
+            self.trim(rt, kept);
         }
     }
 
@@ -117,21 +95,7 @@ impl<'a, C: Clock> Trimmer<'a, C> {
         let held = self.held.load(Ordering::SeqCst).saturating_add(len);
         self.held.store(held, Ordering::SeqCst);
         if held >= MOST_BYTES {
-            self.trim_bytes(rt, kept);
+            self.trim(rt, kept);
         }
-    }
-
-    // Has no event stay in the trace, unless it is too early for that.
-    fn trim_bytes<L: Ledger, R: Wait>(&self, rt: &R, kept: &mut Kept<L>) {
-        let Some(begun) = self.now() else {
-            return;
-        };
-        if begun < self.rests_until.load(Ordering::SeqCst) {
-            return;
-        }
-        let _ = self.trim(rt, kept);
-        let took = self.now().unwrap_or(begun).saturating_sub(begun);
-        let rest = took.saturating_mul(REST).saturating_add(begun);
-        self.rests_until.store(rest, Ordering::SeqCst);
     }
 }

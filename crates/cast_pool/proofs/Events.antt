@@ -28,10 +28,9 @@ use Rattle.cast_table.proofs.Places.{named_there, same_some, none_some}
 use Rattle.cast_events.specs.declared.entry.Noted.{Noted}
 use Rattle.cast_events.specs.declared.entry.Noted.TheVariants as noted
 use Rattle.cast_events.specs.declared.entry.Entry.{Entry}
-use Rattle.cast_pool.specs.Traces.{is_among, TellsHalts, IsTickNoted, IsEntryAmong}
+use Rattle.cast_pool.specs.Traces.{is_among, TellsHalts, IsTickNoted}
 use Rattle.cast_trail.specs.Notes.{noted_of, noted_taken}
-use Rattle.cast_pool.specs.Kept.{are_apart}
-use Rattle.cast_pool.proofs.Numbers.{numbers_in, stands_among, other_number, first_apart, rest_apart, own_named}
+use Rattle.cast_pool.proofs.Numbers.{are_apart, numbers_in, stands_among, other_number, first_apart, rest_apart, own_named}
 use Rattle.cast_pool.proofs.Turns.{Follows, turned, left}
 
 -- the others' parts stay
@@ -221,10 +220,16 @@ one_noted (Err NoMemory) n numbers notes = notes
 one_noted (Err (Halted d)) n numbers notes = notes.1
 one_noted (Err NoDomain) n numbers notes = notes
 
+-- what an entry says of itself, among these domains
+pub record IsEntryAmong (domains : List Domain) (e : Entry) : Type 0 where
+  pub halts : TellsHalts e.answer e.halted
+  pub tick : domain_of e.event ≡ None → IsTickNoted e.answer
+  pub known : (d : DomainNo) → domain_of e.event ≡ Some d → is_among d (numbers_in domains) ≡ true
+
 -- what an event that was taken does to all domains, and what its entry says of itself
 pub record Taken_in (e : Entry) (olds : List Domain) (news : List Domain) (before : Lent) (after : Lent) : Type 0 where
   pub follow : AllZip (Follows e before.shared after.shared) olds news
-  pub entry : IsEntryAmong (numbers_in olds) e
+  pub entry : IsEntryAmong olds e
 
 module _ (e : Entry) (olds news : List Domain) (before after : Lent) (apart : are_apart (numbers_in olds) ≡ true) where
   -- it names a domain, which stands at a place

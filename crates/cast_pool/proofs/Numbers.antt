@@ -1,5 +1,5 @@
 -- Numbers of domains: which are among others, and that no two are the same.
-use Rattle.std.proofs.Common.{◌≡◌, ℕ, zero, suc, true, false, not, ◌&&◌, ◌||◌, List, [], ◌∷◌, map, Some, refl, sym, ap, ◌∙◌, inl, inr}
+use Rattle.std.proofs.Common.{◌≡◌, ℕ, zero, suc, Bool, true, false, not, ◌&&◌, ◌||◌, List, [], ◌∷◌, map, Some, refl, sym, ap, ◌∙◌, inl, inr}
 use Rattle.std.specs.Prelude.{slice_get}
 use Rattle.std.specs.List.{AllZip}
 use Rattle.std.specs.Option.{option_map_or}
@@ -15,7 +15,6 @@ use Rattle.cast_table.specs.Owns.{is_configured, are_distinct, is_own}
 use Rattle.cast_table.proofs.Parts.{same_domain, domain_itself, domain_flipped}
 use Rattle.cast_table.proofs.Places.{IsNumbered, none_some, same_some}
 use Rattle.cast_pool.specs.Traces.{is_among}
-use Rattle.cast_pool.specs.Kept.{are_apart}
 
 pub domain_swapped : (a b : DomainNo) → domain_eq a b ≡ domain_eq b a
 domain_swapped a b =
@@ -28,17 +27,6 @@ domain_swapped a b =
 -- the numbers of domains in order
 abbrev pub numbers_in : List Domain → List DomainNo
 numbers_in domains = map number_of domains
-
--- two lists of domains with the same numbers
-pub same_numbers : (R : Domain → Domain → Type 0) → ((x y : Domain) → R x y → number_of y ≡ number_of x) → (xs ys : List Domain) →
-    AllZip R xs ys → numbers_in ys ≡ numbers_in xs
-same_numbers R number [] [] all = refl
-same_numbers R number [] (y ∷ ys) all = absurd all
-same_numbers R number (x ∷ xs) [] all = absurd all
-same_numbers R number (x ∷ xs) (y ∷ ys) all =
-    let first = number x y all.0 in
-    let rest = same_numbers R number xs ys all.1 in
-    λ i. first i ∷ rest i
 
 -- a domain that stands there has its number among them
 pub stands_among : (ds : List Domain) (k : ℕ) (d : Domain) → slice_get ds k ≡ Some d → is_among (number_of d) (numbers_in ds) ≡ true
@@ -56,6 +44,11 @@ other_number n q numbers none there =
     false_from_ne_true (domain_eq n q)
     (λ same. false≢true (sym none ∙ ap (λ d. is_among d numbers) (same_domain n q same) ∙ there))
 
+-- no two of these are the same
+abbrev pub are_apart : List DomainNo → Bool
+are_apart [] = true
+are_apart (d ∷ numbers) = not (is_among d numbers) && are_apart numbers
+
 -- those of a list with no two alike: the first is none of the others
 pub first_apart : (d : DomainNo) (numbers : List DomainNo) → are_apart (d ∷ numbers) ≡ true → is_among d numbers ≡ false
 first_apart d numbers apart = not-true (is_among d numbers) (and_parts (not (is_among d numbers)) (are_apart numbers) apart).0
@@ -65,7 +58,7 @@ rest_apart d numbers apart = (and_parts (not (is_among d numbers)) (are_apart nu
 
 -- Configured domains
 
-configured_among : (n : DomainNo) (cs : List DomainConfig) (ds : List Domain) → AllZip IsNumbered cs ds →
+pub configured_among : (n : DomainNo) (cs : List DomainConfig) (ds : List Domain) → AllZip IsNumbered cs ds →
     is_among n (numbers_in ds) ≡ is_configured n cs
 configured_among n [] [] all = refl
 configured_among n [] (d ∷ ds) all = absurd all

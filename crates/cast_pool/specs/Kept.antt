@@ -1,28 +1,32 @@
 -- What contracts see of a table beside its trace, and what holds whenever nobody is changing it.
-use Rattle.std.specs.Prelude.{◌≡◌, ℕ, ◌+◌, ◌==◌, nat_le, Bool, true, not}
-use Rattle.std.specs.Prelude.{◌&&◌, List, [], ◌∷◌, length, map, Option, All}
+use Rattle.std.specs.Prelude.{◌≡◌, ℕ, ◌+◌, ◌==◌, nat_le, Bool, true, List, ◌++◌, length, Option}
+use Rattle.std.specs.Prelude.{Some, All}
 use Rattle.std.specs.List.{AllZip}
-use Rattle.cast_types.specs.declared.names.DomainNo.{DomainNo}
-use Rattle.cast_rules.specs.State.{State}
+use Rattle.cast_types.specs.declared.names.SiteNo.{SiteNo}
+use Rattle.cast_events.specs.declared.config.Config.{Config}
+use Rattle.cast_events.specs.declared.config.DomainConfig.{DomainConfig}
+use Rattle.cast_rules.specs.State.{State, opening}
 use Rattle.cast_domain.specs.declared.domain.Domain.{Domain}
 use Rattle.cast_domain.specs.declared.shared.Shared.{Shared}
 use Rattle.cast_domain.specs.Records.{number_of}
 use Rattle.cast_domain.specs.Shared.{part_of}
 use Rattle.cast_table.specs.declared.table.Table.{Table}
-use Rattle.cast_table.specs.Tables.{domains_of, shared_of}
+use Rattle.cast_table.specs.Tables.{by_number, domains_of, shared_of}
+use Rattle.cast_table.specs.Owns.{are_distinct}
 use Rattle.cast_events.specs.declared.entry.Entry.{Entry}
-use Rattle.cast_pool.specs.Traces.{StandsFor, LeadsAll, IsEntryAmong, is_among}
+use Rattle.cast_pool.specs.Traces.{StandsFor, LeadsAll, IsEntryOf}
 
--- the table as it was before the first event of the trace, the trace, how many events were taken
--- before it, and the table as it is
+-- what the daemon was opened with, how many events were taken before the trace, the trace, and the
+-- table as it is
 pub record Seen : Type 0 where
-  pub base : Table
-  pub trace : List Entry
+  pub config : Config
   pub count : ℕ
+  pub trace : List Entry
   pub table : Table
 
-abbrev pub seen_of : Table → List Entry → ℕ → Table → Seen
-seen_of base trace count table = record { base = base; trace = trace; count = count; table = table }
+abbrev pub seen_of : Config → ℕ → List Entry → Table → Seen
+seen_of config count trace table =
+    record { config = config; count = count; trace = trace; table = table }
 
 -- how many events were taken
 abbrev pub events_of : Seen → ℕ
@@ -36,29 +40,25 @@ is_full s = events_of s == 18446744073709551615
 abbrev pub is_due : Seen → Bool
 is_due s = nat_le 4096 (length s.trace)
 
--- the numbers of the domains of a table, in order
-abbrev pub numbers_of : Table → List DomainNo
-numbers_of table = map number_of (domains_of table)
-
--- no two of these are the same
-abbrev pub are_apart : List DomainNo → Bool
-are_apart [] = true
-are_apart (d ∷ numbers) = not (is_among d numbers) && are_apart numbers
-
--- there is something that a domain stood for at the beginning of the trace, from which the trace
--- leads to what it stands for now
-pub record IsReplayed (base : Shared) (trace : List Entry) (now : Shared) (old : Domain)
-    (new : Domain) : Type 0 where
-  pub number : number_of new ≡ number_of old
-  pub start : Option State
+-- from the opening of a domain these entries lead to what it stands for now
+pub record IsReplayed (here : SiteNo) (history : List Entry) (now : Shared) (config : DomainConfig)
+    (d : Domain) : Type 0 where
+  pub number : number_of d ≡ config.domain
   pub end : Option State
-  pub begins : StandsFor old (part_of (number_of old) base) start
-  pub leads : LeadsAll (number_of old) trace start end
-  pub ends : StandsFor new (part_of (number_of new) now) end
+  pub leads : LeadsAll config.domain history (Some (opening here config)) end
+  pub ends : StandsFor d (part_of config.domain now) end
 
--- the trace leads from the base to the table: for each domain, and by what each entry says
-pub record Replays (base : Table) (trace : List Entry) (table : Table) : Type 0 where
-  pub apart : are_apart (numbers_of base) ≡ true
-  pub domains : AllZip (IsReplayed (shared_of base) trace (shared_of table)) (domains_of base)
+-- from the opening of a daemon these entries lead to its table: for each domain, and by what each
+-- entry says
+pub record Replays (config : Config) (history : List Entry) (table : Table) : Type 0 where
+  pub distinct : are_distinct config.domains ≡ true
+  pub domains : AllZip (IsReplayed config.site history (shared_of table)) (by_number config.domains)
       (domains_of table)
-  pub entries : All (IsEntryAmong (numbers_of base)) trace
+  pub entries : All (IsEntryOf config.domains) history
+
+-- from the opening on, the events that came before the trace, as many as are counted, and the trace
+-- lead to the table
+pub record IsLed (s : Seen) : Type 0 where
+  pub before : List Entry
+  pub long : length before ≡ s.count
+  pub replays : Replays s.config (before ++ s.trace) s.table

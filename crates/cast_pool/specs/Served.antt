@@ -11,7 +11,6 @@ use Rattle.cast_events.specs.declared.log.Fault.{Fault}
 use Rattle.cast_events.specs.declared.log.Fault.TheVariants.{NoMemory, Halted, NoDomain}
 use Rattle.cast_events.specs.Outs.{no_outs}
 use Rattle.cast_table.specs.Tables.{domains_of, lent_of, IsApplied, NotesHalts}
-use Rattle.cast_table.specs.Copies.{IsCopyOf}
 use Rattle.cast_table.specs.Shows.{shown_at}
 use Rattle.cast_events.specs.declared.entry.Noted.{Noted}
 use Rattle.cast_events.specs.declared.entry.Noted.TheVariants as noted
@@ -22,16 +21,16 @@ use Rattle.cast_pool.specs.declared.task.Outcome.{Outcome}
 use Rattle.cast_pool.specs.declared.task.Outcome.TheVariants.{Answered, Shown, Undecoded}
 use Rattle.cast_pool.specs.Tasks.{IsUndecoded, task_of}
 use Rattle.cast_trail.specs.Notes.{noted_taken}
-use Rattle.cast_pool.specs.Kept.{Seen, is_due, is_full, events_of}
+use Rattle.cast_pool.specs.Kept.{Seen, IsLed, is_due, is_full, events_of}
 
 -- the table is as it was, nothing is added to the trace, and its worker has taken as many events as
 -- before
 abbrev pub IsLeft : Seen → Seen → ℕ → ℕ → Type 0
 IsLeft old new was now = (new ≡ old) × (now ≡ was)
 
--- the base is a copy of the table, the trace is empty, and as many events were taken as before
+-- the trace is empty, and as many events were taken as before
 pub record IsTrimmed (old : Seen) (new : Seen) : Type 0 where
-  pub base : IsCopyOf old.table new.base
+  pub config : new.config ≡ old.config
   pub trace : new.trace ≡ []
   pub count : new.count ≡ events_of old
   pub table : new.table ≡ old.table
@@ -42,10 +41,10 @@ halts (Answered answer outs) = not (length outs.halted == 0)
 halts (Shown shown) = false
 halts (Undecoded fault) = false
 
--- where that is so the trace may have been trimmed, and else nothing has changed
-abbrev pub IsTrimmedOr : Bool → Seen → Seen → Type 0
-IsTrimmedOr true old new = IsTrimmed old new ⊎ (new ≡ old)
-IsTrimmedOr false old new = new ≡ old
+-- where that is so the trace is trimmed, and else nothing has changed
+abbrev pub IsTrimmedIf : Bool → Seen → Seen → Type 0
+IsTrimmedIf true old new = IsTrimmed old new
+IsTrimmedIf false old new = new ≡ old
 
 -- an event is applied to the table with this answer, stands at the end of the trace, which was
 -- trimmed before where that was due, and is one more that its worker took
@@ -57,8 +56,7 @@ pub record IsAdded (event : Event) (answer : Result Taken Fault) (kept : Noted) 
   pub trace : new.trace ≡ (if is_due old then [] else old.trace)
       ++ record { event = event; answer = kept; halted = outs.halted } ∷ []
   pub count : new.count ≡ (if is_due old then events_of old else old.count)
-  pub trims : is_due old ≡ true → IsCopyOf old.table new.base
-  pub stays : is_due old ≡ false → new.base ≡ old.base
+  pub config : new.config ≡ old.config
   pub taken : now ≡ was + 1
 
 -- what becomes of an event, by its answer. Where there is no room for its entry, no domain of its
@@ -94,13 +92,14 @@ IsDone (Show d) (Shown shown) old new was now =
     (shown ≡ shown_at d old.table) × IsLeft old new was now
 IsDone (Show d) (Undecoded fault) old new was now = ⊥
 
--- a job is done, and then the trace may have been trimmed, if that may be, where that halted a
--- domain
+-- a job is done with a table to which events lead from the opening, and then the trace is trimmed,
+-- if that may be, where that halted a domain
 pub record Completes (task : Task) (may_trim : Bool) (outcome : Outcome) (old : Seen) (new : Seen)
     (was : ℕ) (now : ℕ) : Type 0 where
+  pub led : IsLed old
   pub between : Seen
   pub done : IsDone task outcome old between was now
-  pub trimmed : IsTrimmedOr (if may_trim then halts outcome else false) between new
+  pub trimmed : IsTrimmedIf (if may_trim then halts outcome else false) between new
 
 -- this came of what was asked: a job of it left one kept table another, or its bytes are no frame
 -- and nothing was taken

@@ -4,6 +4,7 @@ use Rattle.std.specs.Prelude.{◌≡◌, Bool, true, false, List, [], ◌∷◌,
 use Rattle.std.specs.List.{list_any}
 use Rattle.cast_types.specs.declared.names.DomainNo.{DomainNo}
 use Rattle.cast_types.specs.declared.refusal.Refusal.TheVariants as refusal
+use Rattle.cast_events.specs.declared.config.DomainConfig.{DomainConfig}
 use Rattle.cast_events.specs.declared.event.Taken.{Taken}
 use Rattle.cast_events.specs.Events.{domain_of}
 use Rattle.cast_rules.specs.State.{State}
@@ -13,7 +14,7 @@ use Rattle.cast_domain.specs.Records.{is_halted}
 use Rattle.cast_domain.specs.Shared.{Part}
 use Rattle.cast_domain.specs.Fits.{Represents}
 use Rattle.cast_table.specs.Tables.{domain_eq, IsLeast}
-use Rattle.cast_table.specs.Owns.{names, is_own}
+use Rattle.cast_table.specs.Owns.{names, is_configured, is_own}
 use Rattle.cast_events.specs.declared.entry.Noted.{Noted}
 use Rattle.cast_events.specs.declared.entry.Noted.TheVariants.{Nothing, Opened, Refused}
 use Rattle.cast_events.specs.declared.entry.Noted.TheVariants.{Entries, Halted}
@@ -79,8 +80,8 @@ IsTickNoted (Opened serial) = ⊥
 IsTickNoted (Refused refusal) = ⊥
 IsTickNoted (Entries n) = ⊥
 
--- what each entry says of itself, among domains of these numbers
-pub record IsEntryAmong (numbers : List DomainNo) (e : Entry) : Type 0 where
+-- what each entry says of itself, where these domains are configured
+pub record IsEntryOf (configs : List DomainConfig) (e : Entry) : Type 0 where
   pub halts : TellsHalts e.answer e.halted
   pub tick : domain_of e.event ≡ None → IsTickNoted e.answer
-  pub known : (d : DomainNo) → domain_of e.event ≡ Some d → is_among d numbers ≡ true
+  pub known : (d : DomainNo) → domain_of e.event ≡ Some d → is_configured d configs ≡ true

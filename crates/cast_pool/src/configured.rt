@@ -1,4 +1,4 @@
-ghost use Rattle.std.specs.Prelude.{◌≡◌, ◌&&◌};
+ghost use Rattle.std.specs.Prelude.{◌≡◌, ◌&&◌, IfOk};
 ghost use Rattle.std.specs.List.{list_all};
 ghost use Rattle.std.specs.Ordering.{is_lt};
 ghost use Rattle.cast_types.specs.Names.{group_cmp};
@@ -6,7 +6,8 @@ ghost use Rattle.cast_types.specs.Rising.{is_rising};
 ghost use Rattle.cast_table.specs.Owns.{are_distinct, have_rising_groups, is_configured};
 
 use cast_events::{Config, DomainConfig};
-use cast_types::{DomainNo, GroupNo};
+use cast_types::{DomainNo, GroupNo, List, NoMemory};
+use std::alloc::Global;
 
 /// Whether a table of this configuration can be kept: no two domains have one number, and each
 /// names its groups in rising order.
@@ -15,6 +16,27 @@ pub fn can_keep(config: &Config) -> bool
 {
     let domains = config.domains.as_slice();
     are_distinct(domains) && have_rising_groups(domains)
+}
+
+// The same configuration once more.
+pub(crate) fn copy_config(alloc: Global, config: &Config) -> Result<Config, NoMemory>
+    ensures { IfOk result (λ copy. copy ≡ config.now) }
+{
+    Ok(Config {
+        site: config.site,
+        domains: List::from_vec(copy_domains(alloc, config.domains.as_slice())?),
+    })
+}
+
+// The same domains once more.
+fn copy_domains(alloc: Global, configs: &[DomainConfig]) -> Result<Vec<DomainConfig>, NoMemory>
+    ensures { IfOk result (λ copy. copy.items ≡ configs.now) }
+{
+    let mut copied = Vec::new(alloc);
+    for config in configs {
+        copied.push(config.copy()?)?;
+    }
+    Ok(copied)
 }
 
 // Whether no two domains have one number.

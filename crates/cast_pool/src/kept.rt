@@ -3,11 +3,11 @@
 ghost use Rattle.std.specs.Prelude.{◌≡◌, ◌+◌, ◌<◌, ◌≤◌, ◌^◌, [], true};
 ghost use Rattle.std.specs.Prelude.{Ok, IfOk, OnOk, OnErr, IfErr, length};
 ghost use Rattle.cast_table.specs.Owns.{are_distinct, have_rising_groups};
-ghost use Rattle.cast_pool.specs.Kept.{Replays, Seen, events_of};
-ghost use Rattle.cast_pool.specs.Served.{Completes, IsDone, IsTrimmed, IsTrimmedOr, Serves, halts};
+ghost use Rattle.cast_pool.specs.Kept.{IsLed, Seen, events_of};
+ghost use Rattle.cast_pool.specs.Served.{Completes, IsDone, IsTrimmed, IsTrimmedIf, Serves, halts};
 ghost use Rattle.cast_pool.specs.Tasks.{IsUndecoded, task_of};
 
-use crate::room::room_for;
+use crate::configured::copy_config;
 use crate::task::{Outcome, Task};
 use cast_events::{Asked, Config, Entry, Event, Fault, Outs, Raw, Taken};
 use cast_frame::decode_site;
@@ -34,26 +34,28 @@ pub struct Done {
     outcome: Outcome,
 }
 
-/// The table of a daemon, beside the trace of the events that it took since the base, with the
-/// number of those before it. Contracts see a `Seen`. Whenever nobody is changing it, the trace
-/// leads from what the base stands for to what the table stands for.
+/// The table of a daemon, what the daemon was opened with, and the trace: the last of the events
+/// that the table took, with the number of those before them. Contracts see a `Seen`. Whenever
+/// nobody is changing it, there are events before the trace, as many as are counted, and they and
+/// the trace lead from the opening to what the table stands for.
 #[derive(Drop)]
 pub struct Kept<L: Ledger> {
     alloc: Global,
+    config: Config,
     table: Table,
-    trail: Trail<Table>,
+    trail: Trail,
     book: Book<L>,
 }
 
 impl<L: Ledger> Model for Kept<L> {
     ghost use Rattle.std.specs.Prelude.{◌≡◌, ◌+◌, ◌<◌, ◌^◌, length};
-    ghost use Rattle.cast_pool.specs.Kept.{Seen, Replays, seen_of};
+    ghost use Rattle.cast_pool.specs.Kept.{IsLed, Seen, seen_of};
 
     ghost Value = { Seen };
 
-    ghost view = { λ k. seen_of k.trail.base k.trail.entries.items k.trail.count k.table };
+    ghost view = { λ k. seen_of k.config k.trail.count k.trail.entries.items k.table };
 
-    ghost invariant = { λ k. Replays k.trail.base k.trail.entries.items k.table
+    ghost invariant = { λ k. IsLed (seen_of k.config k.trail.count k.trail.entries.items k.table)
         × (k.trail.count + length k.trail.entries.items ≡ k.book.total)
         × (k.trail.count + length k.trail.entries.items < 2 ^ 64) };
 }
@@ -210,20 +212,21 @@ impl<L: Ledger> Kept<L> {
         ensures domains { IfOk result (λ r.
             AllZip (IsNew config.now.site) (by_number config.now.domains) (domains_of r.0.table)) }
         ensures unshared { IfOk result (λ r. SharesNothing r.0.table) }
-        ensures begins { IfOk result (λ r. (r.0.trace ≡ []) × (r.0.count ≡ 0)) }
+        ensures begins { IfOk result
+            (λ r. (r.0.config ≡ config.now) × (r.0.trace ≡ []) × (r.0.count ≡ 0)) }
         ensures worked { IfOk result
             (λ r. (r.1.taken ≡ 0) × (r.1.parts ≡ parts) × (r.1.parts ≡ L.parts)) }
     {
-        let table = Table::new(alloc, config)?;
-        let base = Table::new(alloc, config)?;
+        let config = copy_config(alloc, config)?;
+        let table = Table::new(alloc, &config)?;
         let (book, share) = blank.open::<L>();
         let trail = Trail {
-            base,
             entries: Vec::new(alloc),
             count: 0,
         };
         let kept = Kept {
             alloc,
+            config,
             table,
             trail,
             book,
@@ -245,12 +248,12 @@ impl<L: Ledger> Kept<L> {
         &self.table
     }
 
-    /// What holds of a kept table whenever it is got: there is something that each domain stood for
-    /// at the base, from which the domain's own events in the trace, each a step of a daemon that
-    /// serves it alone, with the answer that is kept, lead to what the domain stands for in the
-    /// table.
+    /// What holds of a kept table whenever it is got: from the opening of each domain, its own
+    /// events lead to what it stands for in the table. Each is a step of a daemon that serves the
+    /// domain alone. The trace has the last of these events, with the answers that such a daemon
+    /// gives. Before them came as many as are counted.
     pub fn trace_leads(&self)
-        ensures leads { Replays self.now.base self.now.trace self.now.table }
+        ensures leads { IsLed self.now }
         ensures counted { events_of self.now < 2 ^ 64 }
     {
         let _ = &self.alloc;
@@ -300,7 +303,7 @@ impl<L: Ledger> Kept<L> {
         if self.events() == u64::MAX {
             return Outcome::Answered(Ok(Taken::Refused(Refusal::Halted)), outs);
         }
-        let Ok(room) = room_for(self.alloc, &mut self.trail, &self.table) else {
+        let Ok(room) = self.trail.room(self.alloc, self.table.len()) else {
             return Outcome::Answered(Err(Fault::NoMemory), outs);
         };
         let answer = self.table.apply(&event, &mut outs);
@@ -313,49 +316,40 @@ impl<L: Ledger> Kept<L> {
             share,
         } = mine;
         self.book.audit(share);
-        let halted = fill(room.halted, outs.halted.as_slice());
-        self.trail.add(
-            room.base,
-            Entry {
-                event,
-                answer: noted,
-                halted,
-            },
-        );
+        let halted = fill(room, outs.halted.as_slice());
+        self.trail.add(Entry {
+            event,
+            answer: noted,
+            halted,
+        });
         self.book.add(share, 1);
         *taken += 1;
         Outcome::Answered(answer, outs)
     }
 
-    /// The base becomes a copy of the table, and the trace begins anew. `NoMemory` changes nothing.
-    pub fn trim(&mut self) -> Result<(), NoMemory>
-        ensures ok { OnOk result (IsTrimmed self.old self.new) }
-        ensures err { OnErr result (self.new ≡ self.old) }
+    /// The trace begins anew, and its events are counted. Takes no memory.
+    pub fn trim(&mut self)
+        ensures { IsTrimmed self.old self.new }
     {
-        let base = self.table.copy()?;
-        self.trail.trim(base);
-        Ok(())
+        self.trail.trim();
     }
 
     /// As `trim`, and hands on the events that the trace had, in their order. The trace goes on in
-    /// the room that is given for it. `NoMemory` changes nothing.
-    pub fn cut(&mut self, room: Vec<Entry>) -> Result<Vec<Entry>, NoMemory>
+    /// the room that is given for it.
+    pub fn cut(&mut self, room: Vec<Entry>) -> Vec<Entry>
         requires { room.items ≡ [] }
-        ensures ok { IfOk result
-            (λ entries. IsTrimmed self.old self.new × (entries.items ≡ self.old.trace)) }
-        ensures err { OnErr result (self.new ≡ self.old) }
+        ensures trimmed { IsTrimmed self.old self.new }
+        ensures entries { result.items ≡ self.old.trace }
     {
-        let base = self.table.copy()?;
-        Ok(self.trail.cut(room, base))
+        self.trail.cut(room)
     }
 
-    /// If the job halted a domain, trims the trace, since its base and its events hold what that
-    /// domain kept. If memory is refused, nothing is changed, and the next trim lets go of it.
+    /// If the job halted a domain, trims the trace, since its events hold what that domain kept.
     pub fn let_go(&mut self, done: &Done)
-        ensures { IsTrimmedOr (halts done.now.outcome) self.old self.new }
+        ensures { IsTrimmedIf (halts done.now.outcome) self.old self.new }
     {
         if done.outcome.halts() {
-            let _ = self.trim();
+            self.trim();
         }
     }
 
@@ -369,6 +363,7 @@ impl<L: Ledger> Kept<L> {
             mine.new.taken }
         ensures parts { mine.new.parts ≡ mine.old.parts }
     {
+        self.trace_leads();
         let done = self.serve_one(mine, job);
         if may_trim {
             self.let_go(&done);

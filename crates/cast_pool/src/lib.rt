@@ -8,11 +8,11 @@
 //!   ends the trace and counts once; a trace of 4,096 events is trimmed first. Showing a domain, an
 //!   event of no domain, no memory to begin with, and no number left change nothing:
 //!   `Kept::serve_one` (`number`, `done`, `parts`).
-//! - A trim copies the table to the base and empties the trace; out of memory it changes nothing:
-//!   `Kept::trim` (`ok`, `err`). `Kept::cut` does so too, and hands on the events of the trace in
-//!   their order (`ok`, `err`). `Kept::let_go` trims only where a job halted a domain; after a job,
-//!   and only if that may be: `Kept::complete`, `work`. Shares add up: `Worked::{split, join}`. A
-//!   datagram is decoded to its frame or fault: `decode`; what a job is can be read: `Job::task`.
+//! - A trim empties the trace, counts its events and takes no memory: `Kept::trim`. `Kept::cut`
+//!   does so too, and hands on the events of the trace in their order (`trimmed`, `entries`).
+//!   `Kept::let_go` trims exactly where a job halted a domain; after a job, and only if that may
+//!   be: `Kept::complete`, `work`. Shares add up: `Worked::{split, join}`. A datagram is decoded to
+//!   its frame or fault: `decode`; what a job is can be read: `Job::task`.
 //! - For each `Raw` taken, `work` sends one `Done`, in order, with its number and what came of it,
 //!   until no more can come (`answered`, `over`).
 //! - Only module `kept` can make a `Job` or `Done` or change a `Kept`: their fields are private and
@@ -23,7 +23,6 @@
 pub mod configured;
 pub mod kept;
 pub mod post;
-mod room;
 pub mod task;
 pub mod worker;
 

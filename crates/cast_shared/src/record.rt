@@ -331,17 +331,12 @@ impl<K: Write + Drop> Record<K> {
     }
 
     /// Writes all that is left. Nobody serves any more. Answers what the operator has to know of
-    /// it: also if twice there was no memory to cut the trace, so that its events are not written.
+    /// it.
     pub fn end<T: SharedTable, R: Wait>(self, rt: &R, tape: &Tape, table: &T) -> Option<Report> {
         let mut record = self;
-        let is_cut = table.trim(rt) || table.trim(rt);
+        table.trim(rt);
         let (pieces, lost) = tape.take(rt);
-        let report = record.write(rt, tape, pieces, lost);
-        if is_cut {
-            report
-        } else {
-            Some(Report::RecordEnded(record.written))
-        }
+        record.write(rt, tape, pieces, lost)
     }
 }
 

@@ -104,12 +104,11 @@ impl<T: SharedTable> Shared<'_, T> {
     }
 
     /// Trims the trace, or cuts it if it is recorded, if a domain was halted, since the trace holds
-    /// what the domain kept. If there is no memory for that yet, it is still to be done. Answers
-    /// whether a domain was halted.
+    /// what the domain kept. Answers whether a domain was halted.
     pub fn trim_after_halt<R: Wait>(&self, rt: &R) -> bool {
         let is_halted = self.halts.swap(0, Ordering::SeqCst) != 0;
-        if is_halted && !self.table.trim(rt) {
-            self.note_halt();
+        if is_halted {
+            self.table.trim(rt);
         }
         is_halted
     }

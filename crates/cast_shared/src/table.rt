@@ -112,7 +112,6 @@ pub trait SharedTable {
     /// for bytes that were no frame.
     fn parts(&self, done: Self::Done) -> (u64, Option<Came>);
 
-    /// Trims the trace, or cuts its events off if the daemon is recorded. False if there was no
-    /// memory for that.
-    fn trim<R: Wait>(&self, rt: &R) -> bool;
+    /// Trims the trace, or cuts its events off if the daemon is recorded.
+    fn trim<R: Wait>(&self, rt: &R);
 }
