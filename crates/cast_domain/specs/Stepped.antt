@@ -1,6 +1,8 @@
 -- What a step of a domain is: the step of the history that its records stand for.
-use Rattle.std.specs.Prelude.{◌≡◌, [], Result, Ok}
+use Rattle.std.specs.Prelude.{◌≡◌, [], Result, Ok, All}
 use Rattle.cast_types.specs.declared.refusal.Refusal.TheVariants.{Halted}
+use Rattle.cast_stable.specs.Acks.{new_ledger}
+use Rattle.cast_view.specs.Home.{first_home}
 use Rattle.cast_domain.specs.declared.domain.Domain.{Domain}
 use Rattle.cast_events.specs.declared.event.Event.{Event}
 use Rattle.cast_events.specs.declared.event.Outs.{Outs}
@@ -51,6 +53,14 @@ abbrev pub IsSteppedBeside : Domain → Shared → Outs → Event → Domain →
 IsSteppedBeside old shared before e new later after answer =
     IsStepped old (part_of (number_of old) shared) e answer new (part_of (number_of old) later)
     before after
+
+-- nothing is left of what a domain kept, but for what it shows: no message waits, nothing that
+-- other sites received is noted, no order is known, and no home has a view, changes or a flush
+pub record IsEmptied (d : Domain) : Type 0 where
+  pub delay : d.delay ≡ record { gates = []; offered = []; rows = []; reached = [] }
+  pub acks : d.acks ≡ new_ledger d.site
+  pub orders : d.orders ≡ []
+  pub homes : All (λ x. x.home ≡ first_home) d.groups.items
 
 -- an event is refused since the domain is halted, and nothing changes: the domain, what is shared,
 -- and what was sent

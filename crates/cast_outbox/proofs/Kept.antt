@@ -5,6 +5,7 @@ use Rattle.std.specs.Prelude.{◌==◌}
 use Rattle.std.specs.Borrow.{MutBor}
 use Rattle.std.proofs.lemmas.Bool.{cases_Bool, eqb-true, eq-eqb, false_from_ne_true}
 use Rattle.std.specs.Option.{option_map_or}
+use Rattle.std.specs.List.{list_any}
 use Rattle.std.specs.Prelude.{Result, Ok, Err, OnErr}
 use Rattle.std.specs.Map.{lookup}
 use Rattle.cast_types.specs.declared.names.DomainNo.{DomainNo}
@@ -12,10 +13,10 @@ use Rattle.cast_message.specs.declared.client.Push.{Push}
 use Rattle.slab.specs.Slab.{Slab, Updates, CalledAt, RetainsFrom, get as slot_at}
 use Rattle.indexmap.specs.IndexMap.{IndexMap, UpdatesBy}
 use Rattle.cast_outbox.specs.Pending.{Pending}
-use Rattle.cast_outbox.specs.Outboxes.{outboxes_in, changed_at, entries_in, key_in, slot_named, name_eq}
+use Rattle.cast_outbox.specs.Outboxes.{outboxes_in, changed_at, entries_in, is_of, key_in, slot_named, name_eq}
 use Rattle.cast_outbox.specs.Outboxes.{name_of, pending, with_entries, only, Named, IsNamed, Added}
 use Rattle.cast_outbox.proofs.Entries.{with_at}
-use Rattle.cast_outbox.proofs.Names.{one_name, Step, seen, step_add, step_set, step_remove, own_after, others_after}
+use Rattle.cast_outbox.proofs.Names.{one_name, Step, seen, without, step_add, step_set, step_remove, own_after, others_after}
 
 module _ {S : Type 0} (names : IndexMap (ℕ × ℕ) ℕ S) (old : Slab Pending) (sound : IsNamed names old) (d : DomainNo) (k : ℕ) where
   -- what is seen is what is in the slot
@@ -32,6 +33,9 @@ module _ {S : Type 0} (names : IndexMap (ℕ × ℕ) ℕ S) (old : Slab Pending)
 
   pub absent : key_in names (d.0, k) ≡ None → outboxes_in old.slots d k ≡ []
   absent none = seen_in ∙ ap (λ o. entries_in (option_map_or (λ key. slot_at old key) o None)) none
+
+  pub gone : key_in names (d.0, k) ≡ None → list_any (is_of d k) old.slots ≡ false
+  gone none = without (key_in names) old.slots sound d k none
 
   pub held : (key : ℕ) → key_in names (d.0, k) ≡ Some key →
       (x : Pending) × (slot_at old key ≡ Some x) × (outboxes_in old.slots d k ≡ x.entries)
@@ -88,10 +92,14 @@ module _ {S : Type 0} (names names' : IndexMap (ℕ × ℕ) ℕ S) (old new : Sl
     (k : ℕ) where
   pub after_remove : (key : ℕ) → key_in names (d.0, k) ≡ Some key → UpdatesBy name_eq (name_eq (d.0, k)) names names' None →
       Updates old new key None → After d k (λ _. []) names names' old new
-  after_remove key at gone cleared =
+  after_remove key at removed cleared =
       after names names' old new sound d k (λ _. []) [] (outboxes_in old.slots d k) refl refl
       (step_remove (key_in names) (key_in names') (slot_at old) (slot_at new) sound (d.0, k)
-      key at cleared.changed cleared.others gone.1 gone.2)
+      key at cleared.changed cleared.others removed.1 removed.2)
+
+  pub gone_after : (key : ℕ) → key_in names (d.0, k) ≡ Some key → UpdatesBy name_eq (name_eq (d.0, k)) names names' None →
+      Updates old new key None → list_any (is_of d k) new.slots ≡ false
+  gone_after key at removed cleared = gone names' new (after_remove key at removed cleared).sound d k removed.1
 
 -- two things that hold with an error
 pub on_err_both : {X E P Q R : Type 0} (r : Result X E) → (P → Q → R) → OnErr r P → OnErr r Q → OnErr r R
@@ -204,6 +212,9 @@ module _ {S : Type 0} (names names' : IndexMap (ℕ × ℕ) ℕ S) (old new : Sl
 
   pub dropped_own : outboxes_in new.slots d ≡ (λ k. [])
   dropped_own = λ i k. absent names' new dropped_sound d k (key_here (d.0, k) (eq-eqb d.0 d.0 refl)) i
+
+  pub dropped_gone : (k : ℕ) → list_any (is_of d k) new.slots ≡ false
+  dropped_gone k = gone names' new dropped_sound d k (key_here (d.0, k) (eq-eqb d.0 d.0 refl))
 
   slot_by : (q : ℕ × ℕ) → (q.0 == d.0) ≡ false → (o : Option ℕ) → key_in names q ≡ o →
       option_map_or (λ key. slot_at new key) o None ≡ option_map_or (λ key. slot_at old key) o None

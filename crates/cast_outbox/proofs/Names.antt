@@ -2,9 +2,9 @@
 -- one name leaves of it.
 use Rattle.std.proofs.Common.{◌≡◌, ◌≢◌, ℕ, zero, suc, ◌<◌, Bool, true, false, cond, List, [], ◌∷◌, get_or}
 use Rattle.std.proofs.Common.{Option, Some, None, refl, sym, ap, subst, ◌∙◌, inl, inr, true≢false, arith}
-use Rattle.std.specs.Prelude.{◌==◌, ◌&&◌}
+use Rattle.std.specs.Prelude.{◌==◌, ◌&&◌, ◌||◌}
 use Rattle.std.specs.Option.{option_map_or}
-use Rattle.std.specs.List.{find}
+use Rattle.std.specs.List.{find, list_any}
 use Rattle.std.proofs.lemmas.Bool.{cases_Bool, eqb-true, eq-eqb, false_from_ne_true}
 use Rattle.cast_types.specs.declared.names.DomainNo.{DomainNo}
 use Rattle.cast_message.specs.declared.client.Push.{Push}
@@ -25,6 +25,10 @@ module _ {X : Type 0} (p : Option X → Bool) (vacant : p None ≡ false) where
   find_none : (xs : List (Option X)) → ((j : ℕ) → p (get_or xs j None) ≡ false) → find p xs ≡ None
   find_none [] fails = refl
   find_none (x ∷ xs) fails = ap (λ b. cond b (Some x) (find p xs)) (fails 0) ∙ find_none xs (λ j. fails (suc j))
+
+  none_passes : (xs : List (Option X)) → ((j : ℕ) → p (get_or xs j None) ≡ false) → list_any p xs ≡ false
+  none_passes [] fails = refl
+  none_passes (x ∷ xs) fails = ap (λ b. b || list_any p xs) (fails 0) ∙ none_passes xs (λ j. fails (suc j))
 
 -- Names
 
@@ -61,12 +65,17 @@ module _ (names : ℕ × ℕ → Option ℕ) (slots : List (Option Pending)) (so
       let x = slot_of d k (get_or slots key None) passes in
       subst (λ p. names p ≡ Some key) x.2 (sound.named key x.0 x.1)
 
+  -- where it has no key, no slot is its own
+  unkeyed : names (d.0, k) ≡ None → (j : ℕ) → is_of d k (get_or slots j None) ≡ false
+  unkeyed none j = false_from_ne_true (is_of d k (get_or slots j None)) (λ passes. absurd (cc (keyed j passes, none)))
+
+  pub without : names (d.0, k) ≡ None → list_any (is_of d k) slots ≡ false
+  without none = none_passes (is_of d k) refl slots (unkeyed none)
+
   seen_at : (o : Option ℕ) → names (d.0, k) ≡ o → outboxes_in slots d k ≡ option_map_or (λ key. entries_in (get_or slots key None)) o []
   unfolding outboxes_in
   seen_at None none =
-      ap (λ f. option_map_or entries_in f [])
-      (find_none (is_of d k)
-      refl slots (λ j. false_from_ne_true (is_of d k (get_or slots j None)) (λ passes. absurd (cc (keyed j passes, none)))))
+      ap (λ f. option_map_or entries_in f []) (find_none (is_of d k) refl slots (unkeyed none))
   seen_at (Some key) at =
       let x = sound.taken (d.0, k) key at in
       ap (λ f. option_map_or entries_in f [])

@@ -1,9 +1,10 @@
-ghost use Rattle.std.specs.Prelude.{◌≡◌, ◌≢◌, [], None, Some, IfOk, OnOk, OnErr, ◌==◌};
+ghost use Rattle.std.specs.Prelude.{◌≡◌, ◌≢◌, [], None, Some, IfOk, OnOk, OnErr, ◌==◌, ℕ, false};
 ghost use Rattle.std.specs.Prelude.{drop, filter, length, map, not, slice_get, take};
 ghost use Rattle.std.specs.Option.{option_copied};
+ghost use Rattle.std.specs.List.{list_any};
 ghost use Rattle.cast_types.specs.declared.names.DomainNo.{DomainNo};
 ghost use Rattle.cast_outbox.specs.Pending.{Pending, with_entry, told_at};
-ghost use Rattle.cast_outbox.specs.Outboxes.{outboxes_in, changed_at, key_in, only};
+ghost use Rattle.cast_outbox.specs.Outboxes.{outboxes_in, changed_at, is_of, key_in, only};
 ghost use Rattle.cast_outbox.specs.Outboxes.{pending, slot_named, with_entries, Added};
 ghost use Rattle.slab.specs.Slab.{get as slot_at, Updates};
 
@@ -153,6 +154,7 @@ impl Outboxes {
     pub fn close(&mut self, domain: DomainNo, serial: u32)
         ensures own { outboxes_in self.new domain
             ≡ changed_at serial (λ _. []) (outboxes_in self.old domain) }
+        ensures gone { list_any (is_of domain serial) self.new ≡ false }
         ensures others { (e : DomainNo) → e ≢ domain
             → outboxes_in self.new e ≡ outboxes_in self.old e }
     {
@@ -164,6 +166,7 @@ impl Outboxes {
     /// All sessions of a domain are over: their outboxes are dropped. Takes no memory.
     pub fn drop_domain(&mut self, domain: DomainNo)
         ensures own { outboxes_in self.new domain ≡ (λ k. []) }
+        ensures gone { (k : ℕ) → list_any (is_of domain k) self.new ≡ false }
         ensures others { (e : DomainNo) → e ≢ domain
             → outboxes_in self.new e ≡ outboxes_in self.old e }
     {

@@ -4,7 +4,7 @@ ghost use Rattle.cast_domain.specs.Records.{records_in, KeepsBeside, Makes};
 ghost use Rattle.cast_domain.specs.Shared.{no_part, part_of, LeavesOthers};
 ghost use Rattle.cast_domain.specs.Shows.{groups_shown};
 ghost use Rattle.cast_events.specs.Events.{domain_of};
-ghost use Rattle.cast_domain.specs.Stepped.{IsSteppedBeside, IsRefusedBeside};
+ghost use Rattle.cast_domain.specs.Stepped.{IsEmptied, IsSteppedBeside, IsRefusedBeside};
 ghost use Rattle.cast_domain.specs.Calls.{answered_in, records};
 ghost use Rattle.cast_domain.specs.RestCalls.{resting_records};
 ghost use Rattle.cast_domain.specs.Freed.{frees_nothing, source_freed, AreNotFree, AreFreedBy};
@@ -39,6 +39,7 @@ pub fn step(
     ensures number { number_of domain.new ≡ number_of domain.old }
     ensures running { is_halted domain.old ≡ false → OnOk result (is_halted domain.new ≡ false) }
     ensures halts { OnErr result (is_halted domain.new ≡ true) }
+    ensures emptied { OnErr result (IsEmptied domain.new) }
     ensures leaves { OnErr result (part_of (number_of domain.old) shared.new ≡ no_part) }
     ensures halted { is_halted domain.old ≡ true
         → IsRefusedBeside domain.old shared.old outs.old domain.new shared.new outs.new result }
@@ -62,8 +63,14 @@ pub fn step(
 // Halts the domain, and lets go of what it has but for what it shows. Takes no memory.
 fn halt(domain: &mut Domain, shared: &mut Shared)
     ensures halts { is_halted domain.new ≡ true }
-    ensures config { domain.new.config ≡ domain.old.config }
+    ensures emptied { IsEmptied domain.new }
+    ensures config { (domain.new.site ≡ domain.old.site)
+        × (domain.new.config ≡ domain.old.config)
+        × (domain.new.quotas ≡ domain.old.quotas) }
     ensures shows { groups_shown domain.new ≡ groups_shown domain.old }
+    ensures counts { (domain.new.casts ≡ domain.old.casts)
+        × (domain.new.moment ≡ domain.old.moment)
+        × (domain.new.sessions ≡ domain.old.sessions) }
     ensures leaves { part_of domain.old.config.domain shared.new ≡ no_part }
     ensures others { LeavesOthers domain.old.config.domain shared.old shared.new }
 {

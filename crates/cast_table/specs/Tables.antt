@@ -22,7 +22,7 @@ use Rattle.cast_domain.specs.Records.{number_of, is_halted, IsFor}
 use Rattle.cast_domain.specs.Shared.{Part, part_of, no_part, LeavesOthers}
 use Rattle.cast_rules.specs.State.{opening}
 use Rattle.cast_domain.specs.Fits.{Represents}
-use Rattle.cast_domain.specs.Stepped.{IsStepped}
+use Rattle.cast_domain.specs.Stepped.{IsEmptied, IsStepped}
 use Rattle.cast_events.specs.declared.log.Fault.{Fault}
 use Rattle.cast_events.specs.declared.log.Fault.TheVariants.{NoMemory, Halted, NoDomain}
 use Rattle.cast_table.specs.declared.table.Table.{Table}
@@ -135,12 +135,13 @@ pub record IsTaken (old : Domain) (event : Event) (taken : Taken) (new : Domain)
       → (taken ≡ Refused refusal.Halted) × (new ≡ old) × (after ≡ before)
   pub others : LeavesOthers (number_of old) before.shared after.shared
 
--- a domain finds no memory in its step: it is halted and noted, nothing is sent, delivered or
--- pushed, and of what is shared nothing is left to it
+-- a domain finds no memory in its step: it is halted, emptied and noted, nothing is sent, delivered
+-- or pushed, and of what is shared nothing is left to it
 pub record IsHalting (old : Domain) (new : Domain) (before : Lent) (after : Lent) : Type 0 where
   pub number : number_of new ≡ number_of old
   pub ran : is_halted old ≡ false
   pub stops : is_halted new ≡ true
+  pub emptied : IsEmptied new
   pub outs : after.outs ≡ record (before.outs) { halted = before.outs.halted ++ number_of old ∷ [] }
   pub leaves : part_of (number_of old) after.shared ≡ no_part
   pub others : LeavesOthers (number_of old) before.shared after.shared
