@@ -57,6 +57,10 @@ is_entered (Delivered u) = false
 is_entered (Entered g n cut) = true
 is_entered (Left g) = false
 
+pub entered_not_sent : (m : Message) (g : GroupNo) (n : ℕ) (cut : CountList) → ◌≡◌ {A = Act} (Entered g n cut) (Sent m) → ⊥
+unfolding is_entered
+entered_not_sent m g n cut e = true≢false (ap is_entered e)
+
 pub enters : (g : GroupNo) (x : Act) → Enters g x
 unfolding is_entered group_of
 enters g (Sent u) = does_not (λ n cut e. false≢true (ap is_entered e))
@@ -93,7 +97,7 @@ first_entry g (x ∷ b) = elim (enters g x) [
 
 -- Messages that were sent stand among earlier acts, where the last act sends none
 
-is_sending : Act → Bool
+unfoldable pub is_sending : Act → Bool
 is_sending (Sent m) = true
 is_sending (Delivered m) = false
 is_sending (Entered g n cut) = false

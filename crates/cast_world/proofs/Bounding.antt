@@ -54,7 +54,7 @@ use Rattle.cast_types.specs.declared.names.Uid.{Uid}
 use Rattle.cast_view.specs.MemberSide.{MemberSide, frozen_side, is_pending, with_answer, with_pending, with_request, with_view}
 use Rattle.cast_view.specs.declared.member.Pending.{Pending}
 use Rattle.cast_world.proofs.Allowed.{contains_more, passed}
-use Rattle.cast_world.proofs.Events.{Any, SetsWell, any_came, event_keeps_fully, rests_keeps_fully}
+use Rattle.cast_world.proofs.Events.{Any, SetsWell, any_came, any_happens, event_keeps_fully, rests_keeps_fully}
 use Rattle.cast_world.proofs.Homes.{among_kept, item_was}
 use Rattle.cast_world.proofs.Kept.{Comes, FullyKept, FullyKeptByTelling, IsOwed, MayReceive, Wants}
 use Rattle.cast_world.proofs.Kept.{WantsAt, WantsOf, completes, ends, fits, installs, skips, wanted}
@@ -438,7 +438,7 @@ module _ (most : ℕ) (home_here : Bool) where
 
   -- Each move
 
-  kept_bounded : FullyKept (At None) (λ g. At (Some g)) (λ u. At None) Any home_here
+  kept_bounded : FullyKept (At None) (λ g. At (Some g)) (λ u. At None) Any home_here true
   kept_bounded = record {
     telling = telling None;
     between = λ g. telling (Some g);
@@ -448,7 +448,7 @@ module _ (most : ℕ) (home_here : Bool) where
     opens = λ s x. x;
     answers = λ s g x. group_bounded None s g (with_answer (s.group g)) refl (λ u e. e) x;
     joins = λ s k g x open_it known out. x;
-    sends = λ s g k content x member may room open_it.
+    sends = λ s g k content x member may room open_it asked_for.
         let m : Message = next_message s g k content in
         received_bounded (noting_sent s k m) m x refl (fits_bounded (noting_sent s k m) m x room);
     receives = λ s from m x came view member may new. receives_bounded s m x view may;
@@ -491,9 +491,9 @@ module _ (most : ℕ) (home_here : Bool) where
 
   step_bounded : (s : State) (e : Event) (answer : Taken) (t : State) → IsStep s e answer t → SetsAtMost most e → At None s → At None t
   step_bounded s e answer t is sets x =
-      rests_keeps_fully (At None) (λ g. At (Some g)) (λ u. At None) Any home_here kept_bounded (after_event s e) t is.rests
-      (event_keeps_fully (At None) (λ g. At (Some g)) (λ u. At None) Any home_here kept_bounded s e x (any_came e)
-      (sets_bounded (before_event s) e x sets))
+      rests_keeps_fully (At None) (λ g. At (Some g)) (λ u. At None) Any home_here true kept_bounded (after_event s e) t is.rests
+      (event_keeps_fully (At None) (λ g. At (Some g)) (λ u. At None) Any home_here true kept_bounded s e x (any_came e)
+      (sets_bounded (before_event s) e x sets) (any_happens e))
 
   run_bounded : (events : List Event) (answers : List Taken) (s t : State) (sent : List (SiteNo × SiteFrame)) (pushed : List (ℕ × Push)) →
       AllByRecursion (SetsAtMost most) events →

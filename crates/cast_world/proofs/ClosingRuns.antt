@@ -36,7 +36,7 @@ use Rattle.cast_types.specs.declared.names.Uid.{Uid}
 use Rattle.cast_world.proofs.Closings.{EndHolds, Ends, IsClosing, SiteClosing, final}
 use Rattle.cast_world.proofs.ClosingMoves.{ClosingNow, closing_quiet, own_closing, still_there}
 use Rattle.cast_world.proofs.ClosingSteps.{books_closing, kept_closing}
-use Rattle.cast_world.proofs.Events.{event_keeps_fully, rests_keeps_fully, sets_any}
+use Rattle.cast_world.proofs.Events.{any_happens, event_keeps_fully, rests_keeps_fully, sets_any}
 use Rattle.cast_world.proofs.Firsts.{firsts, firsts_apart, take_begin}
 use Rattle.cast_world.proofs.Flush.{AllCovered, Choice, IsChosen, IsTrueOf, SiteAgrees, numbers}
 use Rattle.cast_world.proofs.FlushRuns.{AllAgree, flush_first, flush_last, no_choice, start_agrees}
@@ -218,15 +218,15 @@ step_ended home w v step happens (choice, order, handed, safe, ends, x) = go_on 
     go_on (Some made) e (answer, t, is, same) =
         subst (AllEnded home) (sym same) (last_closing home w choice order handed safe ends x step.site t
         (rests_keeps_fully (ClosingNow home w step.site no_key) (λ g. ClosingNow home w step.site (is_of_view g))
-        (λ u. ClosingNow home w step.site no_key) (Arrived home w step.site) (site_eq step.site home) (kept_closing home w step.site)
+        (λ u. ClosingNow home w step.site no_key) (Arrived home w step.site) (site_eq step.site home) true (kept_closing home w step.site)
         (after_event (w.at step.site) made) t is.rests
         (event_keeps_fully (ClosingNow home w step.site no_key) (λ g. ClosingNow home w step.site (is_of_view g))
-        (λ u. ClosingNow home w step.site no_key) (Arrived home w step.site) (site_eq step.site home) (kept_closing home w step.site)
+        (λ u. ClosingNow home w step.site no_key) (Arrived home w step.site) (site_eq step.site home) true (kept_closing home w step.site)
         (w.at step.site) made
         (first_closing home w choice order handed safe ends x step.site)
         (step_arrives home w (hold home w choice order handed safe ends x step.site) step made e)
         (sets_any (ClosingNow home w step.site no_key) (λ u quotas i. books_closing home w step.site no_key u quotas u.moment u.casts i)
-        (before_event (w.at step.site)) made (first_closing home w choice order handed safe ends x step.site)))))
+        (before_event (w.at step.site)) made (first_closing home w choice order handed safe ends x step.site)) (any_happens made))))
 
 leads_ended : (home : SiteNo) (steps : List Step) (w v : Network) → Leads w steps v → AllEnded home w → AllEnded home v
 leads_ended home [] w v same i = subst (AllEnded home) (sym same) i

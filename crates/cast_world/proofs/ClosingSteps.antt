@@ -385,11 +385,11 @@ module _ (home : SiteNo) (w : Network) (a : SiteNo) where
     sent_calm h v q s e c p = (sent_standing q h e, c, p, refl)
 
     sends_closing : is_member ((t.process k).standing g) ≡ true → MaySend t g k content → ClosingNow home w a no_key sent_now
-    sends_closing member (casts none) =
-        let j : WindowNow home w a no_key sent_now = sends_window home w a t g k content i.0 member (casts none) in
+    sends_closing member (casts none open_it) =
+        let j : WindowNow home w a no_key sent_now = sends_window home w a t g k content i.0 member (casts none open_it) in
         closing_quiet home w a no_key no_key t sent_now (later_sent t k m) i j
-        ((flush home w a t i.0.0).sends t g k content (begin home w a t i.0.0) member (casts none)).3 refl refl refl refl refl sent_standing
-        (still t sent_now (λ h. omega arith)) (sent_here j)
+        ((flush home w a t i.0.0).sends t g k content (begin home w a t i.0.0) member (casts none open_it)).3
+        refl refl refl refl refl sent_standing (still t sent_now (λ h. omega arith)) (sent_here j)
     sends_closing member (lists held open_it is) =
         let j : WindowNow home w a no_key sent_now = sends_window home w a t g k content i.0 member (lists held open_it is) in
         closing_keep home w a no_key no_key t sent_now (later_sent t k m)
@@ -437,7 +437,7 @@ module _ (home : SiteNo) (w : Network) (a : SiteNo) where
       (λ h e. asks ((t.process n).standing h) (group_eq g h) ((t.group g).asked + 1) (view_of (t.process n).time g) e)
 
   pub kept_closing : FullyKept (ClosingNow home w a no_key) (λ g. ClosingNow home w a (is_of_view g)) (λ u. ClosingNow home w a no_key)
-      (Arrived home w a) (site_eq a home)
+      (Arrived home w a) (site_eq a home) true
   unfolding closing_telling
   kept_closing = record {
     telling = closing_telling no_key;
@@ -463,7 +463,7 @@ module _ (home : SiteNo) (w : Network) (a : SiteNo) where
           decision = x.decision;
           sent = x.sent;
         });
-    sends = λ t g k content i member may room open_it. sends_closing t g k content i member may;
+    sends = λ t g k content i member may room open_it asked_for. sends_closing t g k content i member may;
     receives = λ t from m i came view member may new.
         closing_quiet home w a no_key no_key t (receiving t m)
         (later_same t) i ((kept_window home w a).receives t from m i.0 came view member may new)

@@ -5,7 +5,7 @@ use Rattle.cast_delay.proofs.MemberLemmas.{member_any}
 use Rattle.cast_types.proofs.Contains.{contains_here}
 use Rattle.cast_types.proofs.Orders.{group_itself, uid_itself}
 use Rattle.cast_world.proofs.Allowed.{contains_more}
-use Rattle.std.proofs.Common.{ap, arith, inl, subst, sym, ◌∙◌}
+use Rattle.std.proofs.Common.{ap, arith, inl, inr, subst, sym, ◌∙◌}
 use Rattle.std.proofs.lemmas.Bool.{and_from, eq-eqb, or_left, or_right, true≢false}
 use Rattle.std.proofs.lemmas.List.Elements.{Contains-append_left, Contains-append_right}
 use Rattle.cast_message.specs.declared.message.Body.TheVariants as body
@@ -41,7 +41,7 @@ use Rattle.cast_view.specs.Home.{Home, apply_move as home_moved}
 use Rattle.cast_view.specs.declared.phase.Phase.{Phase}
 use Rattle.cast_view.specs.declared.phase.Phase.TheVariants.{Gathering, Idle, Installing}
 use Rattle.cast_world.proofs.Schedules.{both, casts, delivered, group, hand, is_leaving, joins}
-use Rattle.cast_world.proofs.Schedules.{never_left, pair, passes_at, proc, suspects, three, uid}
+use Rattle.cast_world.proofs.Schedules.{never_left, pair, passes_at, proc, suspects, three, trio, uid}
 use Rattle.cast_world.specs.Agreement.{Passes, delivered_of}
 use Rattle.cast_world.specs.Laws.{DeliversInOrder, SameMessages}
 use Rattle.cast_world.specs.Network.{Network, event_of, move_site}
@@ -193,6 +193,58 @@ crossed_over_breaks_causality =
     (edge {x = x} {y = y}
     (inl (Entered (group 1) 2 [] ∷ Entered (group 2) 2 [] ∷ [], Delivered x ∷ [], Delivered y ∷ [], crossed_over_sent)))
     (4, omega arith, refl) (2, omega arith, refl) refl refl refl
+
+-- and it fails, too, where the sender of one message delivered the other. 1.1 casts x in group 1; 2.1 delivers it and casts y in group 2;
+-- y comes to 3.1 first
+relayed : Network
+unfolding trio own_group_alone
+relayed =
+    let n : ℕ = length trio.sent in
+    leads_by history (delivering own_group_alone) trio (casts 1 1 ∷ hand 2 n ∷ casts 2 2 ∷ hand 3 (n + 3) ∷ hand 3 (n + 1) ∷ [])
+
+relayed_delivered : delivered relayed 3 ≡ uid 2 2 (proc 2 1) 1 ∷ uid 1 3 (proc 1 1) 1 ∷ []
+unfolding relayed trio own_group_alone
+relayed_delivered = refl
+
+relayed_x : Message
+relayed_x = record {
+  id = uid 1 3 (proc 1 1) 1;
+  times = (group 1, record { view = 3; counts = (proc 1 1, 1) ∷ [] }) ∷ [];
+  body = body.Causal [];
+}
+
+relayed_y : Message
+relayed_y = record {
+  id = uid 2 2 (proc 2 1) 1;
+  times = (group 1, record { view = 3; counts = (proc 1 1, 1) ∷ [] }) ∷ (group 2, record { view = 2; counts = (proc 2 1, 1) ∷ [] }) ∷ [];
+  body = body.Causal [];
+}
+
+relayed_sent :
+    acts_of relayed (proc 2 1)
+    ≡ Entered (group 1) 2 [] ∷ Entered (group 2) 1 [] ∷ Entered (group 1) 3 [] ∷ Entered (group 2) 2 [] ∷ Delivered relayed_x
+    ∷ Sends relayed_y ∷ Delivered relayed_y ∷ []
+unfolding relayed trio own_group_alone relayed_x relayed_y
+relayed_sent = refl
+
+relayed_did :
+    acts_of relayed (proc 3 1) ≡ Entered (group 1) 3 [] ∷ Entered (group 2) 2 [] ∷ Delivered relayed_y ∷ Delivered relayed_x ∷ []
+unfolding relayed trio own_group_alone relayed_x relayed_y
+relayed_did = refl
+
+relayed_breaks_causality : DeliversInOrder relayed → ⊥
+unfolding stands is_delivery_of is_entry_of is_leaving relayed_x relayed_y
+relayed_breaks_causality =
+    breaks_causality relayed (proc 3 1)
+    (Entered (group 1) 3 [] ∷ Entered (group 2) 2 [] ∷ Delivered relayed_y ∷ Delivered relayed_x ∷ []) relayed_x relayed_y [] relayed_did
+    (edge {x = relayed_x} {y = relayed_y}
+    (inr (
+      Entered (group 1) 2 [] ∷ Entered (group 2) 1 [] ∷ Entered (group 1) 3 [] ∷ Entered (group 2) 2 [] ∷ [],
+      [],
+      Delivered relayed_y ∷ [],
+      relayed_sent,
+    )))
+    (2, omega arith, refl) (0, omega arith, refl) refl refl refl
 
 -- What a joining process had heard of is not looked at
 

@@ -66,7 +66,7 @@ module _ (w : Network) (f : Facts w) where
   source p x a c e (inr at) =
       sent_source x.id.proc x (f.was_sent p x (subst (λ h. Contains h (Delivered x)) (sym e) (Contains-append_left a c _ at)))
 
-  done : (y z : Message) → Edge w y z → (a c : List Act) × (acts_of w z.id.proc ≡ a ++ Sent z ∷ c) × HasDone a y
+  pub done : (y z : Message) → Edge w y z → (a c : List Act) × (acts_of w z.id.proc ≡ a ++ Sent z ∷ c) × HasDone a y
   done y z (inl s) = let t = stood _ _ _ s in (t.0, t.1, t.2, inl t.3)
   done y z (inr s) = let t = stood _ _ _ s in (t.0, t.1, t.2, inr t.3)
 

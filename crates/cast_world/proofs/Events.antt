@@ -1,12 +1,11 @@
 -- What the moves of a history keep, it keeps through each event and through the rest that follows.
 use Rattle.std.proofs.Common.{ap, inl, inr, subst, sym, ◌∙◌}
-use Rattle.std.proofs.lemmas.Bool.{and_from, and_parts, eq-eqb, false≢true}
+use Rattle.std.proofs.lemmas.Bool.{and_from, and_parts, eq-eqb, false≢true, true≢false}
 use Rattle.std.specs.List.{find, fold, list_any}
 use Rattle.std.specs.Option.{option_map_or}
 use Rattle.std.specs.Prelude.{Bool, Contains, None, List, Option, Some, [], false, filter, if◌then◌else◌, is_some}
 use Rattle.std.specs.Prelude.{length, not, refl, true, unwrap_or, ℕ, ◌&&◌, ◌||◌, ◌+◌, ◌==◌, ◌∷◌, ◌≡◌, ◌⊎◌}
 use Rattle.cast_ready.specs.Ready.{covered_entries, is_member}
-use Rattle.cast_rules.specs.Acts.Act.{Delivered}
 use Rattle.cast_rules.specs.Effects.{delivering, sending}
 use Rattle.cast_rules.specs.History.{history}
 use Rattle.cast_rules.specs.Order.{has_place, holders, holds, order_told, unlisted_ids}
@@ -18,18 +17,17 @@ use Rattle.cast_rules.specs.Rules.Events.{is_taken, may_open}
 use Rattle.cast_rules.specs.Rules.Flushes.{complete, complete_or_want, go_on, go_on_all, own_want_key, want_own}
 use Rattle.cast_rules.specs.Rules.Order.{list_places, may_list}
 use Rattle.cast_rules.specs.Rules.Owing.{frame_for, owe}
-use Rattle.cast_rules.specs.Rules.Rest.{tell_if, told_of}
 use Rattle.cast_rules.specs.Rules.Room.{may_order}
 use Rattle.cast_rules.specs.Rules.Sending.{may_raise}
 use Rattle.cast_rules.specs.Run.{after_event, before_event}
-use Rattle.cast_rules.specs.State.{State, is_received, local, serials, setting_quota, taking, with_delivery}
+use Rattle.cast_rules.specs.State.{State, is_received, local, serials, setting_quota, taking}
 use Rattle.cast_rules.specs.Step.{act_of_event, opening_next, sessions_given}
 use Rattle.cast_rules.specs.Turns.{is_ready_for}
 use Rattle.cast_message.specs.Placement.{Placement}
-use Rattle.cast_message.specs.declared.client.Push.{Push}
+use Rattle.cast_message.specs.declared.client.Command.{Command}
 use Rattle.cast_message.specs.declared.message.Message.{Message}
 use Rattle.cast_message.specs.declared.site.SiteFrame.{SiteFrame}
-use Rattle.cast_events.specs.Session.{is_gone, taken_from}
+use Rattle.cast_events.specs.Session.{is_gone}
 use Rattle.cast_events.specs.declared.event.Event.{Event}
 use Rattle.cast_quota.specs.Quotas.{is_in_range, with_quota}
 use Rattle.cast_quota.specs.declared.quotas.Quotas.{Quotas}
@@ -48,13 +46,16 @@ use Rattle.cast_view.specs.MemberSide.{MemberSide}
 use Rattle.cast_view.specs.declared.member.Pending.{Pending}
 use Rattle.cast_world.proofs.Acts.{contains_here}
 use Rattle.cast_world.proofs.Allowed.{among_of, contains_more, passed, taken_of}
-use Rattle.cast_world.proofs.Entries.{delivered_now, told_agrees}
-use Rattle.cast_world.proofs.Handlers.{on_command_keeps, on_site_frame_keeps, install_keeps, lead_keeps, sending_keeps, suspect_keeps}
+use Rattle.cast_world.proofs.Handlers.{MayCommand, on_command_keeps, on_site_frame_keeps, install_keeps, lead_keeps}
+use Rattle.cast_world.proofs.Handlers.{sending_keeps, suspect_keeps}
 use Rattle.cast_world.proofs.Keeps.{found_is, keeps_fold, keeps_if, keeps_iterate, keeps_option}
 use Rattle.cast_world.proofs.Homes.{among_kept}
-use Rattle.cast_world.proofs.Kept.{AcksFreely, Kept, OwedTrue, Wants, FullyKept, FullyKeptByTelling, completes, lists, kept_fully}
-use Rattle.cast_world.proofs.Telling.{end_session_keeps, owe_keeps, tell_keeps, tick_keeps}
+use Rattle.cast_world.proofs.Kept.{AcksFreely, Kept, KeptByOwing, OwedTrue, Wants, FullyKept, WhollyKept, completes, lists, kept_fully}
+use Rattle.cast_world.proofs.Telling.{owe_keeps, tick_keeps}
 use Rattle.cast_world.proofs.Tokens.{holds_still}
+use Rattle.cast_world.proofs.Wholes.{kept_wholly}
+use Rattle.cast_message.specs.declared.client.Command.TheVariants as command
+use Rattle.cast_message.specs.declared.client.Request.TheVariants as request_of
 use Rattle.cast_message.specs.declared.message.Body.TheVariants as body
 use Rattle.cast_events.specs.declared.event.Event.TheVariants as event
 
@@ -82,6 +83,34 @@ any_came (event.Suspect d site) = tt
 any_came (event.Quota d name value) = tt
 any_came (event.Take d n most) = tt
 any_came (event.Tick t) = tt
+
+-- where an event is a program's cast, programs may cast
+abbrev pub MayHappen : Bool → Event → Type 0
+MayHappen casting (event.Open d) = Unit {0}
+MayHappen casting (event.Command d n c) = MayCommand casting c
+MayHappen casting (event.Gone d n) = Unit {0}
+MayHappen casting (event.Frame d from f) = Unit {0}
+MayHappen casting (event.Suspect d site) = Unit {0}
+MayHappen casting (event.Quota d name value) = Unit {0}
+MayHappen casting (event.Take d n most) = Unit {0}
+MayHappen casting (event.Tick t) = Unit {0}
+
+any_commands : (c : Command) → MayCommand true c
+any_commands (command.Request (request_of.Join tag g)) = tt
+any_commands (command.Request (request_of.Leave tag g)) = tt
+any_commands (command.Request (request_of.Cast tag g kind payload)) = refl
+any_commands (command.Request (request_of.Pass tag g to)) = tt
+any_commands command.Bad = tt
+
+pub any_happens : (e : Event) → MayHappen true e
+any_happens (event.Open d) = tt
+any_happens (event.Command d n c) = any_commands c
+any_happens (event.Gone d n) = tt
+any_happens (event.Frame d from f) = tt
+any_happens (event.Suspect d site) = tt
+any_happens (event.Quota d name value) = tt
+any_happens (event.Take d n most) = tt
+any_happens (event.Tick t) = tt
 
 -- where an event sets a quota, that is kept
 abbrev pub SetsWell : (State → Type 0) → State → Event → Type 0
@@ -141,23 +170,15 @@ is_false : (b : Bool) → not b ≡ true → b ≡ false
 is_false true e = absurd (false≢true e)
 is_false false e = refl
 
-module _ (I : State → Type 0) (Between : GroupNo → State → Type 0) (During : Uid → State → Type 0) (Came : SiteNo → SiteFrame → Type 0)
-    (home_here : Bool) (k : FullyKept I Between During Came home_here) where
-  abbrev t : FullyKeptByTelling I
-  t = k.telling
+module _ (I : State → Type 0) (During : Uid → State → Type 0) (Came : SiteNo → SiteFrame → Type 0) (home_here casting : Bool)
+    (k : WhollyKept I During Came home_here casting) where
+  abbrev t : KeptByOwing I
+  t = k.owing
 
   -- The rest
 
   let_go_keeps : (s : State) → I s → I (let_go s)
   let_go_keeps s i = t.releases s (is_free s) i
-
-  tell_of_keeps : (s : State) (n : ℕ) (m : Message) → I s → Contains (s.acts n) (Delivered m) →
-      I (tell_if history s n (told_of m.id m.body))
-  tell_of_keeps s n m i delivered = go (told_of m.id m.body) refl
-    where
-      go : (o : Option Push) → told_of m.id m.body ≡ o → I (tell_if history s n o)
-      go None e = i
-      go (Some p) e = tell_keeps I t s n p i (told_agrees (s.acts n) m delivered p e)
 
   deliver_first_keeps : (n : ℕ) (s : State) → I s → I (deliver_first n s)
   deliver_first_keeps n s i = go (find (is_ready_for s n) s.got) refl
@@ -166,8 +187,7 @@ module _ (I : State → Type 0) (Between : GroupNo → State → Type 0) (During
       go None e = i
       go (Some m) e =
           let found = found_is (is_ready_for s n) s.got m e in
-          let_go_keeps (delivering s n m)
-          (tell_of_keeps (with_delivery s n m) n m (k.delivers s n m i found.1 found.0) (delivered_now s n m))
+          let_go_keeps (delivering s n m) (k.delivers s n m i found.1 found.0)
 
   settle_keeps : (s : State) → I s → I (settle s)
   settle_keeps s i =
@@ -186,14 +206,16 @@ module _ (I : State → Type 0) (Between : GroupNo → State → Type 0) (During
   set_order_by_keeps s g n i held = keeps_if I (may_list history resting s g n) _ s
       (λ may. keeps_option I (list_places history resting s g n) (next_places s g n) s
       (λ places next. keeps_if I (may_raise (s.process n).time g (local s n)) (let_go (sending s g n (body.Order places))) s
-      (λ _. let_go_keeps (sending s g n (body.Order places)) (sending_keeps I Between During Came home_here k s g n (body.Order places)
-      i (and_parts (is_member ((s.process n).standing g)) _ may).0
+      (λ _. let_go_keeps (sending s g n (body.Order places))
+      (sending_keeps I During Came home_here casting k s g n (body.Order places) i
+      (and_parts (is_member ((s.process n).standing g)) _ may).0
       (lists held (is_false (s.group g).frozen
       (and_parts (not (s.group g).frozen) (may_order history s) (and_parts (is_member ((s.process n).standing g)) _ may).1).0)
       (next_are s g n places next))
       (and_parts (not (s.group g).frozen) (may_order history s) (and_parts (is_member ((s.process n).standing g)) _ may).1).1
       (is_false (s.group g).frozen
-      (and_parts (not (s.group g).frozen) (may_order history s) (and_parts (is_member ((s.process n).standing g)) _ may).1).0)))
+      (and_parts (not (s.group g).frozen) (may_order history s) (and_parts (is_member ((s.process n).standing g)) _ may).1).0)
+      (λ none. absurd (true≢false none))))
       (λ _. i)) i) (λ _. i)
 
   set_order_keeps : (s : State) (g : GroupNo) → I s → I (set_order s g)
@@ -245,7 +267,7 @@ module _ (I : State → Type 0) (Between : GroupNo → State → Type 0) (During
       go (Some p) e =
           keeps_if I (has_delivered_cut s g p.cut) (let_go (complete history s g p)) (fold (want_own history g) s (missing_in s g p.cut))
           (λ all. let_go_keeps (complete history s g p)
-          (install_keeps I Between During Came home_here k s g false s.config.home ((s.group g).number + 1)
+          (install_keeps I During Came home_here casting k s g false s.config.home ((s.group g).number + 1)
           p.members p.request p.cut i (completes p e all refl refl refl refl refl)))
           (λ _. want_all g p (missing_in s g p.cut) s i e (missing_named s g p.cut) (missing_lacked s g p.cut))
 
@@ -254,39 +276,51 @@ module _ (I : State → Type 0) (Between : GroupNo → State → Type 0) (During
       let settled : State = settle s in
       let ordered : State = set_orders settled in
       let gone_on : State = go_on_all history resting ordered in
-      lead_keeps I Between During Came home_here k gone_on
+      lead_keeps I During Came home_here casting k gone_on
       (keeps_fold I (go_on history resting) go_on_keeps ordered.config.groups ordered
       (keeps_fold I set_order set_order_keeps settled.config.groups settled (settle_keeps s i)))
 
-  pub rests_keeps_fully : (s r : State) → RestsAt s r → I s → I r
-  rests_keeps_fully s r (n, leads, rest) i = subst I leads (keeps_iterate I pass pass_keeps n s i)
+  pub rests_keeps_wholly : (s r : State) → RestsAt s r → I s → I r
+  rests_keeps_wholly s r (n, leads, rest) i = subst I leads (keeps_iterate I pass pass_keeps n s i)
 
   -- Events
 
   owed_or_free : (s : State) → I s → OwedTrue s ⊎ AcksFreely I
   owed_or_free s i = elim k.truly [ inl owed ↦ inl (owed s i) | inr free ↦ inr free ]
 
-  acted_keeps : (s : State) (e : Event) → I s → HasCome Came e → SetsWell I s e → I (act_of_event s e)
-  acted_keeps s (event.Open d) i come sets = keeps_if I (may_open history sessions_given s) (opening_next s) s (λ _. k.opens s i) (λ _. i)
-  acted_keeps s (event.Command d n c) i come sets = on_command_keeps I Between During Came home_here k s n c i
-  acted_keeps s (event.Gone d n) i come sets = end_session_keeps I t s n i
-  acted_keeps s (event.Frame d from f) i come sets = on_site_frame_keeps I Between During Came home_here k s from f i come
-  acted_keeps s (event.Suspect d site) i come sets = suspect_keeps I Between During Came home_here k s site i
-  acted_keeps s (event.Quota d name value) i come sets = keeps_if I (is_in_range name value) (setting_quota s name value) s
+  acted_keeps : (s : State) (e : Event) → I s → HasCome Came e → SetsWell I s e → MayHappen casting e → I (act_of_event s e)
+  acted_keeps s (event.Open d) i come sets may =
+      keeps_if I (may_open history sessions_given s) (opening_next s) s (λ _. k.opens s i) (λ _. i)
+  acted_keeps s (event.Command d n c) i come sets may = on_command_keeps I During Came home_here casting k s n c i may
+  acted_keeps s (event.Gone d n) i come sets may = k.goes s n i
+  acted_keeps s (event.Frame d from f) i come sets may = on_site_frame_keeps I During Came home_here casting k s from f i come
+  acted_keeps s (event.Suspect d site) i come sets may = suspect_keeps I During Came home_here casting k s site i
+  acted_keeps s (event.Quota d name value) i come sets may = keeps_if I (is_in_range name value) (setting_quota s name value) s
       (λ _. sets) (λ _. i)
-  acted_keeps s (event.Take d n most) i come sets = keeps_if I (not (is_gone (s.session n)) && is_taken most) (taking s n most) s
-      (λ _. t.sets_session s n (taken_from most (s.session n)) i (λ e. e)) (λ _. i)
-  acted_keeps s (event.Tick time) i come sets = tick_keeps I t s time i (owed_or_free s i)
+  acted_keeps s (event.Take d n most) i come sets may = keeps_if I (not (is_gone (s.session n)) && is_taken most) (taking s n most) s
+      (λ _. k.takes s n most i) (λ _. i)
+  acted_keeps s (event.Tick time) i come sets may = tick_keeps I t s time i (owed_or_free s i)
+
+  pub event_keeps_wholly : (s : State) (e : Event) → I (before_event s) → HasCome Came e → SetsWell I (before_event s) e →
+      MayHappen casting e → I (after_event s e)
+  event_keeps_wholly s e i come sets may = let_go_keeps (act_of_event (before_event s) e) (acted_keeps (before_event s) e i come sets may)
+
+-- the same of what looks at each entry and each session by itself
+module _ (I : State → Type 0) (Between : GroupNo → State → Type 0) (During : Uid → State → Type 0) (Came : SiteNo → SiteFrame → Type 0)
+    (home_here casting : Bool) (k : FullyKept I Between During Came home_here casting) where
+  pub rests_keeps_fully : (s r : State) → RestsAt s r → I s → I r
+  rests_keeps_fully = rests_keeps_wholly I During Came home_here casting (kept_wholly I Between During Came home_here casting k)
 
   pub event_keeps_fully : (s : State) (e : Event) → I (before_event s) → HasCome Came e → SetsWell I (before_event s) e →
-      I (after_event s e)
-  event_keeps_fully s e i come sets = let_go_keeps (act_of_event (before_event s) e) (acted_keeps (before_event s) e i come sets)
+      MayHappen casting e → I (after_event s e)
+  event_keeps_fully = event_keeps_wholly I During Came home_here casting (kept_wholly I Between During Came home_here casting k)
 
 -- the same of what does not look at what is owed
 module _ (I : State → Type 0) (Came : SiteNo → SiteFrame → Type 0) (home_here : Bool) (k : Kept I Came home_here) where
   pub rests_keeps : (s r : State) → RestsAt s r → I s → I r
-  rests_keeps = rests_keeps_fully I (λ g. I) (λ u. I) Came home_here (kept_fully I Came home_here k)
+  rests_keeps = rests_keeps_fully I (λ g. I) (λ u. I) Came home_here true (kept_fully I Came home_here k)
 
   pub after_event_keeps : (s : State) (e : Event) → I (before_event s) → HasCome Came e → I (after_event s e)
-  after_event_keeps s e i come = event_keeps_fully I (λ g. I) (λ u. I) Came home_here (kept_fully I Came home_here k) s e i come
+  after_event_keeps s e i come = event_keeps_fully I (λ g. I) (λ u. I) Came home_here true (kept_fully I Came home_here k) s e i come
       (sets_any I (λ t quotas j. k.telling.books t quotas t.moment t.acks t.told t.owed t.casts t.pushes j) (before_event s) e i)
+      (any_happens e)

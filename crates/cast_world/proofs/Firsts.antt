@@ -28,9 +28,9 @@ firsts_had (x ∷ xs) e (zero, lt, is) = (0, omega arith, is)
 firsts_had (x ∷ xs) e (suc n, lt, is) =
     contains_more x xs e (firsts_had xs e (among_kept (λ y. not (entry_eq x y)) (firsts xs) e (n, omega (arith, lt), is)))
 
-pub apart_kept : (test : Entry → Bool) (xs : List Entry) → Apart xs → Apart (filter test xs)
+pub apart_kept : {X : Type 0} (test : X → Bool) (xs : List X) → Apart xs → Apart (filter test xs)
 apart_kept test [] apart = tt
-apart_kept test (x ∷ xs) apart = go (test x) (apart_kept test xs apart.1)
+apart_kept {X} test (x ∷ xs) apart = go (test x) (apart_kept test xs apart.1)
   where
     go : (b : Bool) → Apart (filter test xs) → Apart (cond b (x ∷ filter test xs) (filter test xs))
     go true more = ((λ at. apart.0 (among_kept test xs x at)), more)

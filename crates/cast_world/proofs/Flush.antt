@@ -1,4 +1,4 @@
--- What holds at every moment of a run of flushes, so that who passes to the next view delivered nothing beyond its cut.
+-- What holds at every moment of a run of flushes, so that who passes to the next view sent and delivered nothing beyond its cut.
 use Rattle.std.specs.Prelude.{◌+◌, ◌<◌, Contains, IsTrue, List, Some, true, ℕ, ◌≡◌, ◌≤◌, ◌⊎◌}
 use Rattle.cast_ready.specs.Ready.{Process}
 use Rattle.cast_flush.specs.declared.report.Report.{Report}
@@ -21,7 +21,7 @@ use Rattle.cast_view.specs.MemberSide.{MemberSide, has_view, members_of}
 use Rattle.cast_view.specs.declared.member.Pending.{Pending}
 use Rattle.cast_view.specs.declared.phase.Decision.{Decision}
 use Rattle.cast_view.specs.declared.phase.Phase.TheVariants.{Installing}
-use Rattle.cast_world.proofs.Facts.{Each, IsCounted}
+use Rattle.cast_world.proofs.Facts.{Each, HasDone, IsCounted}
 use Rattle.cast_world.proofs.Homes.{Awaits, reports_of}
 use Rattle.cast_world.proofs.Invariants.{Sites}
 use Rattle.cast_world.specs.Properties.{IsIn}
@@ -43,14 +43,15 @@ numbers at home g = ((at home).home g).number
 abbrev pub IsChosen : Choice → GroupNo → ℕ → Proc → Type 0
 IsChosen choice g view p = Contains (choice g view).members.list p
 
--- A site has told the home these counts of a view: it is frozen while that view stands, and all of the view that its processes
--- delivered is within the counts, or within the cut that was decided since
+-- A site has told the home these counts of a view: it is frozen while that view stands, all of the view that its processes sent is within
+-- the counts, and all that they delivered is, or is within the cut that was decided since
 pub record HasTold (choice : Choice) (number : GroupNo → ℕ) (group : GroupNo → MemberSide) (acts : ℕ → List Act) (g : GroupNo) (view : ℕ)
     (counts : CountList) : Type 0 where
   pub reached : view ≤ (group g).number
   pub frozen : (group g).number ≡ view → (group g).frozen ≡ true
   pub within : (k : ℕ) (m : Message) → Contains (acts k) (Delivered m) → m.id.group ≡ g → m.id.view ≡ view →
       (m.id.count ≤ count_of counts m.id.proc) ⊎ ((view < number g) × IsTrue (is_within (choice g (view + 1)).cut (entry_of m.id)))
+  pub sent : (k : ℕ) (m : Message) → Contains (acts k) (Sent m) → m.id.group ≡ g → m.id.view ≡ view → m.id.count ≤ count_of counts m.id.proc
 
 abbrev pub Told : Choice → (GroupNo → ℕ) → State → GroupNo → ℕ → CountList → Type 0
 Told choice number t g view counts = HasTold choice number t.group t.acts g view counts
@@ -82,12 +83,12 @@ pub record GroupAgrees (choice : Choice) (g : GroupNo) (group : MemberSide) : Ty
       (p.members ≡ (choice g (group.number + 1)).members) × (p.cut ≡ (choice g (group.number + 1)).cut)
   pub frozen : group.frozen ≡ true → has_view group ≡ true
 
--- after these acts a process enters a view with nothing delivered beyond the cut
+-- after these acts a process enters a view with nothing sent or delivered beyond the cut
 abbrev pub CutWell : List Act → Act → Type 0
 CutWell a (Sent m) = Unit {0}
 CutWell a (Delivered m) = Unit {0}
 CutWell a (Entered g n cut) =
-    (view : ℕ) (m : Message) → IsIn a g view → Contains a (Delivered m) → m.id.group ≡ g → m.id.view ≡ view →
+    (view : ℕ) (m : Message) → IsIn a g view → HasDone a m → m.id.group ≡ g → m.id.view ≡ view →
     IsTrue (is_within cut (entry_of m.id))
 CutWell a (Left g) = Unit {0}
 
@@ -116,6 +117,7 @@ pub record AgreeParts (choice : Choice) (number : GroupNo → ℕ) (at : Sites) 
   pub ones : (k : ℕ) → OneAgrees choice number here used group k (process k).standing (process k).delivered (acts k)
   pub homes : (g : GroupNo) → HomeAgrees choice number at g (home_of g)
   pub received : (m : Message) → Contains got m → IsMembers choice number m.id
+  pub own : (k : ℕ) (m : Message) → Contains (acts k) (Sent m) → Contains got m
   pub sent : (to : SiteNo) (f : SiteFrame) → Contains frames (to, f) → IsTrueOf choice number at s f
 
 abbrev pub SiteAgrees : Choice → (GroupNo → ℕ) → Sites → SiteNo → State → Type 0

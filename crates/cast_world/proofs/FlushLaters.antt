@@ -41,6 +41,7 @@ told_extends choice number more next ext t g view counts told = record {
           (sym ((ext g).1 (view + 1) (let was = cut.0 in omega (arith, was)))) cut.1,
     )
   ];
+  sent = told.sent;
 }
 
 module _ (home : SiteNo) (choice more : Choice) (at next : Sites) (ext : Extends choice (numbers at home) more (numbers next home))
@@ -95,6 +96,7 @@ module _ (home : SiteNo) (choice more : Choice) (at next : Sites) (ext : Extends
       reports = λ q r c. told q g (t.home g).number r.counts ((y.homes g).reports q r c);
     };
     received = λ m c. members_later m.id (y.received m c);
+    own = y.own;
     sent = λ to f c. true_later s to f (x.sent to f c) (y.sent to f c);
   }
 

@@ -1,5 +1,6 @@
 -- Each primitive move of a site keeps to what the site told, and keeps what holds of flushes there.
 use Rattle.std.proofs.Common.{ap, arith, inl, inr, subst, sym, ◌∙◌}
+use Rattle.std.proofs.lemmas.Bool.{true≢false}
 use Rattle.std.proofs.lemmas.List.Elements.{Contains-append_left, Contains-push, Contains-push_cases}
 use Rattle.std.specs.Prelude.{◌+◌, ◌++◌, ◌<◌, Bool, Contains, IsTrue, List, [], false, if◌then◌else◌, true, ℕ, ◌∷◌, ◌≡◌, ◌≤◌, ◌⊎◌}
 use Rattle.cast_ready.specs.Ready.{is_member}
@@ -18,10 +19,12 @@ use Rattle.cast_types.specs.declared.names.Standing.{Standing}
 use Rattle.cast_types.specs.declared.names.Standing.TheVariants.{Member}
 use Rattle.cast_types.specs.declared.names.Uid.{Uid}
 use Rattle.cast_view.specs.MemberSide.{MemberSide, members_of, with_view}
+use Rattle.cast_world.proofs.Acts.{sent_left}
+use Rattle.cast_world.proofs.Entries.{delivery_sends_none, passing_sends_none}
 use Rattle.cast_world.proofs.Flush.{Choice, CutWell, IsMembers, OneAgrees, Told}
 use Rattle.cast_world.proofs.Laters.{set_all, set_group_all}
 use Rattle.cast_world.proofs.Lists.{before_delivered, before_entered, before_left, before_sent, each_more}
-use Rattle.cast_world.proofs.Lists.{entered_same, entry_delivered, entry_left, entry_sent, same_cut}
+use Rattle.cast_world.proofs.Lists.{entered_same, entry_delivered, entry_left, entry_sent, same_cut, sent_same}
 
 -- what a process delivered before some were put out it delivered
 pub parted_old : (s : State) (g : GroupNo) (goes : ℕ → Bool) (k : ℕ) (m : Message) → Contains ((all_parted s g goes).acts k) (Delivered m) →
@@ -32,9 +35,17 @@ parted_old s g goes k m at = go (goes k) at
     go true c = before_left (s.acts k) g m c
     go false c = c
 
+pub parted_sent : (s : State) (g : GroupNo) (goes : ℕ → Bool) (k : ℕ) (m : Message) → Contains ((all_parted s g goes).acts k) (Sent m) →
+    Contains (s.acts k) (Sent m)
+parted_sent s g goes k m at = go (goes k) at
+  where
+    go : (b : Bool) → Contains (if b then s.acts k ++ Left g ∷ [] else s.acts k) (Sent m) → Contains (s.acts k) (Sent m)
+    go true c = sent_left (s.acts k) g m c
+    go false c = c
+
 -- A site keeps to what it told
 
--- numbers do not fall, a frozen group stays so in its view, and what is delivered in a frozen group is within the cut
+-- numbers do not fall, a frozen group stays so in its view, what is delivered in it is within the cut, and nothing is sent in it
 pub record Flows (choice : Choice) (number : GroupNo → ℕ) (group next : GroupNo → MemberSide) (acts more : ℕ → List Act) : Type 0 where
   pub reached : (g : GroupNo) → (group g).number ≤ (next g).number
   pub frozen : (g : GroupNo) → (next g).number ≡ (group g).number → (group g).frozen ≡ true → (next g).frozen ≡ true
@@ -42,6 +53,8 @@ pub record Flows (choice : Choice) (number : GroupNo → ℕ) (group next : Grou
       ⊎ (((group m.id.group).number ≡ m.id.view)
       × ((group m.id.group).frozen ≡ true → (m.id.view < number m.id.group)
       × IsTrue (is_within (choice m.id.group (m.id.view + 1)).cut (entry_of m.id))))
+  pub sends : (k : ℕ) (m : Message) → Contains (more k) (Sent m) → Contains (acts k) (Sent m)
+      ⊎ (((group m.id.group).number ≡ m.id.view) × ((group m.id.group).frozen ≡ false))
 
 abbrev pub FlowsTo : Choice → (GroupNo → ℕ) → State → State → Type 0
 FlowsTo choice number s t = Flows choice number s.group t.group s.acts t.acts
@@ -66,31 +79,51 @@ told_flows choice number s t f g view counts told = record {
               group (subst (λ v. IsTrue (is_within (choice m.id.group (v + 1)).cut (entry_of m.id))) in_view cut.1),
         )
   ];
+  sent = λ k m at group in_view. elim (f.sends k m at) [
+    | inl old ↦ told.sent k m old group in_view
+    | inr new ↦
+        let now : (s.group g).number ≡ view = ap (λ x. (s.group x).number) (sym group) ∙ new.0 ∙ in_view in
+        absurd (true≢false (sym (ap (λ x. (s.group x).frozen) group ∙ told.frozen now) ∙ new.1))
+  ];
 }
 
 module _ (choice : Choice) (number : GroupNo → ℕ) where
   pub flows_same : (s : State) → FlowsTo choice number s s
-  flows_same s = record { reached = λ g. omega arith; frozen = λ g e f. f; delivers = λ k m at. inl at }
-
-  -- acts that are no deliveries
-  flows_acts : (s : State) (acts : ℕ → List Act) →
-      ((k : ℕ) (m : Message) → Contains (acts k) (Delivered m) → Contains (s.acts k) (Delivered m)) →
-      Flows choice number s.group s.group s.acts acts
-  flows_acts s acts old = record { reached = λ g. omega arith; frozen = λ g e f. f; delivers = λ k m at. inl (old k m at) }
+  flows_same s = record { reached = λ g. omega arith; frozen = λ g e f. f; delivers = λ k m at. inl at; sends = λ k m at. inl at }
 
   pub flows_part : (s : State) (k : ℕ) (g : GroupNo) → FlowsTo choice number s (outside s k g)
   flows_part s k g = go (is_member ((s.process k).standing g))
     where
       go : (b : Bool) → Flows choice number s.group s.group s.acts (if b then (noting_act s k (Left g)).acts else s.acts)
-      go true = flows_acts s (noting_act s k (Left g)).acts
-          (set_all (λ j (x : List Act). (m : Message) → Contains x (Delivered m) → Contains (s.acts j) (Delivered m))
-          s.acts k (s.acts k ++ Left g ∷ []) (λ j m at. at) (λ m at. before_left (s.acts k) g m at))
+      go true = record {
+        reached = λ h. omega arith;
+        frozen = λ h e f. f;
+        delivers = λ j m at. inl
+            (set_all (λ i (x : List Act). (y : Message) → Contains x (Delivered y) → Contains (s.acts i) (Delivered y))
+            s.acts k (s.acts k ++ Left g ∷ []) (λ i y c. c) (λ y c. before_left (s.acts k) g y c) j m at);
+        sends = λ j m at. inl
+            (set_all (λ i (x : List Act). (y : Message) → Contains x (Sent y) → Contains (s.acts i) (Sent y))
+            s.acts k (s.acts k ++ Left g ∷ []) (λ i y c. c) (λ y c. sent_left (s.acts k) g y c) j m at);
+      }
       go false = flows_same s
 
-  pub flows_sent : (s : State) (k : ℕ) (m : Message) → FlowsTo choice number s (receiving (noting_sent s k m) m)
-  flows_sent s k m =
-      flows_acts s _ (set_all (λ j (x : List Act). (y : Message) → Contains x (Delivered y) → Contains (s.acts j) (Delivered y))
-      s.acts k (s.acts k ++ Sent m ∷ []) (λ j y at. at) (λ y at. before_sent (s.acts k) m y at))
+  pub flows_sent : (s : State) (k : ℕ) (m : Message) → (s.group m.id.group).number ≡ m.id.view → (s.group m.id.group).frozen ≡ false →
+      FlowsTo choice number s (receiving (noting_sent s k m) m)
+  flows_sent s k m view open_it = record {
+    reached = λ g. omega arith;
+    frozen = λ g e f. f;
+    delivers = λ j y at. inl
+        (set_all (λ i (x : List Act). (z : Message) → Contains x (Delivered z) → Contains (s.acts i) (Delivered z))
+        s.acts k (s.acts k ++ Sent m ∷ []) (λ i z c. c) (λ z c. before_sent (s.acts k) m z c) j y at);
+    sends = set_all (λ j (x : List Act). (y : Message) → Contains x (Sent y) → Contains (s.acts j) (Sent y)
+        ⊎ (((s.group y.id.group).number ≡ y.id.view) × ((s.group y.id.group).frozen ≡ false)))
+        s.acts k (s.acts k ++ Sent m ∷ []) (λ j y at. inl at)
+        (λ y at. elim (Contains-push_cases (s.acts k) (Sent m) (Sent y) at) [
+          | inl old ↦ inl old
+          | inr new ↦ inr (subst (λ (z : Message). ((s.group z.id.group).number ≡ z.id.view) × ((s.group z.id.group).frozen ≡ false))
+              (sent_same m y new) (view, open_it))
+        ]);
+  }
 
   pub flows_delivered : (s : State) (k : ℕ) (m : Message) → (s.group m.id.group).number ≡ m.id.view →
       ((s.group m.id.group).frozen ≡ true →
@@ -110,6 +143,7 @@ module _ (choice : Choice) (number : GroupNo → ℕ) where
               × ((s.group z.id.group).frozen ≡ true → (z.id.view < number z.id.group)
               × IsTrue (is_within (choice z.id.group (z.id.view + 1)).cut (entry_of z.id)))) new (view, cut))
         ]);
+    sends = λ j y at. inl (delivery_sends_none s k m j y at);
   }
 
   pub flows_group : (s : State) (g : GroupNo) (v : MemberSide) → v.number ≡ (s.group g).number →
@@ -119,6 +153,7 @@ module _ (choice : Choice) (number : GroupNo → ℕ) where
     frozen = set_group_all (λ h (x : MemberSide). x.number ≡ (s.group h).number → (s.group h).frozen ≡ true → x.frozen ≡ true)
         s.group g v (λ h e f. f) (λ e f. frozen f);
     delivers = λ k m at. inl at;
+    sends = λ k m at. inl at;
   }
 
   -- a group's number goes up, or it was not frozen
@@ -141,6 +176,7 @@ module _ (choice : Choice) (number : GroupNo → ℕ) where
     frozen = ended_frozen s g (with_view s.here n members (s.group g)) (omega (arith, up)) (λ e f. omega (arith, up, e));
     delivers = λ k m at. inl
         (parted_old s g (is_put_out s g skipped members) k m (old k m (enters (putting_out s g skipped members) g members request k) at));
+    sends = λ k m at. inl (passing_sends_none s g skipped n members request cut k m at);
   }
     where
       old : (k : ℕ) (m : Message) (b : Bool) → Contains (if b then (putting_out s g skipped members).acts k ++ Entered g n cut ∷ []

@@ -5,7 +5,7 @@ use Rattle.std.proofs.lemmas.List.Elements.{Contains-append_cases, Contains-appe
 use Rattle.std.specs.Prelude.{◌+◌, ◌++◌, ◌<◌, Bool, Contains, IsTrue, List, None, Option, Some, []}
 use Rattle.std.specs.Prelude.{false, if◌then◌else◌, is_some, map, refl, true, ℕ, ◌∷◌, ◌≡◌, ◌≤◌}
 use Rattle.cast_rules.specs.Acts.{Act}
-use Rattle.cast_rules.specs.Acts.Act.{Delivered, Entered}
+use Rattle.cast_rules.specs.Acts.Act.{Delivered, Entered, Sent}
 use Rattle.cast_rules.specs.Rules.Views.{no_members}
 use Rattle.cast_rules.specs.Run.{after_event, before_event}
 use Rattle.cast_rules.specs.State.{State}
@@ -68,6 +68,7 @@ module _ (home : SiteNo) (w : Network) (h : AllHold home w) (choice : Choice) (a
           | inl low ↦ inl low
           | inr cut ↦ inr ((let same = same_number g in let lt = cut.0 in omega (arith, same, lt)), cut.1)
         ];
+        sent = was.sent;
       }
 
       go : (b : Bool) → site_eq a s ≡ b → Told choice (numbers at0 home) (if b then t0 else w.at s) g view counts
@@ -90,14 +91,28 @@ module _ (home : SiteNo) (w : Network) (h : AllHold home w) (choice : Choice) (a
           let y =
           agrees_later home choice choice w.at at0 (λ g. ((let same = same_number g in omega (arith, same)), λ n le. refl))
           same_told a (w.at a) (h.sites a) (agree.sites a) in
-          record { groups = y.groups; ones = y.ones; homes = y.homes; received = y.received; sent = λ to f c. absurd (omega (arith, c.1)) }
+          record {
+            groups = y.groups;
+            ones = y.ones;
+            homes = y.homes;
+            received = y.received;
+            own = y.own;
+            sent = λ to f c. absurd (omega (arith, c.1));
+          }
 
       go : (s : SiteNo) (b : Bool) → site_eq a s ≡ b → SiteAgrees choice (numbers at0 home) at0 s (if b then t0 else w.at s)
       go s true e = subst (λ z. SiteAgrees choice (numbers at0 home) at0 z t0) (same_site a s e)
           (let y =
           agrees_later home choice choice w.at at0 (λ g. ((let same = same_number g in omega (arith, same)), λ n le. refl))
           same_told a (w.at a) (h.sites a) (agree.sites a) in
-          record { groups = y.groups; ones = y.ones; homes = y.homes; received = y.received; sent = λ to f c. absurd (omega (arith, c.1)) })
+          record {
+            groups = y.groups;
+            ones = y.ones;
+            homes = y.homes;
+            received = y.received;
+            own = y.own;
+            sent = λ to f c. absurd (omega (arith, c.1));
+          })
       go s false e =
           agrees_later home choice choice w.at at0 (λ g. ((let same = same_number g in omega (arith, same)), λ n le. refl))
           same_told s (w.at s) (h.sites s) (agree.sites s)
@@ -174,6 +189,7 @@ start_agrees sites config home = record {
       reports = λ q r c. absurd (nothing (q, r) c);
     };
     received = λ m c. absurd (nothing m c);
+    own = λ k m c. absurd (nothing (Sent m) c);
     sent = λ to f c. absurd (nothing (to, f) c);
   };
   packets = λ p c. absurd (nothing p c);
@@ -206,7 +222,7 @@ passes_with_cut sites config steps w r p g view before cut a b c e is stays =
             (let same : m.id.count ≡ e.1 = ap (λ (u : Uid). u.count) done.1 in omega (arith, low, same)),
             subst (λ x. IsTrue (is_within cut x)) entry
                 (((all.2.sites p.site).ones p.serial).cuts until c (Entered g (view + 1) cut)
-                is view m (still_in w f p g view before cut a b c is stays) at group in_view),
+                is view m (still_in w f p g view before cut a b c is stays) (inr at) group in_view),
           )),
       (λ both. passes_above w f p g view before cut a b c e is stays both.0 both.1),
     )

@@ -6,7 +6,7 @@
 -- (`ready_within`).
 use Rattle.std.proofs.Common.{ap, arith, inl, inr, subst, sym, ◌∙◌}
 use Rattle.std.proofs.lemmas.Bool.{and_parts, eq-eqb, eqb-true, false≢true, or_cases, true≢false}
-use Rattle.std.proofs.lemmas.List.Elements.{Contains-append_left, Contains-push_cases}
+use Rattle.std.proofs.lemmas.List.Elements.{Contains-append_left, Contains-append_right, Contains-push_cases}
 use Rattle.std.specs.List.{flat_map, list_any}
 use Rattle.std.specs.Prelude.{◌&&◌, ◌+◌, ◌++◌, ◌<◌, ◌==◌, Bool, Contains, IsTrue, List, None, Option, Some, [], false}
 use Rattle.std.specs.Prelude.{filter, if◌then◌else◌, is_some, map, not, refl, suc, true, ◌||◌, ℕ, ◌∷◌, ◌≡◌, ◌≤◌}
@@ -38,15 +38,18 @@ use Rattle.cast_view.specs.Home.{Home}
 use Rattle.cast_view.specs.MemberSide.{MemberSide, greatest_of, has_view, is_taken_in, members_of, with_end, with_view}
 use Rattle.cast_view.specs.Sites.{local_view}
 use Rattle.cast_view.specs.declared.member.Pending.{Pending}
+use Rattle.cast_world.proofs.Acts.{contains_here, sent_entered, sent_left}
 use Rattle.cast_world.proofs.Allowed.{contains_kept, contains_mapped, contains_range}
+use Rattle.cast_world.proofs.Entries.{delivery_sends_none}
 use Rattle.cast_world.proofs.Flush.{AgreeParts, Choice, CutWell, GroupAgrees, HomeAgrees}
 use Rattle.cast_world.proofs.Flush.{IsChosen, IsMembers, IsTrueOf, OneAgrees, SiteAgrees, Told}
 use Rattle.cast_world.proofs.FlushCounts.{contains_flat, counts_cover, greatest_covers}
-use Rattle.cast_world.proofs.FlushMoves.{agree_delivered, agree_entered, agree_left, agree_less, agree_sent, agree_used}
+use Rattle.cast_world.proofs.FlushMoves.{agree_delivered, agree_entered, agree_left, agree_less, agree_sent, agree_used, parted_sent}
 use Rattle.cast_world.proofs.Homes.{HomeFollows}
 use Rattle.cast_world.proofs.Invariants.{SiteHolds, Sites}
 use Rattle.cast_world.proofs.Kept.{Says}
 use Rattle.cast_world.proofs.Laters.{set_all, set_both, set_group_all}
+use Rattle.cast_world.proofs.Lists.{contains_split, sent_same}
 use Rattle.cast_world.proofs.Local.{cases_group}
 use Rattle.cast_world.proofs.Moves.{member_is}
 use Rattle.cast_world.proofs.Ones.{set_here, set_other}
@@ -125,6 +128,22 @@ module _ (choice : Choice) (at : Sites) (home s : SiteNo) (t : State) (x : SiteH
           let one = greatest_covers (had_in t g) (entry_of m.id) (had_one t g m.id here group view) in
           let two = counts_cover (greatest_of (had_in t g)) (members_of (t.group g)) m.id.proc listed in
           inl (omega (arith, one, two));
+      sent = λ k m done group view.
+          let split = contains_split (t.acts k) (Sent m) done in
+          let by : m.id.proc ≡ local t k = ((x.ones k).fits.each split.0 split.1 (Sent m) split.2).own in
+          let chosen : IsChosen choice g (t.group g).number m.id.proc =
+          subst (λ v. IsChosen choice g v m.id.proc)
+          view (subst (λ h. IsChosen choice h m.id.view m.id.proc) group (y.received m (y.own k m done)).1) in
+          let listed = chosen_members choice g (t.group g) (y.groups g) current m.id.proc chosen in
+          let here : Contains (had_here t) m.id =
+          Contains-append_right (flat_map (λ j. (t.process j).delivered) (serials t))
+          (filter (λ u. site_eq u.proc.site t.here) (map (λ (z : Message). z.id) t.got)) m.id
+          (contains_kept (λ (u : Uid). site_eq u.proc.site t.here) (map (λ (z : Message). z.id) t.got) m.id
+          (contains_mapped (λ (z : Message). z.id) t.got m (y.own k m done))
+          (eq-eqb m.id.proc.site.0 t.here.0 (ap (λ (p : Proc). p.site.0) by))) in
+          let one = greatest_covers (had_in t g) (entry_of m.id) (had_one t g m.id here group view) in
+          let two = counts_cover (greatest_of (had_in t g)) (members_of (t.group g)) m.id.proc listed in
+          omega (arith, one, two);
     }
 
     says_true : (to : SiteNo) (f : SiteFrame) → at s ≡ emit t to f → Says t to f → IsTrueOf choice number at s f
@@ -153,6 +172,7 @@ module _ (choice : Choice) (at : Sites) (home s : SiteNo) (t : State) (x : SiteH
       ones = y.ones;
       homes = y.homes;
       received = y.received;
+      own = y.own;
       sent = λ to2 f2 c. elim (Contains-push_cases t.frames (to, f) (to2, f2) c) [
         | inl old ↦ y.sent to2 f2 old
         | inr new ↦ subst (λ (z : SiteNo × SiteFrame). IsTrueOf choice number at s z.1) new (says_true to f own says)
@@ -166,15 +186,30 @@ module _ (choice : Choice) (at : Sites) (home s : SiteNo) (t : State) (x : SiteH
           (t.used + 1) (omega arith);
       homes = y.homes;
       received = y.received;
+      own = y.own;
       sent = y.sent;
     }
 
-    -- processes did something
+    -- processes did something, and sent nothing
     abbrev pub WithOnes : (ℕ → Process) → (ℕ → List Act) → Type 0
     WithOnes process acts = AgreeParts choice number at s t.here t.used process acts t.group t.home t.got t.frames
 
-    with_ones : (process : ℕ → Process) (acts : ℕ → List Act) → ((k : ℕ) → One t.group k (process k) (acts k)) → WithOnes process acts
-    with_ones process acts all = record { groups = y.groups; ones = all; homes = y.homes; received = y.received; sent = y.sent }
+    with_ones : (process : ℕ → Process) (acts : ℕ → List Act) → ((k : ℕ) → One t.group k (process k) (acts k)) →
+        ((k : ℕ) (m : Message) → Contains (acts k) (Sent m) → Contains (t.acts k) (Sent m)) → WithOnes process acts
+    with_ones process acts all none = record {
+      groups = y.groups;
+      ones = all;
+      homes = y.homes;
+      received = y.received;
+      own = λ k m at. y.own k m (none k m at);
+      sent = y.sent;
+    }
+
+    -- one process did, and sent nothing
+    none_more : (k : ℕ) (acts : List Act) → ((m : Message) → Contains acts (Sent m) → Contains (t.acts k) (Sent m)) →
+        (j : ℕ) (m : Message) → Contains (set_at (λ a b. a == b) t.acts k acts j) (Sent m) → Contains (t.acts j) (Sent m)
+    none_more k acts none =
+        set_all (λ j (l : List Act). (m : Message) → Contains l (Sent m) → Contains (t.acts j) (Sent m)) t.acts k acts (λ j m at. at) none
 
     changed : (k : ℕ) (p : Process) (acts : List Act) → One t.group k p acts → (j : ℕ) →
         One t.group j (set_at (λ a b. a == b) t.process k p j) (set_at (λ a b. a == b) t.acts k acts j)
@@ -203,10 +238,11 @@ module _ (choice : Choice) (at : Sites) (home s : SiteNo) (t : State) (x : SiteH
         go : (b : Bool) → WithOnes (set_at (λ a c. a == c) t.process k (put_outside g (t.process k)))
             (if b then (noting_act t k (Left g)).acts else t.acts)
         go true = with_ones _ _ (changed k (put_outside g (t.process k)) (t.acts k ++ Left g ∷ []) (gone_left k g))
-        go false = with_ones _ _ (stood k (put_outside g (t.process k)) (gone k g))
+            (none_more k (t.acts k ++ Left g ∷ []) (λ m at. sent_left (t.acts k) g m at))
+        go false = with_ones _ _ (stood k (put_outside g (t.process k)) (gone k g)) (λ j m at. at)
 
     pub all_part_agrees : (g : GroupNo) (goes : ℕ → Bool) → SiteAgrees choice number at s (all_parted t g goes)
-    all_part_agrees g goes = with_ones _ _ (λ k. go k (goes k))
+    all_part_agrees g goes = with_ones _ _ (λ k. go k (goes k)) (λ k m at. parted_sent t g goes k m at)
       where
         go : (k : ℕ) (b : Bool) →
             One t.group k (if b then put_outside g (t.process k) else t.process k) (if b then t.acts k ++ Left g ∷ [] else t.acts k)
@@ -217,7 +253,7 @@ module _ (choice : Choice) (at : Sites) (home s : SiteNo) (t : State) (x : SiteH
     join_agrees k g request heard =
         with_ones _ _ (stood k (record (t.process k) { standing = set_at group_eq (t.process k).standing g (Joining request heard) })
         (less k t.group (set_at group_eq (t.process k).standing g (Joining request heard))
-        (λ h is. (asks ((t.process k).standing h) (group_eq g h) request heard is, refl))))
+        (λ h is. (asks ((t.process k).standing h) (group_eq g h) request heard is, refl)))) (λ j m at. at)
 
     -- a group changes, but for number and view
     pub group_agrees : (g : GroupNo) (v : MemberSide) → v.view ≡ (t.group g).view → GroupAgrees choice g v →
@@ -232,6 +268,7 @@ module _ (choice : Choice) (at : Sites) (home s : SiteNo) (t : State) (x : SiteH
           ));
       homes = y.homes;
       received = y.received;
+      own = y.own;
       sent = y.sent;
     }
 
@@ -245,6 +282,7 @@ module _ (choice : Choice) (at : Sites) (home s : SiteNo) (t : State) (x : SiteH
         | inl old ↦ y.received z old
         | inr new ↦ subst (λ (w : Message). IsMembers choice number w.id) new is_one
       ];
+      own = λ k z at. Contains-append_left t.got (m ∷ []) z (y.own k z at);
       sent = y.sent;
     }
 
@@ -257,13 +295,25 @@ module _ (choice : Choice) (at : Sites) (home s : SiteNo) (t : State) (x : SiteH
           m.id.proc (proc_among (members_of (t.group m.id.group)) m.id.proc member)),
     )
 
-    pub noted_agrees : (g : GroupNo) (k : ℕ) (content : Body) →
-        WithOnes (noting_sent t k (next_message t g k content)).process (noting_sent t k (next_message t g k content)).acts
+    pub noted_agrees : (g : GroupNo) (k : ℕ) (content : Body) (j : ℕ) →
+        One t.group j ((noting_sent t k (next_message t g k content)).process j) ((noting_sent t k (next_message t g k content)).acts j)
     noted_agrees g k content =
-        with_ones _ _ (changed k (record (t.process k) { time = (next_message t g k content).times })
+        changed k (record (t.process k) { time = (next_message t g k content).times })
         (t.acts k ++ Sent (next_message t g k content) ∷ [])
         (agree_sent choice number t.here t.used t.group k (t.process k).standing (t.process k).delivered (t.acts k) (y.ones k)
-        (next_message t g k content)))
+        (next_message t g k content))
+
+    -- the site has what it sent
+    pub noted_own : (g : GroupNo) (k : ℕ) (content : Body) (j : ℕ) (z : Message) →
+        Contains ((noting_sent t k (next_message t g k content)).acts j) (Sent z) → Contains (t.got ++ next_message t g k content ∷ []) z
+    noted_own g k content =
+        let m : Message = next_message t g k content in
+        set_all (λ j (l : List Act). (z : Message) → Contains l (Sent z) → Contains (t.got ++ m ∷ []) z) t.acts k (t.acts k ++ Sent m ∷ [])
+        (λ j z at. Contains-append_left t.got (m ∷ []) z (y.own j z at))
+        (λ z at. elim (Contains-push_cases (t.acts k) (Sent m) (Sent z) at) [
+          | inl old ↦ Contains-append_left t.got (m ∷ []) z (y.own k z old)
+          | inr same ↦ subst (Contains (t.got ++ m ∷ [])) (sent_same m z same) (contains_here t.got [] m)
+        ])
 
     pub own_member : (g : GroupNo) (k : ℕ) (content : Body) → is_member ((t.process k).standing g) ≡ true →
         IsMembers choice number (next_message t g k content).id
@@ -279,7 +329,7 @@ module _ (choice : Choice) (at : Sites) (home s : SiteNo) (t : State) (x : SiteH
         let member = (and_parts (is_member ((t.process k).standing m.id.group)) _ ready_parts.0).0 in
         let given = (x.ones k).given m.id.group (ap is_outside (member_is _ member)) in
         with_ones _ _ (changed k _ _ (agree_delivered choice number t.here t.used t.group k (t.process k).standing (t.process k).delivered
-        (t.acts k) (y.ones k) m (given.0, given.1) (y.received m c)))
+        (t.acts k) (y.ones k) m (given.0, given.1) (y.received m c))) (delivery_sends_none t k m)
 
     -- a message that is ready while its group is frozen is within the cut
     pub ready_within : (k : ℕ) (m : Message) → is_ready_for t k m ≡ true → ((t.group m.id.group).number ≡ m.id.view)
@@ -315,6 +365,7 @@ module _ (choice : Choice) (at : Sites) (home s : SiteNo) (t : State) (x : SiteH
       ones = y.ones;
       homes = set_group_all (HomeAgrees choice number at) t.home g h y.homes agrees;
       received = y.received;
+      own = y.own;
       sent = y.sent;
     }
 
@@ -388,8 +439,14 @@ module _ (choice : Choice) (at : Sites) (home s : SiteNo) (t : State) (x : SiteH
         ones = λ k. go_in k (enters t g members request k) refl;
         homes = y.homes;
         received = y.received;
+        own = λ k m at. y.own k m (sent_old k m (enters t g members request k) at);
         sent = y.sent;
       }
+        where
+          sent_old : (k : ℕ) (m : Message) (b : Bool) → Contains (if b then t.acts k ++ Entered g n cut ∷ [] else t.acts k) (Sent m) →
+              Contains (t.acts k) (Sent m)
+          sent_old k m true at = sent_entered (t.acts k) g n cut m at
+          sent_old k m false at = at
 
 -- a message is sent
 pub sent_agrees : (choice : Choice) (at : Sites) (home s : SiteNo) (t : State) (x : SiteHolds at home s t) →
@@ -397,16 +454,16 @@ pub sent_agrees : (choice : Choice) (at : Sites) (home s : SiteNo) (t : State) (
     is_member ((t.process k).standing g) ≡ true → SiteAgrees choice (λ g. ((at home).home g).number)
     at s (receiving (noting_sent t k (next_message t g k content)) (next_message t g k content))
 sent_agrees choice at home s t x y g k content member =
-    let noted = noted_agrees choice at home s t x y g k content in
     record {
-      groups = noted.groups;
-      ones = noted.ones;
-      homes = noted.homes;
+      groups = y.groups;
+      ones = noted_agrees choice at home s t x y g k content;
+      homes = y.homes;
       received = λ z c. elim (Contains-push_cases t.got (next_message t g k content) z c) [
         | inl old ↦ y.received z old
         | inr new ↦
             subst (λ (w : Message). IsMembers choice (λ h. ((at home).home h).number) w.id)
             new (own_member choice at home s t x y g k content member)
       ];
-      sent = noted.sent;
+      own = noted_own choice at home s t x y g k content;
+      sent = y.sent;
     }

@@ -44,11 +44,11 @@ use Rattle.cast_view.specs.declared.phase.Phase.{Phase}
 use Rattle.cast_view.specs.declared.phase.Phase.TheVariants.{Gathering, Idle, Installing}
 use Rattle.cast_world.proofs.Allowed.{passed, passes}
 use Rattle.cast_world.proofs.Flush.{AllCovered, Choice, Chosen, Covered, CutWell, GroupAgrees}
-use Rattle.cast_world.proofs.Flush.{IsChosen, IsTrueOf, SiteAgrees, Told, numbers}
+use Rattle.cast_world.proofs.Flush.{IsChosen, IsMembers, IsTrueOf, SiteAgrees, Told, numbers}
 use Rattle.cast_world.proofs.FlushCounts.{cut_covers, within_of}
 use Rattle.cast_world.proofs.FlushLaters.{Extends, agrees_later, covered_later, extends_then, told_extends, true_later}
 use Rattle.cast_world.proofs.FlushMoves.{FlowsTo, flows_delivered, flows_group, flows_part}
-use Rattle.cast_world.proofs.FlushMoves.{flows_passing, flows_same, flows_sent, parted_old, told_flows}
+use Rattle.cast_world.proofs.FlushMoves.{flows_passing, flows_same, flows_sent, parted_old, parted_sent, told_flows}
 use Rattle.cast_world.proofs.FlushSites.{all_part_agrees, delivered_agrees, emits_agrees, follow_agrees, group_agrees}
 use Rattle.cast_world.proofs.FlushSites.{home_agrees, join_agrees, members_chosen, opened_agrees, part_agrees}
 use Rattle.cast_world.proofs.FlushSites.{proc_among, ready_within, received_agrees, sent_agrees, view_agrees}
@@ -56,7 +56,7 @@ use Rattle.cast_world.proofs.Homes.{Awaits, HomeFollows, brought_follows, idle_n
 use Rattle.cast_world.proofs.Homes.{left_follows, not_gathering, reported_follows, reports_of, request_follows}
 use Rattle.cast_world.proofs.Homes.{same_decision, same_sites, set_had, started_follows, suspicion_follows}
 use Rattle.cast_world.proofs.Invariants.{Later, SiteHolds, Sites}
-use Rattle.cast_world.proofs.Kept.{Comes, Kept, KeptByTelling, MayMove, completes, ends, installs, skips}
+use Rattle.cast_world.proofs.Kept.{Comes, Kept, KeptByTelling, MayMove, completes, ends, installs, skips, sends_unfrozen}
 use Rattle.cast_world.proofs.Laters.{later_same, set_group_all, site_later}
 use Rattle.cast_world.proofs.Local.{cases_group}
 use Rattle.cast_world.proofs.Moves.{all_part_site, later_delivered, later_group, later_home}
@@ -426,13 +426,18 @@ module _ (home : SiteNo) (w : Network) (a : SiteNo) where
           let told_here : Told choice (number t) t g (t.group g).number told_it.0 =
           subst (λ (z : State). Told choice (number t) z g (t.group g).number told_it.0) (ap (at t) x_now.here_is ∙ own_is home w a t)
           told_it.1 in
+          let by_member : IsMembers choice (number t) m.id =
+          elim done [ inl c ↦ y_left.received m (y_left.own j m c) | inr c ↦ (y_left.ones j).sender m c ] in
           let chosen : IsChosen choice g (t.group g).number m.id.proc =
           subst (λ v. IsChosen choice g v m.id.proc) (in_view ∙ sym here)
-          (subst (λ z. IsChosen choice z m.id.view m.id.proc) group ((y_left.ones j).sender m done).1) in
-          subst (λ c. IsTrue (is_within c (entry_of m.id))) (sym pend.1)
-          (elim (told_here.within j m (parted_old t g goes j m done) group (in_view ∙ sym here)) [
-            | inl low ↦ told_it.2 (entry_of m.id) tt chosen low
-            | inr within ↦ within.1
+          (subst (λ z. IsChosen choice z m.id.view m.id.proc) group by_member.1) in
+          subst (λ c. IsTrue (is_within c (entry_of m.id))) (sym pend.1) (elim done [
+            | inl sent ↦
+                told_it.2 (entry_of m.id) tt chosen (told_here.sent j m (parted_sent t g goes j m sent) group (in_view ∙ sym here))
+            | inr delivered ↦ elim (told_here.within j m (parted_old t g goes j m delivered) group (in_view ∙ sym here)) [
+              | inl low ↦ told_it.2 (entry_of m.id) tt chosen low
+              | inr within ↦ within.1
+            ]
           ])
 
       well_of : Comes (Arrived home w a) t g skipped n members request cut →
@@ -532,7 +537,7 @@ module _ (home : SiteNo) (w : Network) (a : SiteNo) where
           let m : Message = next_message t g n content in
           let u : State = receiving (noting_sent t n m) m in
           keep first low t u (later_sent t n m) (λ j. omega arith) (k.sends t g n content i.0 member may) i
-          (λ choice f. flows_sent choice (number t) t n m)
+          (λ choice f. flows_sent choice (number t) t n m refl (sends_unfrozen t g n content may))
           (λ choice f x y own truth. sent_agrees choice (at u) home a t x y g n content member);
       receives = λ t from m i came view member.
           let u : State = receiving t m in

@@ -1,5 +1,5 @@
 -- What the moves of a history keep, its rules of commands and frames keep.
--- For any invariant `I` that each move keeps (`FullyKept`), `commanded_keeps` says that a command
+-- For any invariant `I` that each move keeps (`WhollyKept`), `commanded_keeps` says that a command
 -- keeps `I`, and `framed_keeps` says that a frame does. A rule is made of questions, which change
 -- nothing, and of moves, each of which keeps `I`; the tests before a move say what that move may
 -- suppose. There is one lemma for each rule, which stands behind those of the rules that it uses.
@@ -14,7 +14,7 @@ use Rattle.cast_clock.specs.Times.{view_of}
 use Rattle.cast_ready.specs.Ready.{is_member, is_outside}
 use Rattle.cast_flush.specs.declared.report.Report.{Report}
 use Rattle.cast_rules.specs.Effects.{next_message}
-use Rattle.cast_rules.specs.Entering.{freezing, passing}
+use Rattle.cast_rules.specs.Entering.{freezing}
 use Rattle.cast_rules.specs.History.{history}
 use Rattle.cast_rules.specs.Order.{holds, place_to_pass}
 use Rattle.cast_rules.specs.Owing.{paying, paying_upto}
@@ -35,8 +35,8 @@ use Rattle.cast_rules.specs.Rules.Requests.{answer_ask, deny, deny_if, is_joinin
 use Rattle.cast_rules.specs.Rules.Room.{may_order, may_receive, may_take}
 use Rattle.cast_rules.specs.Rules.Sending.{may_raise, send_data}
 use Rattle.cast_rules.specs.Rules.Stability.{is_used_ack, on_ack, on_stable, tell_more, tell_stable, with_ack}
-use Rattle.cast_rules.specs.Rules.Views.{change_view, enter_and_tell, install, no_members, on_install, on_out, tell_out, tell_view}
-use Rattle.cast_rules.specs.State.{State, awaits_own, counting_cast, emit, is_group, is_received, is_stable, local, local_members}
+use Rattle.cast_rules.specs.Rules.Views.{change_view, install, no_members, on_install, on_out}
+use Rattle.cast_rules.specs.State.{State, awaits_own, counting_cast, emit, is_group, is_received, is_stable, local}
 use Rattle.cast_rules.specs.State.{message_of, noting_sent, others_of, outside, receiving, set_group, set_home, set_standing, upto}
 use Rattle.cast_message.specs.Bodies.{kind_of}
 use Rattle.cast_message.specs.KeptIds.{KeptList}
@@ -73,18 +73,16 @@ use Rattle.cast_view.specs.MemberSide.{has_view, is_current, is_pending, is_put_
 use Rattle.cast_view.specs.declared.member.PendingRequest.{PendingRequest}
 use Rattle.cast_view.specs.declared.member.Verdict.{Verdict}
 use Rattle.cast_view.specs.declared.member.Verdict.TheVariants.{Again, Completes, Ignored, Pends, Skips}
-use Rattle.cast_world.proofs.Entries.{agrees_later, members_entered, put_out_left, tell_all_goes_on, tell_all_keeps}
 use Rattle.cast_world.proofs.Keeps.{found_is, keeps_fold, keeps_if, keeps_option}
-use Rattle.cast_world.proofs.Kept.{Comes, MaySend, FullyKept, FullyKeptByTelling, asked}
+use Rattle.cast_world.proofs.Kept.{Comes, KeptByOwing, MaySend, WhollyKept, asked}
 use Rattle.cast_world.proofs.Kept.{casts, ends, fits, hands, installs, skips, unknown, wanted}
-use Rattle.cast_world.proofs.Telling.{ask_home_keeps, close_session_keeps, leave_at_keeps, outcome}
-use Rattle.cast_world.proofs.Telling.{owe_keeps, pay_keeps, request_keeps, send_for_keeps, tell_keeps}
+use Rattle.cast_world.proofs.Telling.{ask_home_keeps, leave_at_keeps, outcome}
+use Rattle.cast_world.proofs.Telling.{owe_keeps, pay_keeps, request_keeps, send_for_keeps}
 use Rattle.cast_message.specs.declared.site.Change.TheVariants as change
 use Rattle.cast_message.specs.declared.client.CastKind.TheVariants as kind_name
 use Rattle.cast_message.specs.declared.client.Command.TheVariants as command
 use Rattle.cast_message.specs.declared.site.SiteFrame.TheVariants as frame
 use Rattle.cast_timer.specs.declared.key.OwedKind.TheVariants as kinds
-use Rattle.cast_message.specs.declared.client.Push.TheVariants as push
 use Rattle.cast_message.specs.declared.client.Request.TheVariants as request_of
 
 pub not_true : (b : Bool) → not b ≡ false → b ≡ true
@@ -106,8 +104,19 @@ told_counts : State → GroupNo → MemberSide → CountList
 told_counts s g x =
     counts_by (greatest_of (map entry_of (filter (λ u. group_eq u.group g && (u.view == x.number)) (had_here s)))) (members_of x)
 
+-- where a program asks to cast, programs may cast
+abbrev pub MayAsk : Bool → Request → Type 0
+MayAsk casting (request_of.Join tag g) = Unit {0}
+MayAsk casting (request_of.Leave tag g) = Unit {0}
+MayAsk casting (request_of.Cast tag g kind payload) = casting ≡ true
+MayAsk casting (request_of.Pass tag g to) = Unit {0}
+
+abbrev pub MayCommand : Bool → Command → Type 0
+MayCommand casting (command.Request q) = MayAsk casting q
+MayCommand casting command.Bad = Unit {0}
+
 -- what was received is acknowledged
-module _ (I : State → Type 0) (t : FullyKeptByTelling I) where
+module _ (I : State → Type 0) (t : KeptByOwing I) where
   acknowledge_keeps : (s : State) (to : SiteNo) (u : Uid) → I s → is_received s u ≡ true → u.view ≡ (s.group u.group).number →
       I (acknowledge history s to u)
   acknowledge_keeps s to u i has current = keeps_if I (is_stable s u) (emit s to (frame.Ack u)) (owe history s (message_key kinds.Ack u to))
@@ -115,31 +124,32 @@ module _ (I : State → Type 0) (t : FullyKeptByTelling I) where
       (λ _. owe_keeps I t s (message_key kinds.Ack u to)
       i (ap (λ n. is_received s (record { group = u.group; view = n; proc = u.proc; count = u.count })) (sym current) ∙ has) tt tt)
 
-module _ (I : State → Type 0) (Between : GroupNo → State → Type 0) (During : Uid → State → Type 0) (Came : SiteNo → SiteFrame → Type 0)
-    (home_here : Bool) (k : FullyKept I Between During Came home_here) where
-  abbrev t : FullyKeptByTelling I
-  t = k.telling
+module _ (I : State → Type 0) (During : Uid → State → Type 0) (Came : SiteNo → SiteFrame → Type 0) (home_here casting : Bool)
+    (k : WhollyKept I During Came home_here casting) where
+  abbrev t : KeptByOwing I
+  t = k.owing
 
   -- Messages of local processes
 
-  send_data_keeps : (u : Uid) (s : State) (to : SiteNo) → I s → I (send_data history u s to)
+  pub send_data_keeps : (u : Uid) (s : State) (to : SiteNo) → I s → I (send_data history u s to)
   send_data_keeps u s to i =
       keeps_if I (has_acked s.acks u to) (send_for history s (message_key kinds.Data u to)) (owe history s (message_key kinds.Data u to))
       (λ _. send_for_keeps I t s (message_key kinds.Data u to) i tt) (λ _. owe_keeps I t s (message_key kinds.Data u to) i tt tt tt)
 
   pub sending_keeps : (s : State) (g : GroupNo) (n : ℕ) (content : Body) → I s → is_member ((s.process n).standing g) ≡ true →
       MaySend s g n content → may_take history s content ≡ true →
-      (s.group g).frozen ≡ false → I (send_own history s n (next_message s g n content))
-  sending_keeps s g n content i member may room open_it =
+      (s.group g).frozen ≡ false → (is_order (kind_of content) ≡ false → casting ≡ true) →
+      I (send_own history s n (next_message s g n content))
+  sending_keeps s g n content i member may room open_it asked_for =
       let m : Message = next_message s g n content in
       let taken : State = receiving (noting_sent s n m) m in
       keeps_fold I (send_data history m.id) (send_data_keeps m.id) (others_of taken m.id.group)
-      taken (k.sends s g n content i member may room open_it)
+      taken (k.sends s g n content i member may room open_it asked_for)
 
   -- Commands
 
   reply_keeps : (a : Attempt State) (n tag : ℕ) → I a.0 → I (reply history a n tag)
-  reply_keeps a n tag i = tell_keeps I t a.0 n (push.Reply tag a.1) i tt
+  reply_keeps a n tag i = k.replies a.0 n tag a.1 i
 
   join_keeps : (s : State) (n : ℕ) (g : GroupNo) → I s → is_open (s.session n) ≡ true → I (outcome (join history s n g))
   join_keeps s n g i open_it = place (is_group s g) refl
@@ -187,8 +197,9 @@ module _ (I : State → Type 0) (Between : GroupNo → State → Type 0) (During
   no_order kind_name.Causal payload = refl
   no_order kind_name.Atomic payload = refl
 
-  cast_keeps : (s : State) (n : ℕ) (g : GroupNo) (kind : CastKind) (payload : List ℕ) → I s → I (outcome (cast history s n g kind payload))
-  cast_keeps s n g kind payload i = place (is_group s g)
+  cast_keeps : (s : State) (n : ℕ) (g : GroupNo) (kind : CastKind) (payload : List ℕ) → I s → casting ≡ true →
+      I (outcome (cast history s n g kind payload))
+  cast_keeps s n g kind payload i asked_for = place (is_group s g)
     where
       at : I (outcome (cast_at history s n g kind payload g))
       at = refused_or (nat_lt MAX_PAYLOAD (length payload)) s TooLong _ i
@@ -202,9 +213,9 @@ module _ (I : State → Type 0) (Between : GroupNo → State → Type 0) (During
           let sent : State = send_own history s n (next_message s g n (body_of kind payload)) in
           t.books sent sent.moment (min MAX_CASTS (sent.casts + 1))
           (sending_keeps s g n (body_of kind payload) i (not_true (is_member ((s.process n).standing g)) member)
-          (casts (no_order kind payload))
+          (casts (no_order kind payload) open_it)
           (ap (λ b. if b then may_order history s else may_receive history s) (no_order kind payload)
-          ∙ not_true (may_receive history s) room) open_it)))))))
+          ∙ not_true (may_receive history s) room) open_it (λ _. asked_for))))))))
 
       place : (b : Bool) → I (outcome (option_map_or (cast_at history s n g kind payload) (if b then Some g else None) (s, Some NoGroup)))
       place true = at
@@ -220,6 +231,7 @@ module _ (I : State → Type 0) (Between : GroupNo → State → Type 0) (During
       itself : (b : Bool) → I (outcome (if b then (s, None) else (send_own history s n (next_message s g n (body_handing place to)), None)))
       itself true = i
       itself false = sending_keeps s g n (body_handing place to) i member (hands place to held open_it e refl) room open_it
+          (λ none. absurd (true≢false none))
 
   pass_token_keeps : (s : State) (n : ℕ) (g : GroupNo) (to : Proc) → I s → I (outcome (pass_token history s n g to))
   pass_token_keeps s n g to i = place (is_group s g)
@@ -240,18 +252,20 @@ module _ (I : State → Type 0) (Between : GroupNo → State → Type 0) (During
       place true = at
       place false = i
 
-  on_request_keeps : (s : State) (n : ℕ) (q : Request) → I s → is_open (s.session n) ≡ true → I (on_request history s n q)
-  on_request_keeps s n (request_of.Join tag g) i open_it = reply_keeps (join history s n g) n tag (join_keeps s n g i open_it)
-  on_request_keeps s n (request_of.Leave tag g) i open_it = reply_keeps (leave history s n g) n tag (leave_keeps s n g i)
-  on_request_keeps s n (request_of.Cast tag g kind payload) i open_it =
-      reply_keeps (cast history s n g kind payload) n tag (cast_keeps s n g kind payload i)
-  on_request_keeps s n (request_of.Pass tag g to) i open_it = reply_keeps (pass_token history s n g to) n tag (pass_token_keeps s n g to i)
+  on_request_keeps : (s : State) (n : ℕ) (q : Request) → I s → is_open (s.session n) ≡ true → MayAsk casting q →
+      I (on_request history s n q)
+  on_request_keeps s n (request_of.Join tag g) i open_it may = reply_keeps (join history s n g) n tag (join_keeps s n g i open_it)
+  on_request_keeps s n (request_of.Leave tag g) i open_it may = reply_keeps (leave history s n g) n tag (leave_keeps s n g i)
+  on_request_keeps s n (request_of.Cast tag g kind payload) i open_it may =
+      reply_keeps (cast history s n g kind payload) n tag (cast_keeps s n g kind payload i may)
+  on_request_keeps s n (request_of.Pass tag g to) i open_it may =
+      reply_keeps (pass_token history s n g to) n tag (pass_token_keeps s n g to i)
 
-  pub on_command_keeps : (s : State) (n : ℕ) (c : Command) → I s → I (on_command history s n c)
-  on_command_keeps s n (command.Request q) i =
-      keeps_if I (is_open (s.session n)) (on_request history s n q) s (on_request_keeps s n q i) (λ _. i)
-  on_command_keeps s n command.Bad i =
-      keeps_if I (is_open (s.session n)) (close_session history s n BadFrame) s (λ _. close_session_keeps I t s n BadFrame i) (λ _. i)
+  pub on_command_keeps : (s : State) (n : ℕ) (c : Command) → I s → MayCommand casting c → I (on_command history s n c)
+  on_command_keeps s n (command.Request q) i may =
+      keeps_if I (is_open (s.session n)) (on_request history s n q) s (λ open_it. on_request_keeps s n q i open_it may) (λ _. i)
+  on_command_keeps s n command.Bad i may =
+      keeps_if I (is_open (s.session n)) (close_session history s n BadFrame) s (λ open_it. k.closes s n BadFrame i open_it) (λ _. i)
 
   -- Messages of other sites
 
@@ -332,7 +346,7 @@ module _ (I : State → Type 0) (Between : GroupNo → State → Type 0) (During
 
   deny_keeps : (s : State) (g : GroupNo) (a : PendingRequest) → I s → I (deny history s g a)
   deny_keeps s g a i = keeps_if I (is_joining_by ((s.process a.proc.serial).standing g) a.number) _ s
-      (λ _. tell_keeps I t (outside s a.proc.serial g) a.proc.serial (push.Denied g GroupFull) (t.parts s a.proc.serial g i) tt) (λ _. i)
+      (λ _. k.denies (outside s a.proc.serial g) a.proc.serial g GroupFull (t.parts s a.proc.serial g i)) (λ _. i)
 
   take_answer_keeps : (s : State) (g : GroupNo) → I s → I (take_answer history s g)
   take_answer_keeps s g i =
@@ -482,28 +496,12 @@ module _ (I : State → Type 0) (Between : GroupNo → State → Type 0) (During
 
   -- Views
 
-  change_view_keeps : (s : State) (g : GroupNo) (skipped : Bool) (n : ℕ) (members : Membership) (request : ℕ) (cut : CountList) → I s →
-      Comes Came s g skipped n members request cut → I (change_view history skipped s g n members request cut)
-  change_view_keeps s g skipped n members request cut i comes =
-      let entered : State = passing s g skipped n members request cut in
-      let out : State = fold (tell_out history g n) entered (history.put_out s g skipped members) in
-      let told : State = fold (tell_view history g n members) out (local_members entered g) in
-      let b : FullyKeptByTelling (Between g) = k.between g in
-      let all : Between g (enter_and_tell history skipped s g n members request cut) =
-      tell_all_keeps (push.View g n members) (Between g) b (local_members entered g) out
-      (tell_all_keeps (push.Ejected g n) (Between g) b (history.put_out s g skipped members)
-      entered (k.passes s g skipped n members request cut i comes) (put_out_left s g skipped n members request cut))
-      (λ q at. agrees_later (entered.acts q) (out.acts q)
-      (tell_all_goes_on (push.Ejected g n) (history.put_out s g skipped members) entered (put_out_left s g skipped n members request cut) q)
-      (push.View g n members) (members_entered s g skipped n members request cut q at)) in
-      k.ends told g all
-
   pub install_keeps : (s : State) (g : GroupNo) (skipped : Bool) (to : SiteNo) (n : ℕ) (members : Membership) (request : ℕ)
       (cut : CountList) → I s →
       Comes Came s g skipped n members request cut → I (install history skipped s g to n members request cut)
   install_keeps s g skipped to n members request cut i comes =
       t.emits (change_view history skipped s g n members request cut) to (frame.Installed g n)
-      (change_view_keeps s g skipped n members request cut i comes) tt tt
+      (k.enters s g skipped n members request cut i comes) tt tt
 
   -- what a verdict leads to
   abbrev By : (s : State) (from : SiteNo) (g : GroupNo) (n : ℕ) (members : Membership) (request : ℕ) (cut : CountList) (tail : Tail) →
@@ -551,7 +549,7 @@ module _ (I : State → Type 0) (Between : GroupNo → State → Type 0) (During
 
   on_out_keeps : (s : State) (from : SiteNo) (g : GroupNo) (n : ℕ) → I s → Came from (frame.Out g n) → I (on_out history s g n)
   on_out_keeps s from g n i came = keeps_if I (is_put_out_by (s.group g) n) (change_view history true s g n no_members 0 []) s
-      (λ up. change_view_keeps s g true n no_members 0 [] i (ends from came refl (ltb-true (s.group g).number n up) refl)) (λ _. i)
+      (λ up. k.enters s g true n no_members 0 [] i (ends from came refl (ltb-true (s.group g).number n up) refl)) (λ _. i)
 
   -- Frames
 

@@ -4,10 +4,10 @@
 -- of which more is known. Where a rule makes several moves in turn, what holds between them is
 -- `Between` (while a site passes to a view) or `During` (while it takes a message).
 use Rattle.std.proofs.Common.{inr}
-use Rattle.std.specs.Prelude.{◌+◌, ◌++◌, ◌<◌, Bool, Contains, List, Some, [], false, true, ℕ, ◌∷◌, ◌≡◌, ◌⊎◌}
+use Rattle.std.specs.Prelude.{◌+◌, ◌++◌, ◌<◌, Bool, Contains, List, Option, Some, [], false, true, ℕ, ◌∷◌, ◌≡◌, ◌⊎◌}
 use Rattle.cast_clock.specs.Times.{view_of}
 use Rattle.cast_ready.specs.Ready.{is_member, is_outside}
-use Rattle.cast_rules.specs.Effects.{next_message}
+use Rattle.cast_rules.specs.Effects.{delivering, next_message}
 use Rattle.cast_rules.specs.Entering.{freezing, passing, pending_install}
 use Rattle.cast_rules.specs.History.{history}
 use Rattle.cast_rules.specs.Order.{holds, place_to_pass}
@@ -17,10 +17,12 @@ use Rattle.cast_rules.specs.Resting.{places_of}
 use Rattle.cast_rules.specs.Rules.Asking.{is_home}
 use Rattle.cast_rules.specs.Rules.Keys.{id_in, message_key}
 use Rattle.cast_rules.specs.Rules.Room.{may_take}
-use Rattle.cast_rules.specs.Rules.Views.{no_members}
+use Rattle.cast_rules.specs.Rules.Leaving.{close_session, end_session, tell}
+use Rattle.cast_rules.specs.Rules.Views.{change_view, no_members}
 use Rattle.cast_rules.specs.Rules.Commands.{body_handing}
 use Rattle.cast_rules.specs.State.{State, emit, is_ended, is_group, is_received, noting_ack, noting_sent, noting_stable, outside}
-use Rattle.cast_rules.specs.State.{receiving, releasing, releasing_ended, set_group, set_home, set_session, set_standing, with_delivery}
+use Rattle.cast_rules.specs.State.{receiving, releasing, releasing_ended, set_group, set_home, set_session, set_standing, taking}
+use Rattle.cast_rules.specs.State.{with_delivery}
 use Rattle.cast_rules.specs.Step.{opening_next}
 use Rattle.cast_rules.specs.Turns.{is_ready_for}
 use Rattle.cast_message.specs.Bodies.{kind_of}
@@ -48,6 +50,7 @@ use Rattle.cast_types.specs.declared.names.Proc.{Proc}
 use Rattle.cast_types.specs.declared.names.SiteNo.{SiteNo}
 use Rattle.cast_types.specs.declared.names.Standing.TheVariants.{Joining}
 use Rattle.cast_types.specs.declared.names.Uid.{Uid}
+use Rattle.cast_types.specs.declared.refusal.Refusal.{Refusal}
 use Rattle.cast_view.specs.Home.{HomeMove, answer_in, bodies_of, may_decide, apply_move}
 use Rattle.cast_view.specs.Home.HomeMove.{Asked, Brought, Decided, Installed, Reported, Started, Suspected}
 use Rattle.cast_view.specs.MemberSide.{MemberSide, has_view, is_pending, members_of, with_answer, with_request}
@@ -59,6 +62,7 @@ use Rattle.cast_world.specs.Bounds.{covers}
 use Rattle.cast_world.specs.Laws.{AgreesWith}
 use Rattle.cast_message.specs.declared.message.Body.TheVariants as body
 use Rattle.cast_timer.specs.declared.key.OwedKind.TheVariants as kinds
+use Rattle.cast_message.specs.declared.client.Push.TheVariants as push
 use Rattle.cast_message.specs.declared.site.SiteFrame.TheVariants as frame
 
 -- a frame says nothing but what its sender has
@@ -91,13 +95,18 @@ MayMove Came s g (Brought m) = (from : SiteNo) × Came from (frame.Forward m)
 MayMove Came s g Decided = (is_home history s ≡ true) × (may_decide g (s.home g) ≡ true)
 MayMove Came s g (Installed from view) = Unit {0}
 
--- what a member may send: a cast at all times; a set-order message only where it holds the token of the view and no flush has frozen the
--- group. It sets the places after the order known here, or hands the token over, from the place after all that it ordered
+-- what a member may send while no flush has frozen the group: a cast; and a set-order message only where it holds the token of the view. It
+-- sets the places after the order known here, or hands the token over, from the place after all that it ordered
 pub data MaySend (s : State) (g : GroupNo) (k : ℕ) (content : Body) : Type 0 where
-  casts : is_order (kind_of content) ≡ false → MaySend s g k content
+  casts : is_order (kind_of content) ≡ false → (s.group g).frozen ≡ false → MaySend s g k content
   lists : holds s g k ≡ true → (s.group g).frozen ≡ false → content ≡ body.Order (places_of s g k) → MaySend s g k content
   hands : (place : ℕ) (to : Proc) → holds s g k ≡ true → (s.group g).frozen ≡ false → place_to_pass s g k ≡ Some place →
       content ≡ body_handing place to → MaySend s g k content
+
+pub sends_unfrozen : (s : State) (g : GroupNo) (k : ℕ) (content : Body) → MaySend s g k content → (s.group g).frozen ≡ false
+sends_unfrozen s g k content (casts none open_it) = open_it
+sends_unfrozen s g k content (lists held open_it is) = open_it
+sends_unfrozen s g k content (hands place to held open_it settled is) = open_it
 
 -- how a site comes to pass to a view: the Install that waited is completed; one comes where the site has no view, or skips a view; or it is
 -- told of a view without members here
@@ -229,6 +238,19 @@ Adds s (frame.Install g view members request cut tail) =
 Adds s (frame.Installed g view) = Unit {0}
 Adds s (frame.Out g view) = Unit {0}
 
+-- what owing frames, asking the home and leaving groups is made of
+pub record KeptByOwing (I : State → Type 0) : Type 0 where
+  pub emits : (s : State) (to : SiteNo) (f : SiteFrame) → I s → Says s to f → Adds s f → I (emit s to f)
+  pub books : (s : State) (moment casts : ℕ) → I s → I (record s { moment = moment; casts = casts })
+  pub owes : (s : State) (key : OwedKey) (due : ℕ) → I s → Owes s key → Wants s key → Lacks s key →
+      I (record s { owed = with_owed s.owed key due })
+  pub renews : (s : State) (key : OwedKey) (due : ℕ) → I s → Owes s key → IsOwed s key → I (record s { owed = renew s.owed key due })
+  pub pays : (s : State) (test : OwedKey → Bool) → I s → I (record s { owed = paid test s.owed })
+  pub releases : (s : State) (passes : Uid → Bool) → I s → I (releasing s passes)
+  pub parts : (s : State) (k : ℕ) (g : GroupNo) → I s → I (outside s k g)
+  pub requests : (s : State) (g : GroupNo) (what : Change) (p : Proc) → I s → I (set_group s g (with_request (s.group g) what p))
+
+-- what telling programs is made of: that, and entries and sessions, each by itself
 pub record FullyKeptByTelling (I : State → Type 0) : Type 0 where
   pub emits : (s : State) (to : SiteNo) (f : SiteFrame) → I s → Says s to f → Adds s f → I (emit s to f)
   pub books : (s : State) (moment casts : ℕ) → I s → I (record s { moment = moment; casts = casts })
@@ -242,6 +264,18 @@ pub record FullyKeptByTelling (I : State → Type 0) : Type 0 where
   pub parts : (s : State) (k : ℕ) (g : GroupNo) → I s → I (outside s k g)
   pub requests : (s : State) (g : GroupNo) (what : Change) (p : Proc) → I s → I (set_group s g (with_request (s.group g) what p))
 
+pub owing_of : (I : State → Type 0) → FullyKeptByTelling I → KeptByOwing I
+owing_of I k = record {
+  emits = k.emits;
+  books = k.books;
+  owes = k.owes;
+  renews = k.renews;
+  pays = k.pays;
+  releases = k.releases;
+  parts = k.parts;
+  requests = k.requests;
+}
+
 -- Acks may be sent, and those that are owed be sent again, at all times
 abbrev pub AcksFreely : (State → Type 0) → Type 0
 AcksFreely I =
@@ -249,9 +283,9 @@ AcksFreely I =
     × ((s : State) (key : OwedKey) (due : ℕ) → I s → IsOwed s key → I (record s { owed = renew s.owed key due }))
 
 -- where a site passes to a view, Between holds of the group until nothing is owed for the view before it; where it receives a message,
--- During holds of its id until it is wanted no more
+-- During holds of its id until it is wanted no more. Casting says whether programs cast
 pub record FullyKept (I : State → Type 0) (Between : GroupNo → State → Type 0) (During : Uid → State → Type 0)
-    (Came : SiteNo → SiteFrame → Type 0) (home_here : Bool) : Type 0 where
+    (Came : SiteNo → SiteFrame → Type 0) (home_here casting : Bool) : Type 0 where
   pub telling : FullyKeptByTelling I
   pub between : (g : GroupNo) → FullyKeptByTelling (Between g)
   pub during : (u : Uid) → FullyKeptByTelling (During u)
@@ -264,7 +298,8 @@ pub record FullyKept (I : State → Type 0) (Between : GroupNo → State → Typ
       I (set_standing s k g (Joining ((s.group g).asked + 1) (view_of (s.process k).time g)))
   pub sends : (s : State) (g : GroupNo) (k : ℕ) (content : Body) → I s → is_member ((s.process k).standing g) ≡ true →
       MaySend s g k content → may_take history s content ≡ true →
-      (s.group g).frozen ≡ false → I (receiving (noting_sent s k (next_message s g k content)) (next_message s g k content))
+      (s.group g).frozen ≡ false → (is_order (kind_of content) ≡ false → casting ≡ true) →
+      I (receiving (noting_sent s k (next_message s g k content)) (next_message s g k content))
   pub receives : (s : State) (from : SiteNo) (m : Message) → I s → Came from (frame.Data m) ⊎ Came from (frame.Forward m) →
       m.id.view ≡ (s.group m.id.group).number → is_among proc_eq m.id.proc (members_of (s.group m.id.group)) ≡ true → MayReceive s m →
       IsNew s m → During m.id (receiving s m)
@@ -280,6 +315,44 @@ pub record FullyKept (I : State → Type 0) (Between : GroupNo → State → Typ
   pub passes : (s : State) (g : GroupNo) (skipped : Bool) (n : ℕ) (members : Membership) (request : ℕ) (cut : CountList) → I s →
       Comes Came s g skipped n members request cut → Between g (passing s g skipped n members request cut)
   pub ends : (s : State) (g : GroupNo) → Between g s → I (paying_view (releasing_ended s g) g)
+  pub homes : (s : State) (g : GroupNo) (what : HomeMove) → I s → MayMove Came s g what → I (set_home s g (apply_move what (s.home g)))
+
+-- The same moves where telling programs is a part of the move: what a process does and what its program is told of it is one move, and so
+-- is the end of a session with all that the process leaves
+pub record WhollyKept (I : State → Type 0) (During : Uid → State → Type 0) (Came : SiteNo → SiteFrame → Type 0)
+    (home_here casting : Bool) : Type 0 where
+  pub owing : KeptByOwing I
+  pub during : (u : Uid) → KeptByOwing (During u)
+  pub truly : ((s : State) → I s → OwedTrue s) ⊎ AcksFreely I
+  pub fixed : (s : State) → I s → is_home history s ≡ home_here
+  pub opens : (s : State) → I s → I (opening_next s)
+  pub takes : (s : State) (k most : ℕ) → I s → I (taking s k most)
+  pub replies : (s : State) (k tag : ℕ) (refusal : Option Refusal) → I s → I (tell history s k (push.Reply tag refusal))
+  pub denies : (s : State) (k : ℕ) (g : GroupNo) (refusal : Refusal) → I s → I (tell history s k (push.Denied g refusal))
+  pub closes : (s : State) (k : ℕ) (refusal : Refusal) → I s → is_open (s.session k) ≡ true → I (close_session history s k refusal)
+  pub goes : (s : State) (k : ℕ) → I s → I (end_session history s k)
+  pub answers : (s : State) (g : GroupNo) → I s → I (set_group s g (with_answer (s.group g)))
+  pub joins : (s : State) (k : ℕ) (g : GroupNo) → I s → is_open (s.session k) ≡ true → is_group s g ≡ true →
+      is_outside ((s.process k).standing g) ≡ true →
+      I (set_standing s k g (Joining ((s.group g).asked + 1) (view_of (s.process k).time g)))
+  pub sends : (s : State) (g : GroupNo) (k : ℕ) (content : Body) → I s → is_member ((s.process k).standing g) ≡ true →
+      MaySend s g k content → may_take history s content ≡ true →
+      (s.group g).frozen ≡ false → (is_order (kind_of content) ≡ false → casting ≡ true) →
+      I (receiving (noting_sent s k (next_message s g k content)) (next_message s g k content))
+  pub receives : (s : State) (from : SiteNo) (m : Message) → I s → Came from (frame.Data m) ⊎ Came from (frame.Forward m) →
+      m.id.view ≡ (s.group m.id.group).number → is_among proc_eq m.id.proc (members_of (s.group m.id.group)) ≡ true → MayReceive s m →
+      IsNew s m → During m.id (receiving s m)
+  pub received : (s : State) (u : Uid) → During u s → I (paying s (message_key kinds.Want u s.config.home))
+  pub acknowledged : (s : State) (from : SiteNo) (u : Uid) → I s → Came from (frame.Ack u) → I (noting_ack s from u)
+  pub learns : (s : State) (from : SiteNo) (u : Uid) → I s → Came from (frame.Stable u) → I (noting_stable s u)
+  pub delivers : (s : State) (k : ℕ) (m : Message) → I s → Contains s.got m → is_ready_for s k m ≡ true → I (delivering s k m)
+  pub freezes : (s : State) (g : GroupNo) → I s → has_view (s.group g) ≡ true → I (freezing s g)
+  pub pends : (s : State) (from : SiteNo) (g : GroupNo) (p : Pending) (tail : Tail) → I s →
+      Came from (frame.Install g ((s.group g).number + 1) p.members p.request p.cut tail) → has_view (s.group g) ≡ true →
+      is_pending (s.group g) ≡ false →
+      is_group s g ≡ true → I (pending_install s g p tail)
+  pub enters : (s : State) (g : GroupNo) (skipped : Bool) (n : ℕ) (members : Membership) (request : ℕ) (cut : CountList) → I s →
+      Comes Came s g skipped n members request cut → I (change_view history skipped s g n members request cut)
   pub homes : (s : State) (g : GroupNo) (what : HomeMove) → I s → MayMove Came s g what → I (set_home s g (apply_move what (s.home g)))
 
 -- what is kept by the moves above is kept by these
@@ -298,7 +371,7 @@ module _ (I : State → Type 0) (Came : SiteNo → SiteFrame → Type 0) (home_h
     requests = k.telling.requests;
   }
 
-  pub kept_fully : FullyKept I (λ g. I) (λ u. I) Came home_here
+  pub kept_fully : FullyKept I (λ g. I) (λ u. I) Came home_here true
   kept_fully = record {
     telling = full_telling;
     between = λ g. full_telling;
@@ -311,7 +384,7 @@ module _ (I : State → Type 0) (Came : SiteNo → SiteFrame → Type 0) (home_h
     opens = k.opens;
     answers = k.answers;
     joins = k.joins;
-    sends = λ s g n content i member may room open_it. k.sends s g n content i member may;
+    sends = λ s g n content i member may room open_it asked_for. k.sends s g n content i member may;
     receives = λ s from m i came view member may new. k.receives s from m i came view member;
     received = λ s u i. full_telling.pays s (key_eq (message_key kinds.Want u s.config.home)) i;
     acknowledged = λ s from u i came. k.telling.books s s.quotas s.moment (s.acks ++ (from, u) ∷ []) s.told s.owed s.casts s.pushes i;

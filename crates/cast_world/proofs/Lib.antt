@@ -10,6 +10,7 @@ pub mod Keeps
 pub mod Telling
 pub mod Entries
 pub mod Tokens
+pub mod Wholes
 pub mod Handlers
 pub mod Events
 pub mod Invariants
@@ -73,3 +74,15 @@ pub mod ListsAreActs
 pub mod Told
 pub mod Installs
 pub mod Properties
+pub mod Instances
+pub mod Flats
+pub mod Leavings
+pub mod News
+pub mod NewsRuns
+pub mod Afterwards
+pub mod Programs
+pub mod Memberships
+pub mod Casts
+pub mod TokenPaths
+pub mod TokenRuns
+pub mod SelfDelivery

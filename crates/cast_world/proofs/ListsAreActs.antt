@@ -216,7 +216,7 @@ listed_in_order sites config steps w r p x m has before due =
 -- The ABCASTs of a view among what a process delivered
 
 -- a test of ids tells, of these acts, which deliveries are of ABCASTs
-abbrev TellsAbcasts : (Uid → Bool) → List Act → Type 0
+abbrev pub TellsAbcasts : (Uid → Bool) → List Act → Type 0
 TellsAbcasts test acts = (m : Message) → Contains acts (Delivered m) → test m.id ≡ is_atomic (kind_of m.body)
 
 listed_abcasts : (test of : Uid → Bool) (acts : List Act) → TellsAbcasts test acts →
@@ -245,7 +245,7 @@ listed_abcasts test of (Delivered m ∷ acts) tells =
     go false is same = same ∙ left_out (filter of (delivered_by acts)) is (of m.id)
 
 -- the site of a sender has its messages, each the only one of its id
-abcasts_told : (home : SiteNo) (w : Network) → AllHold home w → EachTold w → (p : Proc) → TellsAbcasts (is_abcast w) (acts_of w p)
+pub abcasts_told : (home : SiteNo) (w : Network) → AllHold home w → EachTold w → (p : Proc) → TellsAbcasts (is_abcast w) (acts_of w p)
 abcasts_told home w all told p m at = go (is_atomic (kind_of m.body)) refl
   where
     test : Message → Bool

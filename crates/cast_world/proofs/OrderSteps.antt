@@ -201,8 +201,8 @@ module _ (home : SiteNo) (w : Network) (a : SiteNo) where
         (λ z c. Contains-append_left t.got (m ∷ []) z c)
 
     abbrev pub sends_kept : is_member ((t.process n).standing g) ≡ true → MaySend t g n content → Ordered u
-    sends_kept member (casts none) =
-        keep t u (later_sent t n m) i ((flush t i).sends t g n content (begin t i) member (casts none)) (cast_tells none)
+    sends_kept member (casts none open_it) =
+        keep t u (later_sent t n m) i ((flush t i).sends t g n content (begin t i) member (casts none open_it)) (cast_tells none)
         (cast_ordered none)
     sends_kept member (lists held open_it is) =
         let r : From t i u = (flush t i).sends t g n content (begin t i) member (lists held open_it is) in (

@@ -21,7 +21,7 @@ use Rattle.cast_types.specs.declared.names.SiteNo.{SiteNo}
 use Rattle.cast_world.proofs.Acts.{contains_here}
 use Rattle.cast_world.proofs.Entries.{GoesOn, agrees_later, delivery_sends_none, delivery_goes_on, part_goes_on}
 use Rattle.cast_world.proofs.Entries.{part_sends_none, passing_goes_on, passing_sends_none, sending_goes_on}
-use Rattle.cast_world.proofs.Events.{Any, any_came, event_keeps_fully, rests_keeps_fully, sets_any}
+use Rattle.cast_world.proofs.Events.{Any, any_came, any_happens, event_keeps_fully, rests_keeps_fully, sets_any}
 use Rattle.cast_world.proofs.Kept.{FullyKept, FullyKeptByTelling}
 use Rattle.cast_world.proofs.Laters.{set_all}
 use Rattle.cast_world.proofs.Lists.{sent_same}
@@ -91,7 +91,7 @@ module _ (s : State) where
     requests = λ t g what p x. x;
   }
 
-  kept_told : FullyKept ToldFrom (λ g. ToldFrom) (λ u. ToldFrom) Any (is_home history s)
+  kept_told : FullyKept ToldFrom (λ g. ToldFrom) (λ u. ToldFrom) Any (is_home history s) true
   kept_told = record {
     telling = told_telling;
     between = λ g. told_telling;
@@ -101,7 +101,7 @@ module _ (s : State) where
     opens = λ t x. (x.0, x.1, pushed_told t (t.used + 1) (push.Opened (local t (t.used + 1))) x.2 tt);
     answers = λ t g x. x;
     joins = λ t k g x open_it known out. x;
-    sends = λ t g k content x member may room open_it. (x.0, x.1, sent_told t k (next_message t g k content) x.2);
+    sends = λ t g k content x member may room open_it asked_for. (x.0, x.1, sent_told t k (next_message t g k content) x.2);
     receives = λ t from m x came view member may new. (
       x.0,
       x.1,
@@ -125,11 +125,11 @@ module _ (s : State) where
 
   step_told : (e : Event) (answer : Taken) (t : State) → IsStep s e answer t → Told s → Told t
   step_told e answer t is x =
-      (rests_keeps_fully ToldFrom (λ g. ToldFrom) (λ u. ToldFrom) Any (is_home history s) kept_told (after_event s e) t is.rests
+      (rests_keeps_fully ToldFrom (λ g. ToldFrom) (λ u. ToldFrom) Any (is_home history s) true kept_told (after_event s e) t is.rests
       (event_keeps_fully ToldFrom (λ g. ToldFrom) (λ u. ToldFrom) Any (is_home history s)
-      kept_told s e (refl, refl, record { agree = λ k p at. absurd (omega (arith, at.1)); received = x.received }) (any_came e)
+      true kept_told s e (refl, refl, record { agree = λ k p at. absurd (omega (arith, at.1)); received = x.received }) (any_came e)
       (sets_any ToldFrom (λ u quotas y. y) (before_event s)
-      e (refl, refl, record { agree = λ k p at. absurd (omega (arith, at.1)); received = x.received })))).2
+      e (refl, refl, record { agree = λ k p at. absurd (omega (arith, at.1)); received = x.received })) (any_happens e))).2
 
 -- Every run
 

@@ -8,6 +8,7 @@ use Rattle.std.specs.List.{find, list_any}
 use Rattle.std.specs.Prelude.{◌+◌, ◌++◌, ◌==◌, Bool, Contains, List, None, Some, [], false, is_some, length, map, refl, slice_get, suc, true, unwrap_or, zero, ℕ, ◌∷◌, ◌≡◌}
 use Rattle.cast_rules.specs.Acts.{Act}
 use Rattle.cast_rules.specs.Acts.Act.{Delivered, Entered, Left, Sent as Sends}
+use Rattle.cast_rules.specs.Order.{holds}
 use Rattle.cast_message.specs.declared.client.Push.{Push}
 use Rattle.cast_message.specs.declared.client.Request.TheVariants.{Cast, Join, Pass}
 use Rattle.cast_message.specs.declared.site.SiteFrame.{SiteFrame}
@@ -173,6 +174,21 @@ crossed_delivered : delivered crossed 1 ≡ uid 1 2 (proc 2 1) 1 ∷ uid 2 2 (pr
 unfolding crossed both
 crossed_delivered = refl
 
+-- Three sites in two groups: what a sender delivered comes before what it sends
+
+-- 1.1, 2.1 and 3.1 are in group 1, and the last two in group 2
+unfoldable pub trio : Network
+trio =
+    let sites : List SiteNo = site 1 ∷ site 2 ∷ site 3 ∷ [] in
+    let first : Network = through (begun sites (group 1 ∷ group 2 ∷ [])) (opens 1 ∷ joins 1 1 ∷ []) in
+    let second : Network = through (through first (opens 2 ∷ joins 2 1 ∷ [])) (joins 2 2 ∷ []) in
+    through (through second (opens 3 ∷ joins 3 1 ∷ [])) (joins 3 2 ∷ [])
+
+-- 1.1 casts x in group 1; 2.1 delivers it and casts y in group 2; y comes to 3.1 first, and waits for x
+relayed_waits : delivered (leads_in 3 trio (casts 1 1 ∷ hand 2 (length trio.sent) ∷ casts 2 2 ∷ hand 3 (length trio.sent + 3) ∷ [])) 3 ≡ []
+unfolding trio
+relayed_waits = refl
+
 -- Three sites in one view of group 1
 
 unfoldable pub three : Network
@@ -287,10 +303,26 @@ two =
     let sites : List SiteNo = site 1 ∷ site 2 ∷ [] in
     through (through (begun sites (group 1 ∷ [])) (opens 1 ∷ joins 1 1 ∷ [])) (opens 2 ∷ joins 2 1 ∷ [])
 
+two_holds : holds (two.at (site 1)) (group 1) 1 ≡ true
+unfolding known_order two
+two_holds = refl
+
+two_holds_not : holds (two.at (site 2)) (group 1) 1 ≡ false
+unfolding known_order two
+two_holds_not = refl
+
 -- 1.1 hands it over to 2.1, and has it no more
 given : Network
 unfolding known_order two
 given = leads_in 3 two (passes 1 1 (proc 2 1) ∷ [])
+
+given_holds_not : holds (given.at (site 1)) (group 1) 1 ≡ false
+unfolding known_order given two
+given_holds_not = refl
+
+given_holds_not_there : holds (given.at (site 2)) (group 1) 1 ≡ false
+unfolding known_order given two
+given_holds_not_there = refl
 
 given_told : pushed given 1 ≡ push.Reply 9 None ∷ []
 unfolding known_order given two
@@ -342,6 +374,14 @@ taken_before = refl
 taken : Network
 unfolding known_order given two
 taken = leads_in 3 given (hand 2 (length two.sent) ∷ abcasts 2 1 ∷ [])
+
+taken_holds : holds (taken.at (site 2)) (group 1) 1 ≡ true
+unfolding known_order taken given two
+taken_holds = refl
+
+taken_holds_not : holds (taken.at (site 1)) (group 1) 1 ≡ false
+unfolding known_order taken given two
+taken_holds_not = refl
 
 taken_told : pushed taken 2 ≡ push.Reply 8 None ∷ push.Deliver (uid 1 2 (proc 2 1) 1) kind.Atomic [] ∷ []
 unfolding known_order taken given two

@@ -55,7 +55,7 @@ use Rattle.cast_view.specs.MemberSide.{MemberSide, frozen_side, is_pending, is_t
 use Rattle.cast_world.proofs.Acts.{contains_here}
 use Rattle.cast_world.proofs.Allowed.{contains_more, passed, ready_allowed, same_uid}
 use Rattle.cast_world.proofs.Bounding.{both_less, covers_waits, filter_none, found_owed, number_up}
-use Rattle.cast_world.proofs.Events.{HasCome, event_keeps_fully, rests_keeps_fully, sets_any}
+use Rattle.cast_world.proofs.Events.{HasCome, any_happens, event_keeps_fully, rests_keeps_fully, sets_any}
 use Rattle.cast_world.proofs.Facts.{IsAllowed}
 use Rattle.cast_world.proofs.Homes.{among_kept, item_was}
 use Rattle.cast_world.proofs.Kept.{FullyKept, FullyKeptByTelling, IsNew, IsOwed, Lacks, Wants, asked, unknown}
@@ -734,7 +734,7 @@ module _ (home_here : Bool) where
 
   -- Each move
 
-  kept_single : FullyKept Now (λ g. At (λ h. g ≡ h) NoMessage) (λ u. At NoGroup (λ w. w ≡ u)) Typed home_here
+  kept_single : FullyKept Now (λ g. At (λ h. g ≡ h) NoMessage) (λ u. At NoGroup (λ w. w ≡ u)) Typed home_here true
   kept_single = record {
     telling = telling NoGroup NoMessage;
     between = λ g. telling (λ h. g ≡ h) NoMessage;
@@ -744,7 +744,7 @@ module _ (home_here : Bool) where
     opens = λ s x. x;
     answers = λ s g x. group_single NoGroup NoMessage s g (with_answer (s.group g)) refl (λ e. e) (λ e. e) (x.waits g) x;
     joins = λ s k g x open_it known out. joins_single s k g ((s.group g).asked + 1) (view_of (s.process k).time g) x known;
-    sends = λ s g k content x member may room thawed. sends_single s g k content x member thawed;
+    sends = λ s g k content x member may room thawed asked_for. sends_single s g k content x member thawed;
     receives = λ s from m x came view member may new. receives_single s from m x came view new;
     received = λ s u x. received_paid s u x;
     acknowledged = λ s from u x came. x;
@@ -775,10 +775,10 @@ module _ (home_here : Bool) where
   step_single : (s : State) (e : Event) (answer : Taken) (t : State) → IsStep s e answer t → IsTyped e → Now s → Now t
   step_single s e answer t is typed x =
       rests_keeps_fully Now (λ g. At (λ h. g ≡ h) NoMessage) (λ u. At NoGroup (λ w. w ≡ u))
-      Typed home_here kept_single (after_event s e) t is.rests
+      Typed home_here true kept_single (after_event s e) t is.rests
       (event_keeps_fully Now (λ g. At (λ h. g ≡ h) NoMessage) (λ u. At NoGroup (λ w. w ≡ u))
-      Typed home_here kept_single s e x (typed_came e typed)
-      (sets_any Now (λ u quotas y. y) (before_event s) e x))
+      Typed home_here true kept_single s e x (typed_came e typed)
+      (sets_any Now (λ u quotas y. y) (before_event s) e x) (any_happens e))
 
   run_single : (events : List Event) (answers : List Taken) (s t : State) (sent : List (SiteNo × SiteFrame)) (pushed : List (ℕ × Push)) →
       AllByRecursion IsTyped events →

@@ -41,7 +41,8 @@ use Rattle.cast_view.specs.declared.phase.Phase.TheVariants.{Gathering, Idle, In
 use Rattle.cast_world.proofs.Allowed.{contains_kept}
 use Rattle.cast_world.proofs.Homes.{item_here, item_more}
 use Rattle.cast_world.proofs.Keeps.{found_is, keeps_fold, keeps_if}
-use Rattle.cast_world.proofs.Kept.{AcksFreely, Adds, IsOwed, Lacks, Owes, OwedTrue, OwesOf, Says, Wants, FullyKeptByTelling}
+use Rattle.cast_world.proofs.Kept.{AcksFreely, Adds, IsOwed, KeptByOwing, Lacks, Owes, OwedTrue, OwesOf, Says, Wants, FullyKeptByTelling}
+use Rattle.cast_world.proofs.Kept.{owing_of}
 use Rattle.cast_message.specs.declared.site.Change.TheVariants as change
 use Rattle.cast_message.specs.declared.site.SiteFrame.TheVariants as frame
 use Rattle.cast_timer.specs.declared.key.OwedKind.TheVariants as kinds
@@ -163,7 +164,7 @@ owed_renewed s key other due (o, at, is) = elim (cases_Bool (key_eq key o.key)) 
   )
 ]
 
-module _ (I : State → Type 0) (k : FullyKeptByTelling I) where
+module _ (I : State → Type 0) (k : KeptByOwing I) where
   pub pay_keeps : (s : State) (key : OwedKey) → I s → I (paying s key)
   pay_keeps s key i = k.pays s (key_eq key) i
 
@@ -270,8 +271,9 @@ module _ (I : State → Type 0) (k : FullyKeptByTelling I) where
   pub leave_all_keeps : (s : State) (n : ℕ) → I s → I (leave_all history s n)
   leave_all_keeps s n i = keeps_fold I (leave_each history n) (λ t g j. leave_at_keeps t n g j) s.config.groups s i
 
-  -- Sessions
+-- Sessions
 
+module _ (I : State → Type 0) (k : FullyKeptByTelling I) where
   with_push_keeps : (s : State) (n : ℕ) (v : Session) (p : Push) → I s → AgreesWith (s.acts n) p → is_open (s.session n) ≡ true →
       I (with_push s n v p)
   with_push_keeps s n v p i agrees is = k.pushes (set_session s n v) n p (k.sets_session s n v i (λ _. is)) agrees
@@ -288,7 +290,7 @@ module _ (I : State → Type 0) (k : FullyKeptByTelling I) where
   pub close_session_keeps : (s : State) (n : ℕ) (refusal : Refusal) → I s → I (close_session history s n refusal)
   close_session_keeps s n refusal i =
       let why : Refusal = if is_filled s n then Slow else refusal in
-      leave_all_keeps (closing s n why) n (close_keeps s n why i)
+      leave_all_keeps I (owing_of I k) (closing s n why) n (close_keeps s n why i)
 
   pub tell_keeps : (s : State) (n : ℕ) (p : Push) → I s → AgreesWith (s.acts n) p → I (tell history s n p)
   tell_keeps s n p i agrees = keeps_if I (is_open (s.session n)) (tell_open history s n p) s
@@ -297,4 +299,4 @@ module _ (I : State → Type 0) (k : FullyKeptByTelling I) where
 
   pub end_session_keeps : (s : State) (n : ℕ) → I s → I (end_session history s n)
   end_session_keeps s n i = keeps_if I (is_gone (s.session n)) s (leave_all history (going s n) n) (λ _. i)
-      (λ _. leave_all_keeps (going s n) n (k.sets_session s n no_session i (λ e. absurd (false≢true e))))
+      (λ _. leave_all_keeps I (owing_of I k) (going s n) n (k.sets_session s n no_session i (λ e. absurd (false≢true e))))

@@ -326,8 +326,9 @@ module _ (home : SiteNo) (w : Network) (a : SiteNo) where
         (token_sends t.here (t.group h) h (t.acts n) n m (cast_hands_none content none)) j)) ∙ held) quiet
 
     abbrev pub sends_window : is_member ((t.process n).standing g) ≡ true → MaySend t g n content → WindowNow no_key u
-    sends_window member (casts none) =
-        keepw no_key no_key t u (later_sent t n m) i ((flush home w a t i.0).sends t g n content (begin home w a t i.0) member (casts none))
+    sends_window member (casts none open_it) =
+        keepw no_key no_key t u (later_sent t n m) i
+        ((flush home w a t i.0).sends t g n content (begin home w a t i.0) member (casts none open_it))
         (cast_tells home w a t g n content i.0 none) (cast_ordered home w a t g n content i.0 none)
         (λ z c. Contains-append_left t.got (m ∷ []) z c) (λ q z c. inl c) (λ to f c. inl c) (cast_leads none) sent_owed
     sends_window member (lists held open_it is) = (
@@ -367,7 +368,7 @@ module _ (home : SiteNo) (w : Network) (a : SiteNo) where
       )
 
   abbrev pub kept_window : FullyKept (WindowNow no_key) (λ g. WindowNow (is_of_view g)) (λ u. WindowNow no_key) (Arrived home w a)
-      (site_eq a home)
+      (site_eq a home) true
   kept_window = record {
     telling = window_telling no_key;
     between = λ g. window_telling (is_of_view g);
@@ -394,7 +395,7 @@ module _ (home : SiteNo) (w : Network) (a : SiteNo) where
         }) (λ j h e. e)
         (λ h e. asks ((t.process n).standing h) (group_eq g h) ((t.group g).asked + 1) (view_of (t.process n).time g) e)) (λ m c. c))
         refl refl refl (leading no_key t i) (same_owed no_key t u refl refl refl i.4);
-    sends = λ t g n content i member may room open_it. sends_window t g n content i member may;
+    sends = λ t g n content i member may room open_it asked_for. sends_window t g n content i member may;
     receives = λ t from m i came view member may new.
         let u : State = receiving t m in
         keepw no_key no_key t u (later_same t) i ((flush home w a t i.0).receives t from m (begin home w a t i.0) came view member)

@@ -14,9 +14,9 @@ use Rattle.cast_world.specs.Network.{Network}
 abbrev pub acts_of : Network → Proc → List Act
 acts_of w p = (w.at p.site).acts p.serial
 
--- x stands before y
-abbrev pub StandsBefore : List Act → Act → Act → Type 0
-StandsBefore acts x y = (a b c : List Act) × (acts ≡ a ++ x ∷ b ++ y ∷ c)
+-- x stands before y in a list
+abbrev pub StandsBefore : {X : Type 0} → List X → X → X → Type 0
+StandsBefore {X} xs x y = (a b c : List X) × (xs ≡ a ++ x ∷ b ++ y ∷ c)
 
 -- z's sender sent y earlier, or delivered y before it sent z
 abbrev pub Edge : Network → Message → Message → Type 0

@@ -1,8 +1,11 @@
 pub mod Network
+pub mod Pushed
+pub mod Programs
 pub mod HappenedBefore
 pub mod Agreement
 pub mod Laws
 pub mod Properties
+pub mod Casts
 pub mod Bounds
 pub mod Ids
 pub mod Worlds

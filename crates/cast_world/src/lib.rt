@@ -13,6 +13,12 @@
 //!   `World::{new, run, delivered}`, `laws::answers_agree`.
 //! - What a process delivered and what its program is pushed agree with its acts:
 //!   `laws::lists_are_acts` (`delivered`, `abcasts`); `laws::pushes_are_acts`.
+//! - Programs are told what their processes do, over a whole run: all casts and views in their
+//!   order, none made up, but for at most the last where the program is told that it was too slow:
+//!   `laws::programs_are_told` (`all`, `while_open`, `closed`, `inside`, `over`). So the laws below
+//!   hold of what programs are told: `laws::programs_are_told_in_order` (`causal`, `due`,
+//!   `first_in_first_out`, `once`, `sending_view`, `views_rise`), `laws::programs_agree`
+//!   (`installed`, `same_members`, `same_messages`, `same_order`, `prefix`).
 //! - A stamp covers all that an earlier one covers, and that one does not cover the later message:
 //!   `laws::stamps_rise`. View numbers in times and stamps were decided at the home before:
 //!   `laws::views_are_decided`. A joining process enters a view above the one that it had heard of:
@@ -29,6 +35,13 @@
 //!   `laws::views_have_one_membership` (`installed`, `self_inclusion`, `same`).
 //! - No process sends two messages of one name; what is delivered was sent by its sender:
 //!   `laws::{names_are_unique, deliveries_were_sent}`.
+//! - Delivery integrity, from the cast command on: a message that has a payload became one of those
+//!   that its sender sent by a step of the run that is the command of the sender's program to cast
+//!   this payload in this group. No two messages come from one step, and none is sent twice:
+//!   `laws::deliveries_were_cast` (`delivered`, `sent`, `apart`, `once`).
+//! - Self delivery: who passes to the next view has delivered all that it sent in the last one:
+//!   `laws::self_delivery`.
+//! - Mutual exclusion: at most one process holds the token of a view: `laws::tokens_are_held_once`.
 //! - Whoever forges frames, a domain keeps few messages: `laws::what_is_kept_is_bounded`. After any
 //!   events, with any frames in the name of any site, those that no waiting Install covers are at
 //!   most twice the greatest `held` that was in force. All are of the views that their groups have,
