@@ -1,0 +1,2 @@
+pub mod Daemons
+pub mod Laws
