@@ -275,9 +275,10 @@ fn bind_beside(first: &UdpSocket, is_ipv4: bool) -> io::Result<UdpSocket> {
     Ok(socket)
 }
 
-/// Binds a socket for the own site, and at the same address one for each of these others, each with
-/// whether it is sealed. No other user can bind that address meanwhile, and nobody can afterwards.
-/// Gives also a second handle of the first. No other daemon of the site drew the same number.
+/// Binds a socket for the own site and, at the same address, one for each of these other sites; the
+/// flag beside a site says whether it is sealed. While this goes on, only the own user can bind
+/// that address too, and afterwards nobody can. Gives also a second handle of the first socket.
+/// `drawn` begins the nonces of seals: each start of a daemon draws another number.
 pub fn bind_links<R: Net>(
     rt: &R,
     alloc: Global,

@@ -205,8 +205,8 @@ fn partners(alloc: Global, setup: &Setup, peers: &[Peer]) -> Result<Vec<(Peer, b
     Ok(found)
 }
 
-/// Binds the sockets of a daemon, or answers the name of the first that cannot be bound. What a
-/// link is sealed with is distinct if no other daemon of the site drew the same number.
+/// Binds the sockets of a daemon, or answers the name of the first that cannot be bound. `drawn`
+/// begins the nonces of seals, as in `bind_links`.
 pub fn bind<'a, R: Net + Files>(
     rt: &R,
     alloc: Global,
