@@ -20,7 +20,7 @@ from unittest import mock
 from castd import aio, conversation
 from castd.replica import Replica
 from client_cases import Log, ToolCases, replica_cases
-from harness import PATIENCE, ROOT, Case, castd, stop
+from harness import PATIENCE, ROOT, Case, castd, stop, wait_until
 from scripted_server import (
     ATOMIC,
     CAST,
@@ -519,6 +519,8 @@ class Replicas(Case):
         replicas.append(self.member(setup, Log()))
         self.assert_equal_states(replicas, state)
         replicas[0].session.close()
+        # If the view without it came after the newcomer's operation, the result of that would not be known.
+        wait_until(lambda: len(replicas[1].members) == 1, "the others have a view without it")
         replicas.append(self.member(setup, Log()))
         self.assertEqual(self.done(replicas[2], b"x"), len(state) + 1)
         self.assert_equal_states(replicas[1:], state + b"x")
