@@ -36,7 +36,7 @@ class Link(threading.Thread):
             for near, far in ((one, other), (other, one)):
                 if self.ends[near] in ready:
                     data = self.ends[near].recv(65_536)
-                    for seconds in self.fate():
+                    for seconds in self.fate(near, data):
                         heapq.heappush(waiting, (time.monotonic() + seconds, next(place), far, data))
                     self.carried += 1
             while waiting and waiting[0][0] <= time.monotonic():
@@ -52,11 +52,11 @@ class Link(threading.Thread):
 
 def linked(addresses, fate):
     """Starts a link between each two sites. Gives by which addresses each site reaches all, and the links. The fate of a datagram is what
-    `fate` says of the two sites, or this number of seconds."""
+    `fate` says of the two sites, the one of them that sent it, and its bytes; or this number of seconds."""
     links, told = [], {site: {site: address} for site, address in addresses.items()}
     for near in addresses:
         for far in (it for it in addresses if it > near):
-            fates = functools.partial(fate, near, far) if callable(fate) else lambda: (fate,)
+            fates = functools.partial(fate, near, far) if callable(fate) else lambda *_: (fate,)
             link = Link({site: addresses[site] for site in (near, far)}, fates)
             link.start()
             links.append(link)

@@ -30,6 +30,16 @@ ID = slice(7, 23)
 MOST_TRACE = 4_096
 
 
+def events_recorded(folder: str) -> int:
+    """How many events a record has: as many as it says that there were before its last piece, and those of this piece."""
+    text = ""
+    for path in sorted(entry.path for entry in os.scandir(folder)):
+        with open(path, encoding="utf-8") as file:
+            text += file.read()
+    *_, before, events = re.split(r"^# (\d+) events before\n", text, flags=re.MULTILINE)
+    return int(before) + sum(not line.startswith("#") for line in events.splitlines())
+
+
 class Daemon(Tool):
     """A daemon of a set-up, with two workers."""
 
@@ -44,8 +54,8 @@ class Daemon(Tool):
         return self.line(PATIENCE)
 
     def told(self) -> str:
-        """What it told its operator, but for how many sites have no seals."""
-        return re.sub(r"castd: other sites that exchange datagrams without seals: \d+\n", "", self.complained())
+        """What it told its operator, but for how many sites have no seals, and how many events it served."""
+        return re.sub(r"castd: (other sites that exchange datagrams without seals|events served): \d+\n", "", self.complained())
 
     def status(self) -> int | None:
         """How it ends that cannot serve. None where it serves."""
@@ -229,6 +239,7 @@ class Programs(DaemonCase):
         ran = subprocess.run([PROGRAM, "replay", record], capture_output=True, text=True, timeout=PATIENCE, check=True)
         pushes = re.findall("^push 1 1 (.*)$", ran.stdout, flags=re.MULTILINE)
         self.assertGreaterEqual(len(heard), 300)
+        self.assertEqual(daemon.complained(), f"castd: events served: {events_recorded(record)}\n")
         self.assertEqual(pushes[3:], [castd.text_of(it).replace("causal hi", "causal 6869") for it in heard])
 
 

@@ -104,6 +104,10 @@ class Stopping(Case):
                 setup = self.setup_of()
                 keeper = self.keeper(setup)
                 session = self.session(setup)
+                # Who says nothing is no reason to complain.
+                idle = Client(keeper.control)
+                self.addCleanup(idle.close)
+                self.assertNotEqual(idle.ask("domains"), "")
                 begun = time.monotonic()
                 # As from a terminal, which signals all processes of a group.
                 os.killpg(keeper.process.pid, number)
@@ -112,7 +116,7 @@ class Stopping(Case):
                 self.assertLess(time.monotonic() - begun, 4)
                 wait_for_end(session)
                 self.assertEqual(os.listdir(setup.site_folder(1)), [])
-                self.assertEqual(keeper.complained(), "")
+                self.assertRegex(keeper.complained(), r"\Acastd: events served: \d+\n\Z")
 
     def test_the_line_stop_is_answered_and_ends_all(self):
         setup = self.setup_of()

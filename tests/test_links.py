@@ -21,7 +21,7 @@ LONG = 4 * PATIENCE
 LOST, TWICE, LATE = 5, 5, 20
 
 
-def bad_fate(*_: int) -> list[float]:
+def bad_fate(*_: object) -> list[float]:
     """After how many seconds a datagram is delivered, if it is."""
     if random.random() < LOST / 100:
         return []
@@ -31,6 +31,18 @@ def bad_fate(*_: int) -> list[float]:
 
 # In both tests casts queue little, too.
 Bundling = networked(Castd, "bundle = true,delay = 300")
+
+
+def delivered_by(session: castd.Session, count: int) -> list[bytes]:
+    """The payloads of the next so many messages that a program is told."""
+    payloads: list[bytes] = []
+    while len(payloads) < count:
+        push = session.read(PATIENCE)
+        if push is None:
+            raise AssertionError(f"after {len(payloads)} messages no more came")
+        if isinstance(push, castd.Deliver):
+            payloads.append(push.payload)
+    return payloads
 
 
 class Member(threading.Thread):
@@ -129,6 +141,60 @@ class Clusters(Case):
         self.assert_delivered(members[:2], members[:2])
         self.assert_agree(*members[:2])
         self.assertEqual(members[2].faults, [])
+
+
+class TwoGroups(Castd):
+    """A daemon of a domain with two groups that keeps few messages."""
+
+    CONFIG = Castd.CONFIG.replace("groups = [1]", "groups = [1, 2]").replace("held = 1024", "held = 256")
+
+
+class Overlapping(Case):
+    # So many datagrams with a message of the first group are lost on their way from site 2 to site 1, and so many casts follow it in the
+    # second: more than site 1 may keep.
+    LOST, CASTS = 4, 2_000
+
+    def setUp(self) -> None:
+        super().setUp()
+        self.to_lose = 0
+
+    def fate(self, near: int, far: int, sender: int, data: bytes) -> list[float]:
+        is_first_group = data[3] == DATA and data[7:9] == b"\x00\x01"
+        if self.to_lose and (near, sender) == (1, 2) and far == 2 and is_first_group:
+            self.to_lose -= 1
+            return []
+        return [0.0]
+
+    def sessions(self) -> list[castd.Session]:
+        """Programs at sites 1 and 2 that are in both groups, and one at site 3 that is in the second alone."""
+        told, links = linked(free_addresses(3), self.fate)
+        for link in links:
+            self.addCleanup(link.end)
+        sessions = []
+        for site, addresses in told.items():
+            daemon = TwoGroups(PROGRAM, self.folder, site, addresses)
+            self.addCleanup(daemon.kill)
+            sessions.append(castd.Session(daemon.path, PATIENCE))
+            self.addCleanup(sessions[-1].close)
+        for session, groups in zip(sessions, ((1, 2), (1, 2), (2,))):
+            for group in groups:
+                session.join(group, PATIENCE)
+        return sessions
+
+    def test_what_depends_on_a_lost_message_leaves_room_for_it(self):
+        first, second, third = self.sessions()
+        # The program at site 3 knows nothing of the first group, and so its site does not keep the message that is lost.
+        self.to_lose = self.LOST
+        second.cast(1, b"lost", PATIENCE)
+        second.cast(2, b"go", PATIENCE)
+        self.assertEqual(delivered_by(third, 1), [b"go"])
+        payloads = [b"%d" % it for it in range(self.CASTS)]
+        for session in (second, third):
+            threading.Thread(target=collections.deque, args=(session, 0), daemon=True).start()
+        for payload in payloads:
+            third.send(castd.codec.Cast(2, castd.CAUSAL, payload))
+        self.assertEqual(delivered_by(first, 2 + self.CASTS), [b"lost", b"go", *payloads])
+        self.assertEqual(self.to_lose, 0)
 
 
 class Datagrams(DaemonCase):

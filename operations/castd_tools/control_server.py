@@ -60,8 +60,9 @@ class ControlServer:
             writer.close()
             async with asyncio.timeout(_UNREAD_SECONDS):
                 await writer.wait_closed()
-        except OSError:
-            # It is gone, or left its answers unread for too long. A `TimeoutError` is one of these.
+        except (OSError, asyncio.CancelledError):
+            # It is gone, or left its answers unread for too long, or was let go of. A `TimeoutError` is an `OSError`. asyncio would report a
+            # client that ends as cancelled as a fault.
             pass
         finally:
             writer.transport.abort()

@@ -8,6 +8,7 @@ use crate::table::LockedTable;
 use crate::trimmer::Trimmer;
 use cast_config::{Cause, ConfigFault, Field, Setup, complain};
 use cast_device::{Watched, tell};
+use cast_edge::{Report, report_last};
 use cast_pool::{Kept, can_keep};
 use cast_shared::Tape;
 use std::alloc::Global;
@@ -66,9 +67,15 @@ where
     let spare = SpareCount::new(all, PARTS);
     let trimmer = Trimmer::new(recorded);
     let table = LockedTable::new(alloc, kept, lanes, spare, trimmer);
-    cast_serve::serve(
+    let status = cast_serve::serve(
         rt, alloc, setup, keys, &table, &tape, workers, record, console, out, err, log,
-    )
+    );
+    if status == 0
+        && let Some((_, count)) = table.end(PARTS)
+    {
+        report_last(&mut err.device, Report::Served(count));
+    }
+    status
 }
 
 /// Runs a daemon until the console says `stop`, and answers the status of the program. `ready` is

@@ -1,33 +1,23 @@
 //! The count of events, cut into shares for the threads that serve them.
-ghost use Rattle.std.specs.Prelude.{◌≡◌, ◌<◌};
+ghost use Rattle.std.specs.Prelude.{◌≡◌, IfSome};
 
-use cast_pool::{Done, Job, Kept, Worked};
+use cast_pool::Worked;
 use std::sync::ledger::Ledger;
 
 /// A thread's share of the count of events. A thread needs one to serve events.
 #[derive(Drop)]
 pub struct CountShare<L: Ledger> {
     pub worked: Worked<L>,
-    ghost some: { 0 < worked.parts },
+    ghost one: { worked.parts ≡ 1 },
 }
 
 impl<L: Ledger> CountShare<L> {
-    ghost use Rattle.cast_pool.specs.Served.{Completes};
-
-    /// A share that has a part of the ledger.
+    /// A share that has one part of the ledger.
     pub fn new(worked: Worked<L>) -> Self
-        requires { 0 < worked.parts }
+        requires { worked.parts ≡ 1 }
+        ensures { result.worked ≡ worked }
     {
         CountShare { worked }
-    }
-
-    /// Does a job, and lets go of what a domain kept that it halted, if the trace may be trimmed.
-    pub fn serve(&mut self, kept: &mut Kept<L>, job: Job, may_trim: bool) -> Done
-        ensures number { result.number ≡ job.number }
-        ensures done { Completes job.task may_trim result.outcome kept.old kept.new
-            self.old.worked.taken self.new.worked.taken }
-    {
-        kept.complete(&mut self.worked, job, may_trim)
     }
 }
 
@@ -35,6 +25,7 @@ impl<L: Ledger> CountShare<L> {
 #[derive(Drop)]
 pub struct SpareCount<L: Ledger> {
     worked: Worked<L>,
+    // How many parts it has.
     left: u64,
     ghost left_is: { worked.parts ≡ left },
 }
@@ -56,5 +47,28 @@ impl<L: Ledger> SpareCount<L> {
         let share = worked.split();
         *left -= 1;
         Some(CountShare::new(share))
+    }
+
+    /// This part of the count, and the share that a thread gives back.
+    pub fn with(self, share: CountShare<L>) -> Self {
+        let SpareCount { worked, left } = self;
+        if left == u64::MAX {
+            return SpareCount { worked, left };
+        }
+        match worked.join(share.worked) {
+            Ok(worked) => SpareCount {
+                worked,
+                left: left + 1,
+            },
+            Err((worked, _)) => SpareCount { worked, left },
+        }
+    }
+
+    /// The whole count, which has so many parts. `None` if a thread still has a share.
+    pub fn whole(self, all: u64) -> Option<Worked<L>>
+        ensures { IfSome result (λ worked. worked.parts ≡ all) }
+    {
+        let SpareCount { worked, left } = self;
+        if left == all { Some(worked) } else { None }
     }
 }

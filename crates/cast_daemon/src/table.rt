@@ -1,12 +1,16 @@
 //! The table behind its lock.
+ghost use Rattle.std.specs.Prelude.{◌≡◌, ◌<◌, IfSome};
+ghost use Rattle.cast_pool.specs.Kept.{events_of};
+ghost use Rattle.cast_pool.specs.Served.{IsCompleted};
+
 use crate::lanes::Lanes;
 use crate::share::{CountShare, SpareCount};
 use crate::trimmer::{Trimmer, payload_len};
 use cast_console::{Answer, Line, LineFault, answer, parse};
 use cast_edge::{Heard, heard_in};
 use cast_events::{Asked, Event, Fault, Outs, Raw, Told};
-use cast_pool::{Channels, Done, Gate, Job, Kept, Outcome, Task, decode, work};
-use cast_shared::{Came, Instruction, Pace, Reply, SharedTable, Wakings, Wanted};
+use cast_pool::{Channels, Done, Job, Kept, Outcome, Service, Task, Worked, decode, work};
+use cast_shared::{Came, Instruction, Pace, Reply, Served, SharedTable, Wakings, Wanted};
 use cast_types::{DomainNo, SiteNo};
 use crossbeam_channel::{Receiver, Sender};
 use std::alloc::Global;
@@ -20,7 +24,7 @@ pub struct LockedTable<'a, L: Ledger> {
     alloc: Global,
     kept: Mutex<Kept<L>>,
     lanes: Lanes,
-    spare: Mutex<SpareCount<L>>,
+    spare: Mutex<Option<SpareCount<L>>>,
     trimmer: Trimmer<'a>,
 }
 
@@ -32,36 +36,56 @@ fn domain_of(job: &Job) -> Option<DomainNo> {
     }
 }
 
-// Does a job. A trace that is recorded is cut, and not trimmed, so that none of its events is lost.
+// Does a job. Then events leave the trace, if it is time.
 fn complete<L: Ledger, R: Wait>(
+    rt: &R,
+    trimmer: &Trimmer<'_>,
+    kept: &mut Kept<L>,
+    mine: &mut Worked<L>,
+    job: Job,
+    may_trim: bool,
+) -> Done
+    requires { 0 < mine.old.parts }
+    ensures number { result.number ≡ job.number }
+    ensures done { IsCompleted job.task may_trim result.outcome mine.old.taken mine.new.taken }
+    ensures parts { mine.new.parts ≡ mine.old.parts }
+{
+    let len = payload_len(&job);
+    let done = kept.complete(mine, job, may_trim);
+    trimmer.served(rt, kept, len);
+    done
+}
+
+// Does the job of a thread that has this share. A trace that is recorded is cut, and not trimmed,
+// so that none of its events is lost.
+fn serve<L: Ledger, R: Wait>(
     rt: &R,
     trimmer: &Trimmer<'_>,
     kept: &mut Kept<L>,
     share: &mut CountShare<L>,
     job: Job,
 ) -> Done {
-    let len = payload_len(&job);
-    let done = share.serve(kept, job, trimmer.may_lose());
-    trimmer.served(rt, kept, len);
-    done
+    complete(
+        rt,
+        trimmer,
+        kept,
+        &mut share.worked,
+        job,
+        trimmer.may_lose(),
+    )
 }
 
-// The place of the pace of a domain if its readers may go on, else how many paces there are.
-fn due<L: Ledger>(paces: &[Pace], kept: &Kept<L>, domain: Option<DomainNo>) -> usize {
+// The place of the pace of a domain, else how many paces there are.
+fn pace_of(paces: &[Pace], domain: Option<DomainNo>) -> usize {
     for index in 0..paces.len() {
-        let pace = &paces[index];
-        if Some(pace.domain) == domain
-            && pace.is_awaited()
-            && let Some(backlog) = kept.table().backlog(pace.domain)
-            && pace.is_due(backlog)
-        {
+        if Some(paces[index].domain) == domain {
             return index;
         }
     }
     paces.len()
 }
 
-// Does a job, and answers the place of the pace whose readers may go on.
+// Does a job, and answers what a pace tells of it.
 fn serve_and_look<L: Ledger, R: Wait>(
     rt: &R,
     trimmer: &Trimmer<'_>,
@@ -69,11 +93,23 @@ fn serve_and_look<L: Ledger, R: Wait>(
     share: &mut CountShare<L>,
     job: Job,
     paces: &[Pace],
-) -> (Done, usize) {
-    let domain = domain_of(&job);
-    let done = complete(rt, trimmer, kept, share, job);
-    let due = due(paces, kept, domain);
-    (done, due)
+) -> (Done, usize, bool) {
+    let place = pace_of(paces, domain_of(&job));
+    let Some(pace) = paces.get(place) else {
+        let done = serve(rt, trimmer, kept, share, job);
+        return (done, paces.len(), false);
+    };
+    let before = kept.table().backlog(pace.domain);
+    let done = serve(rt, trimmer, kept, share, job);
+    let (Some(before), Some(after)) = (before, kept.table().backlog(pace.domain)) else {
+        return (done, paces.len(), false);
+    };
+    let due = if pace.is_due(after) {
+        place
+    } else {
+        paces.len()
+    };
+    (done, due, pace.is_crowded(before, after))
 }
 
 // Does the job of a cast, unless its program has to wait: then the job comes back.
@@ -92,7 +128,7 @@ fn cast_and_look<L: Ledger, R: Wait>(
     {
         return Err((job, wakings));
     }
-    let done = complete(rt, trimmer, kept, share, job);
+    let done = serve(rt, trimmer, kept, share, job);
     if let (Some(before), Some(after)) = (before, kept.table().backlog(pace.domain)) {
         pace.note(rt, before, after);
     }
@@ -111,7 +147,7 @@ fn instruction_of<L: Ledger>(kept: &Kept<L>, line: &str) -> Option<Instruction> 
     }
 }
 
-// Answers a line, and cuts the trace as `complete` does.
+// Answers a line, and cuts the trace as `serve` does.
 fn answer_line<L: Ledger, R: Wait>(
     rt: &R,
     alloc: Global,
@@ -152,36 +188,6 @@ fn came_of(alloc: Global, done: Done) -> Came {
     }
 }
 
-// Has a worker go by the lanes. Cuts the trace after what it served, if it is recorded and has many
-// events.
-#[derive(Drop)]
-struct WorkerGate<'a, R, L: Ledger> {
-    rt: &'a R,
-    trimmer: &'a Trimmer<'a>,
-    kept: &'a Mutex<Kept<L>>,
-    lanes: &'a Lanes,
-}
-
-impl<'a, R: Wait, L: Ledger> Gate for WorkerGate<'a, R, L> {
-    // The lane of the domain, and that the worker is next.
-    type Pass = (Option<MutexGuard<'a, ()>>, MutexGuard<'a, ()>);
-
-    fn decoded(&self, _number: u64, job: &Job) -> Self::Pass {
-        let lane = self.lanes.enter(self.rt, domain_of(job));
-        (lane, self.lanes.be_next(self.rt))
-    }
-
-    fn served(&self, _number: u64) {}
-
-    // What came of the job is on its way: nobody waits for the table on account of this.
-    fn done(&self, _number: u64) {
-        if !self.trimmer.may_lose() {
-            let _next = self.lanes.be_next(self.rt);
-            self.trimmer.cut_many(self.rt, &mut self.kept.lock(self.rt));
-        }
-    }
-}
-
 impl<'a, L: Ledger> LockedTable<'a, L> {
     /// A table with the whole count, of which no thread has a share yet, the lanes of its domains,
     /// and what trims its trace.
@@ -196,9 +202,28 @@ impl<'a, L: Ledger> LockedTable<'a, L> {
             alloc,
             kept: Mutex::new(kept),
             lanes,
-            spare: Mutex::new(spare),
+            spare: Mutex::new(Some(spare)),
             trimmer,
         }
+    }
+
+    /// The table, which nobody serves any more, and how many events it took, as the threads counted
+    /// them: the count has so many parts. `None` if a thread did not give its share of it back.
+    pub fn end(self, parts: u64) -> Option<(Kept<L>, u64)>
+        requires { parts ≡ L.parts }
+        ensures { IfSome result (λ r. r.1 ≡ events_of r.0) }
+    {
+        let LockedTable {
+            alloc: _,
+            kept,
+            lanes: _,
+            spare,
+            trimmer: _,
+        } = self;
+        let mut kept = kept.into_inner();
+        let all = spare.into_inner()?.whole(parts)?;
+        let count = kept.total(all);
+        Some((kept, count))
     }
 }
 
@@ -210,6 +235,14 @@ impl<L: Ledger> LockedTable<'_, L> {
     }
 }
 
+impl<L: Ledger> Service<L> for LockedTable<'_, L> {
+    fn complete<R: Wait>(&self, rt: &R, mine: &mut Worked<L>, job: Job, may_trim: bool) -> Done {
+        let _lane = self.lanes.enter(rt, domain_of(&job));
+        let mut kept = self.lock(rt);
+        complete(rt, &self.trimmer, &mut kept, mine, job, may_trim)
+    }
+}
+
 impl<L: Ledger + Send + Sync> SharedTable for LockedTable<'_, L> {
     type Share = CountShare<L>;
 
@@ -218,7 +251,17 @@ impl<L: Ledger + Send + Sync> SharedTable for LockedTable<'_, L> {
     type Done = Done;
 
     fn share<R: Wait>(&self, rt: &R) -> Option<CountShare<L>> {
-        self.spare.lock(rt).share()
+        match &mut *self.spare.lock(rt) {
+            Some(spare) => spare.share(),
+            None => None,
+        }
+    }
+
+    fn give_back<R: Wait>(&self, rt: &R, share: CountShare<L>) {
+        let mut spare = self.spare.lock(rt);
+        if let Some(mine) = spare.take() {
+            *spare = Some(mine.with(share));
+        }
     }
 
     fn job(&self, asked: Asked) -> Option<Job> {
@@ -245,13 +288,17 @@ impl<L: Ledger + Send + Sync> SharedTable for LockedTable<'_, L> {
         share: &mut CountShare<L>,
         job: Job,
         paces: &[Pace],
-    ) -> (Came, usize) {
-        let (done, due) = {
+    ) -> Served {
+        let (done, due, is_crowded) = {
             let _lane = self.lanes.enter(rt, domain_of(&job));
             let mut kept = self.lock(rt);
             serve_and_look(rt, &self.trimmer, &mut kept, share, job, paces)
         };
-        (came_of(self.alloc, done), due)
+        Served {
+            came: came_of(self.alloc, done),
+            due,
+            is_crowded,
+        }
     }
 
     fn serve_both<R: Wait>(
@@ -261,15 +308,21 @@ impl<L: Ledger + Send + Sync> SharedTable for LockedTable<'_, L> {
         job: Job,
         then: Job,
         paces: &[Pace],
-    ) -> (Came, Came, usize) {
-        let (first, second, due) = {
+    ) -> (Came, Served) {
+        let (first, second) = {
             let _lane = self.lanes.enter(rt, domain_of(&job));
             let mut kept = self.lock(rt);
-            let first = complete(rt, &self.trimmer, &mut kept, share, job);
-            let (second, due) = serve_and_look(rt, &self.trimmer, &mut kept, share, then, paces);
-            (first, second, due)
+            let first = serve(rt, &self.trimmer, &mut kept, share, job);
+            let second = serve_and_look(rt, &self.trimmer, &mut kept, share, then, paces);
+            (first, second)
         };
-        (came_of(self.alloc, first), came_of(self.alloc, second), due)
+        let (second, due, is_crowded) = second;
+        let served = Served {
+            came: came_of(self.alloc, second),
+            due,
+            is_crowded,
+        };
+        (came_of(self.alloc, first), served)
     }
 
     fn cast<R: Wait>(
@@ -304,16 +357,9 @@ impl<L: Ledger + Send + Sync> SharedTable for LockedTable<'_, L> {
             from: asked,
             to: dones,
         };
-        let gate = WorkerGate {
-            rt,
-            trimmer: &self.trimmer,
-            kept: &self.kept,
-            lanes: &self.lanes,
-        };
         let may_trim = self.trimmer.may_lose();
-        let _ = work(
-            rt, self.alloc, &self.kept, worked, may_trim, &mut post, &gate,
-        );
+        let worked = work(rt, self.alloc, self, worked, may_trim, &mut post);
+        self.give_back(rt, CountShare::new(worked));
     }
 
     fn answer<R: Wait>(

@@ -1,26 +1,29 @@
 //! The parts of the running daemon that need no table.
 //!
-//! A `Client` is a program that is served, with its pen; `write_now` gives it bytes.
-//! `Unacknowledged` remembers what another site was sent, and answers what is to be sent again; a
-//! `Silence` holds back what a site is sent that does not answer; `Stables` wait to be sent. A
+//! A `Client` is a program that is served, with its pen; an `Outlet` gives it bytes.
+//! `Unacknowledged` remembers what another site was sent, and answers what is to be sent again.
+//! `Acknowledgements` are those that wait for the delivery of their messages. A
 //! `Report` is what the operator has to know, and a `Count` how often. A `Folder` holds a record.
 //! Promised: every call is safe.
+//!
+//! # What is proved
+//!
+//! - A number is reported exactly where a power of ten is reached or passed since the last report:
+//!   `Count` (`due`, `not_due`, `new`).
 #![tactic(auto)]
 
+mod acknowledgements;
 mod client;
 mod count;
 mod folder;
 mod output;
 mod report;
-mod silence;
-mod stables;
 mod unacknowledged;
 
-pub use client::{Client, Session, Unwritten, WriterTask};
+pub use acknowledgements::Acknowledgements;
+pub use client::{Client, Session};
 pub use count::Count;
 pub use folder::Folder;
-pub use output::{Written, has_end, write_now, write_whole};
-pub use report::{Report, run_reporter};
-pub use silence::Silence;
-pub use stables::Stables;
-pub use unacknowledged::{Heard, Took, Unacknowledged, heard_in};
+pub use output::{Incoming, Outlet};
+pub use report::{Report, report_last, run_reporter};
+pub use unacknowledged::{Heard, Unacknowledged, heard_in};

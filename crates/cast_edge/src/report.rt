@@ -38,6 +38,8 @@ pub enum Report {
     RecordBehind,
     /// The record could not be written any more, and ended after so many events.
     RecordEnded(u64),
+    /// The daemon ended, and served so many events.
+    Served(u64),
 }
 
 impl Display for Report {
@@ -91,6 +93,7 @@ impl Display for Report {
             Report::RecordEnded(events) => {
                 write!(f, "castd: the record ended after event {events}")
             }
+            Report::Served(events) => write!(f, "castd: events served: {events}"),
         }
     }
 }
@@ -106,6 +109,14 @@ fn has_room(milliseconds: i32) -> bool {
         revents: 0,
     }];
     c::poll(&mut asked, milliseconds) > 0
+}
+
+/// Writes a report to `log`, which is standard error, after all others. If nobody reads there, it
+/// is lost.
+pub fn report_last<E: Write>(log: &mut E, what: Report) {
+    if has_room(PATIENCE) {
+        let _ = writeln!(log, "{what}");
+    }
 }
 
 /// Writes each report to `log`, which is standard error, until nobody can report any more. If

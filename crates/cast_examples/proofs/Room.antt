@@ -261,10 +261,49 @@ held_over_groups_prints : printed_text held_over_groups ≡ Ok (
 unfolding everything held_over_groups
 held_over_groups_prints = refl
 
+-- Where groups overlap, what depends on a message that is lacked takes its room: 3.1, which is not in group 1, has heard of 1/2/2.1/1 by
+-- 2/2/2.1/1. Each cast is acknowledged as it comes, and told to be stable; so its sender keeps nothing and may cast on. The lacked message
+-- is refused each time it comes
+room_taken_by_dependents : List ℕ
+room_taken_by_dependents =
+    lines
+    (codes "site 1"
+    ∷ codes "domain 1 home 9 sites 1,2,3,9 groups 1,2 quotas 16 2 256 200"
+    ∷ codes "open 1"
+    ∷ codes "join 1 1 7 1"
+    ∷ codes "join 1 1 8 2"
+    ∷ codes "frame 4344010501000900010000000100"
+    ∷ codes "frame 4344010501000900020000000100"
+    ∷ codes "frame 4344010a01000900010000000202000100000001000200000001000000000100000000000000"
+    ∷ codes "frame 4344010a01000900020000000203000100000001000200000001000300000001000000000100000000000000"
+    ∷ codes "frame 43440101010002000200000002000200000001000000010102000100000002010002000000010000000100020000000201000200000001000000010000"
+    ∷ codes "frame 4344010101000300020000000200030000000100000001010200010000000201000200000001000000010002000000020200020000000100000001000300000001000000010000"
+    ∷ codes "frame 4344010101000200010000000200020000000100000001010100010000000201000200000001000000010000"
+    ∷ codes "frame 4344010301000200020000000200020000000100000001"
+    ∷ codes "frame 4344010301000300020000000200030000000100000001"
+    ∷ codes "frame 4344010101000200010000000200020000000100000001010100010000000201000200000001000000010000" ∷ [])
+
+room_taken_by_dependents_prints : printed_text room_taken_by_dependents ≡ Ok (
+    lines
+    (codes "push 1 1 opened 1.1"
+    ∷ codes "push 1 1 reply 7 0"
+    ∷ codes "push 1 1 reply 8 0"
+    ∷ codes "push 1 1 view 1 2 holder 1.1 members 1.1 2.1"
+    ∷ codes "push 1 1 view 2 2 holder 1.1 members 1.1 2.1 3.1"
+    ∷ codes "send 1 9 4344010401000100010000000101000100000001"
+    ∷ codes "send 1 9 4344010401000100020000000101000100000001"
+    ∷ codes "send 1 9 4344010b010001000100000002"
+    ∷ codes "send 1 9 4344010b010001000200000002"
+    ∷ codes "send 1 2 4344010201000100020000000200020000000100000001"
+    ∷ codes "send 1 3 4344010201000100020000000200030000000100000001" ∷ [])
+    )
+unfolding everything room_taken_by_dependents
+room_taken_by_dependents_prints = refl
+
 -- nothing is left to be done behind any event of these
 room_rest : list_all rests (
     room_of_orders ∷ holder_without_room ∷ delivers_only_with_room ∷ holder_waits_at_twice_held ∷ set_order_waits_at_twice_held
-    ∷ held_over_groups ∷ []) ≡ true
+    ∷ held_over_groups ∷ room_taken_by_dependents ∷ []) ≡ true
 unfolding everything room_of_orders holder_without_room delivers_only_with_room holder_waits_at_twice_held set_order_waits_at_twice_held
-    held_over_groups
+    held_over_groups room_taken_by_dependents
 room_rest = refl

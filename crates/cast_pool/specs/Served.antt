@@ -101,13 +101,15 @@ pub record Completes (task : Task) (may_trim : Bool) (outcome : Outcome) (old : 
   pub done : IsDone task outcome old between was now
   pub trimmed : IsTrimmedIf (if may_trim then halts outcome else false) between new
 
--- this came of what was asked: a job of it left one kept table another, or its bytes are no frame
--- and nothing was taken
+-- it is done with some such table
+abbrev pub IsCompleted : Task → Bool → Outcome → ℕ → ℕ → Type 0
+IsCompleted task may_trim outcome was now =
+    (old : Seen) × (new : Seen) × Completes task may_trim outcome old new was now
+
+-- this came of what was asked: a job of it is done, or its bytes are no frame and nothing was taken
 abbrev pub IsAnswered : Asked → Bool → Outcome → ℕ → ℕ → Type 0
 IsAnswered asked may_trim outcome was now =
     ((task : Task)
-    × (old : Seen)
-    × (new : Seen)
     × (task_of asked ≡ Ok task)
-    × Completes task may_trim outcome old new was now)
+    × IsCompleted task may_trim outcome was now)
     ⊎ (IsUndecoded asked outcome × (now ≡ was))

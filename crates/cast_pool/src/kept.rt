@@ -102,6 +102,13 @@ pub fn decode(alloc: Global, raw: Raw) -> Result<Job, Done>
 }
 
 impl Job {
+    /// The number that was asked.
+    pub fn number(&self) -> u64
+        ensures { result ≡ self.now.number }
+    {
+        self.number
+    }
+
     /// What is to be done.
     pub fn task(&self) -> &Task
         ensures { result.now ≡ self.now.task }

@@ -12,9 +12,10 @@
 //!   does so too, and hands on the events of the trace in their order (`trimmed`, `entries`).
 //!   `Kept::let_go` trims exactly where a job halted a domain; after a job, and only if that may
 //!   be: `Kept::complete`, `work`. Shares add up: `Worked::{split, join}`. A datagram is decoded to
-//!   its frame or fault: `decode`; what a job is can be read: `Job::task`.
+//!   its frame or fault: `decode`; what a job is can be read: `Job::{number, task}`.
 //! - For each `Raw` taken, `work` sends one `Done`, in order, with its number and what came of it,
-//!   until no more can come (`answered`, `over`).
+//!   until no more can come (`answered`, `over`). It has the table as a `Service` alone, so it
+//!   changes no trace besides.
 //! - Only module `kept` can make a `Job` or `Done` or change a `Kept`: their fields are private and
 //!   none is `Clone`. `tools/sealed`, which `./check` runs, sees the compiler refuse code that
 //!   does.
@@ -31,4 +32,4 @@ pub use configured::can_keep;
 pub use kept::{Done, Job, Kept, Worked, decode};
 pub use post::{Channels, Post, hand_on};
 pub use task::{Outcome, Task};
-pub use worker::{Gate, Open, work};
+pub use worker::{Service, work};

@@ -1,56 +1,36 @@
 //! A worker: it takes what is asked, and decodes and sends outside the lock.
 ghost use Rattle.std.specs.Prelude.{◌≡◌, ◌<◌};
 ghost use Rattle.cast_pool.specs.Posts.{HasAnswered};
-ghost use Rattle.cast_pool.specs.Served.{IsAnswered};
+ghost use Rattle.cast_pool.specs.Served.{IsAnswered, IsCompleted};
 
-use crate::kept::{Done, Job, Kept, Worked, decode};
+use crate::kept::{Done, Job, Worked, decode};
 use crate::post::Post;
 use cast_events::Raw;
 use std::alloc::Global;
+use std::sync::Wait;
 use std::sync::ledger::Ledger;
-use std::sync::{Mutex, Wait};
 
-/// What a worker passes on its way, by the number that was asked. A test may let a worker wait
-/// there.
-pub trait Gate {
-    /// What it has from before it takes the lock until after it has given it back.
-    type Pass: Drop;
-
-    /// It has decoded this job, and does not have the lock yet.
-    fn decoded(&self, number: u64, job: &Job) -> Self::Pass;
-
-    /// It has served, and no longer has the lock.
-    fn served(&self, number: u64);
-
-    /// It has sent what came of it.
-    fn done(&self, number: u64);
-}
-
-/// A gate at which nobody waits.
-#[derive(Clone, Copy, Debug)]
-pub struct Open;
-
-impl Gate for Open {
-    type Pass = ();
-
-    fn decoded(&self, _number: u64, _job: &Job) {}
-
-    fn served(&self, _number: u64) {}
-
-    fn done(&self, _number: u64) {}
+/// A table behind a lock, as threads do jobs with it. Whoever knows no more of it can neither trim
+/// its trace nor cut events off it.
+pub trait Service<L: Ledger> {
+    /// Does a job under the lock, as `Kept::complete` does.
+    fn complete<R: Wait>(&self, rt: &R, mine: &mut Worked<L>, job: Job, may_trim: bool) -> Done
+        requires { 0 < mine.old.parts }
+        ensures number { result.number ≡ job.number }
+        ensures done { IsCompleted job.task may_trim result.outcome mine.old.taken mine.new.taken }
+        ensures parts { mine.new.parts ≡ mine.old.parts };
 }
 
 /// Does what is asked until nothing more can be, sends what came of each, and gives the worker's
-/// share of the count back. The lock is held for `Kept::complete` alone, which is told whether it
-/// may trim the trace after a job that halted a domain.
-pub fn work<L: Ledger, R: Wait, P: Post, G: Gate>(
+/// share of the count back. The table is told whether it may trim the trace after a job that halted
+/// a domain.
+pub fn work<L: Ledger, R: Wait, P: Post, S: Service<L>>(
     rt: &R,
     alloc: Global,
-    kept: &Mutex<Kept<L>>,
+    service: &S,
     mine: Worked<L>,
     may_trim: bool,
     post: &mut P,
-    gate: &G,
 ) -> Worked<L>
     requires { 0 < mine.parts }
     ensures parts { result.parts ≡ mine.parts }
@@ -64,38 +44,27 @@ pub fn work<L: Ledger, R: Wait, P: Post, G: Gate>(
         let Some(raw) = post.take() else {
             break;
         };
-        let number = raw.number;
-        let done = answer(rt, alloc, kept, &mut mine, raw, may_trim, gate);
-        post.send(done);
-        gate.done(number);
+        post.send(answer(rt, alloc, service, &mut mine, raw, may_trim));
     }
     mine
 }
 
 // Does what is asked, and gives what came of it.
-fn answer<L: Ledger, R: Wait, G: Gate>(
+fn answer<L: Ledger, R: Wait, S: Service<L>>(
     rt: &R,
     alloc: Global,
-    kept: &Mutex<Kept<L>>,
+    service: &S,
     mine: &mut Worked<L>,
     raw: Raw,
     may_trim: bool,
-    gate: &G,
 ) -> Done
     requires { 0 < mine.old.parts }
     ensures number { result.number ≡ raw.number }
     ensures answered { IsAnswered raw.asked may_trim result.outcome mine.old.taken mine.new.taken }
     ensures parts { mine.new.parts ≡ mine.old.parts }
 {
-    let number = raw.number;
     match decode(alloc, raw) {
-        Ok(job) => {
-            let pass = gate.decoded(number, &job);
-            let done = kept.lock(rt).complete(mine, job, may_trim);
-            drop(pass);
-            gate.served(number);
-            done
-        }
+        Ok(job) => service.complete(rt, mine, job, may_trim),
         Err(done) => done,
     }
 }

@@ -96,7 +96,8 @@ fn text_of(line: &[u8]) -> Option<&str> {
     str::from_utf8(line).ok()
 }
 
-/// Answers the lines of a console, until one says `stop`. Their end does not end the daemon.
+/// Answers the lines of a console, until one says `stop`. Then gives the share of the count back.
+/// The end of the lines does not end the daemon.
 pub fn run_console<T: SharedTable, R: Wait + Clock + Files, B: BufRead + Drop, W: Write>(
     rt: &R,
     shared: &Shared<'_, T>,
@@ -123,6 +124,7 @@ pub fn run_console<T: SharedTable, R: Wait + Clock + Files, B: BufRead + Drop, W
                     &dones,
                     out,
                 ) {
+                    shared.table.give_back(rt, share);
                     return;
                 }
             }

@@ -5,9 +5,10 @@ use crate::console::run_console;
 use crate::keys::{KeyFile, NoKeys};
 use cast_config::{DomainSocket, Setup};
 use cast_device::{Watched, tell};
-use cast_edge::{Count, Report, Silence, Stables, Unacknowledged, run_reporter};
+use cast_edge::{Acknowledgements, Count, Report, Unacknowledged, report_last, run_reporter};
 use cast_events::{Config, DomainConfig, Raw};
 use cast_seal::SEAL_LEN;
+use cast_sending::{Silences, Stables};
 use cast_shared::{
     Desk, Pace, Record, Shared, SharedTable, Tape, Traffic, Turnstile, run_recorder,
 };
@@ -94,8 +95,8 @@ fn take_outboxes<T: SharedTable, R: Wait>(rt: &R, server: &mut Server<'_, T>, al
         let Some(client) = next else {
             break;
         };
-        if client.claim(rt) {
-            server.write(rt, &client, false);
+        if let Some(hold) = client.claim(rt) {
+            server.write(rt, &client, hold, false);
         }
         last = Some(client.session);
     }
@@ -108,9 +109,7 @@ fn send_again<T: SharedTable, R: Wait>(rt: &R, server: &mut Server<'_, T>) {
     for link in shared.links {
         link.connect();
     }
-    for silence in shared.silences {
-        silence.tick(rt);
-    }
+    shared.silences.lock(rt).tick();
     for unacknowledged in shared.unacknowledged {
         let mut again = unacknowledged.tick(rt);
         server.gather(rt, &mut again);
@@ -141,14 +140,13 @@ fn report_passed_over<T: SharedTable, R: Wait>(
     }
 }
 
-// Tells the domains the time, and asks once more for what was refused.
-fn run_ticker<T: SharedTable, R: Wait + Clock>(
+// Tells the domains the time, and asks once more for what was refused, until the daemon stops.
+fn tick_on<T: SharedTable, R: Wait + Clock>(
     rt: &R,
-    server: Server<'_, T>,
-    unsent: Vec<Count>,
-    passed_over: Vec<Count>,
+    server: &mut Server<'_, T>,
+    unsent: &mut [Count],
+    passed_over: &mut [Count],
 ) -> io::Result<()> {
-    let (mut server, mut unsent, mut passed_over) = (server, unsent, passed_over);
     let shared = server.shared;
     let start = Instant::now(rt)?;
     let mut until_all = 0;
@@ -159,11 +157,11 @@ fn run_ticker<T: SharedTable, R: Wait + Clock>(
         let millis = u64::try_from(start.elapsed(rt)?.as_millis()).unwrap_or(u64::MAX);
         shared.desk.lock(rt).tick(rt, millis);
         shared.desk.lock(rt).hand_in_ends(rt);
-        send_again(rt, &mut server);
-        report_unsent(rt, shared, unsent.as_mut_slice());
-        report_passed_over(rt, shared, passed_over.as_mut_slice());
+        send_again(rt, server);
+        report_unsent(rt, shared, unsent);
+        report_passed_over(rt, shared, passed_over);
         let is_halted = shared.trim_after_halt(rt);
-        take_outboxes(rt, &mut server, is_halted || until_all == 0);
+        take_outboxes(rt, server, is_halted || until_all == 0);
         until_all = if until_all == 0 {
             TICKS_TO_ALL
         } else {
@@ -172,6 +170,23 @@ fn run_ticker<T: SharedTable, R: Wait + Clock>(
         thread::sleep(rt, Duration::from_millis(TICK));
     }
     Ok(())
+}
+
+// Tells the domains the time until the daemon stops, or there is no clock any more.
+fn run_ticker<T: SharedTable, R: Wait + Clock>(
+    rt: &R,
+    server: Server<'_, T>,
+    unsent: Vec<Count>,
+    passed_over: Vec<Count>,
+) {
+    let (mut server, mut unsent, mut passed_over) = (server, unsent, passed_over);
+    let _ = tick_on(
+        rt,
+        &mut server,
+        unsent.as_mut_slice(),
+        passed_over.as_mut_slice(),
+    );
+    server.end(rt);
 }
 
 // The ends of the channels that the threads take.
@@ -268,9 +283,7 @@ where
     let unsent = vec![in shared.alloc; Count::new(); shared.links.len()]?;
     let passed_over = vec![in shared.alloc; Count::new(); shared.links.len()]?;
     let server = server_of(rt, shared)?;
-    let _ = scope.spawn(move || {
-        let _ = run_ticker(rt, server, unsent, passed_over);
-    })?;
+    let _ = scope.spawn(move || run_ticker(rt, server, unsent, passed_over))?;
     Ok(())
 }
 
@@ -450,11 +463,11 @@ fn unacknowledged_of(
 }
 
 // The other sites: none was sent anything yet.
-fn silences_of(alloc: Global, own: SiteNo, links: &[Link]) -> Result<Vec<Silence>, NoMemory> {
-    let mut all = Vec::new(alloc);
+fn silences_of(alloc: Global, own: SiteNo, links: &[Link]) -> Result<Silences, NoMemory> {
+    let mut all = Silences::new(alloc);
     for link in links {
         if link.site != own {
-            all.push(Silence::new(link.site))?;
+            all.add(link.site)?;
         }
     }
     Ok(all)
@@ -516,8 +529,9 @@ where
         setup.config.domains.as_slice(),
         setup.delay > 0,
     )?;
-    let silences = silences_of(alloc, setup.config.site, sockets.links.as_slice())?;
+    let silences = Mutex::new(silences_of(alloc, setup.config.site, sockets.links.as_slice())?);
     let stables = Mutex::new(Stables::new(alloc));
+    let acknowledgements = Acknowledgements::new(alloc);
     let turnstile = Turnstile::new();
     let traffic = Traffic::new();
     let ground = Ground {
@@ -529,8 +543,9 @@ where
             keyrings,
             paces: paces.as_slice(),
             unacknowledged: unacknowledged.as_slice(),
-            silences: silences.as_slice(),
+            silences: &silences,
             stables: &stables,
+            acknowledgements: &acknowledgements,
             turnstile: &turnstile,
             traffic: &traffic,
             halts: &halts,
@@ -706,7 +721,7 @@ where
     ) {
         Ok(report) => {
             if let Some(what) = report {
-                let _ = writeln!(err.device, "{what}");
+                report_last(&mut err.device, what);
             }
             0
         }

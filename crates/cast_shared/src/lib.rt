@@ -20,5 +20,5 @@ pub use pace::{Pace, Patience, Wakings, Wanted};
 pub use record::{CUT, Record, Tape, run_recorder};
 pub use shared::{Shared, Traffic, Turnstile};
 pub use speed::Speed;
-pub use table::{Came, Instruction, Reply, SharedTable};
+pub use table::{Came, Instruction, Reply, Served, SharedTable};
 pub use udp::Udp;

@@ -9,12 +9,14 @@
 //!
 //! Where the configuration says for how long casts may queue on their way, fewer may follow:
 //! `Speed` says how many.
+ghost use Rattle.std.specs.Prelude.{◌<◌};
+
 use crate::speed::Speed;
-use cast_edge::Took;
 use cast_events::{Backlog, DomainConfig};
+use cast_pace::{Casts, room_beside, window_for, window_of};
+use cast_sending::Took;
 use cast_types::DomainNo;
 use std::alloc::Global;
-use std::collections::VecDeque;
 use std::rt::Clock;
 use std::sync::atomic::{AtomicU64, Ordering};
 use std::sync::{Condvar, Mutex, Wait};
@@ -22,9 +24,6 @@ use std::time::{Duration, Instant};
 
 // For how many milliseconds a cast waits at most.
 const PATIENCE: u64 = 250;
-
-// What a datagram takes of the room of a socket, beside its bytes.
-const OVERHEAD: u64 = 1_024;
 
 // No cast waits.
 const NONE: u64 = u64::MAX;
@@ -66,10 +65,10 @@ impl Patience {
     }
 }
 
-// The casts that were served here last, each by the number of its message, and who waits.
+// The casts that were served here last, and who waits.
 #[derive(Drop)]
-struct Casts {
-    latest: VecDeque<u64>,
+struct Waits {
+    latest: Casts,
     wakings: u64,
     is_over: bool,
 }
@@ -78,41 +77,34 @@ struct Casts {
 #[derive(Drop)]
 pub struct Pace {
     pub domain: DomainNo,
-    // How many sites the domain has, at least 2.
-    sites: usize,
+    // How many sites the domain has.
+    sites: u16,
+    ghost others: { 1 < sites },
     // How many bytes of datagrams the socket of a site holds.
     room: u64,
     // Readers wait until the oldest message that is kept has this key.
     awaited: AtomicU64,
-    casts: Mutex<Casts>,
+    waits: Mutex<Waits>,
     were_woken: Condvar,
     // None if casts may queue for as long as they like.
     speed: Option<Mutex<Speed>>,
-}
-
-// How many casts of each of so many sites may follow the oldest message that it keeps. All sites
-// together then take half of the room that one has, and the other half is for messages that set
-// their order.
-fn window_of(limit: u32, sites: usize) -> usize {
-    let parts = sites.saturating_add(1).saturating_mul(2);
-    (limit as usize).checked_div(parts).unwrap_or(0).max(1)
 }
 
 impl Pace {
     /// The pace of a domain, over sockets that have room for so many bytes of datagrams. Casts may
     /// queue on their way for so many microseconds; at 0 for as long as they like.
     pub fn new(alloc: Global, config: &DomainConfig, room: u64, delay: u32) -> Self {
-        let casts = Casts {
-            latest: VecDeque::new(alloc),
+        let waits = Waits {
+            latest: Casts::new(alloc),
             wakings: 0,
             is_over: false,
         };
         Pace {
             domain: config.domain,
-            sites: config.sites.len().max(2),
+            sites: u16::try_from(config.sites.len()).unwrap_or(u16::MAX).max(2),
             room,
             awaited: AtomicU64::new(NONE),
-            casts: Mutex::new(casts),
+            waits: Mutex::new(waits),
             were_woken: Condvar::new(),
             speed: if delay > 0 {
                 Some(Mutex::new(Speed::new(delay)))
@@ -135,10 +127,13 @@ impl Pace {
     }
 
     // How many casts may be on their way, where a program wrote so many commands at once.
-    fn allowed<R: Wait>(&self, rt: &R, at_once: usize) -> usize {
+    fn allowed<R: Wait>(&self, rt: &R, at_once: usize) -> u32 {
         match &self.speed {
-            Some(speed) => speed.lock(rt).window().max(at_once.saturating_mul(2)),
-            None => usize::MAX,
+            Some(speed) => {
+                let allowed = speed.lock(rt).window().max(at_once.saturating_mul(2));
+                u32::try_from(allowed).unwrap_or(u32::MAX)
+            }
+            None => u32::MAX,
         }
     }
 
@@ -149,16 +144,10 @@ impl Pace {
         }
     }
 
-    // How many casts may follow the oldest message that is kept, if the next has so many bytes:
-    // fewer where long ones would not find room in the sockets.
-    fn window(&self, limit: u32, len: usize) -> usize {
-        let each = (len as u64).saturating_mul(2).saturating_add(OVERHEAD);
-        let others = (self.sites as u64).saturating_sub(1);
-        let fitting = self
-            .room
-            .checked_div(each.saturating_mul(others))
-            .unwrap_or(0);
-        (fitting.max(2) as usize).min(window_of(limit, self.sites))
+    // How many casts may follow the oldest message that is kept, if the next has so many bytes.
+    fn window(&self, limit: u32, len: usize) -> u32 {
+        let len = u32::try_from(len).unwrap_or(u32::MAX);
+        window_for(limit, self.sites, self.room, len)
     }
 
     /// Whether a cast has to wait, where the domain is so far behind: then how often the readers
@@ -166,16 +155,15 @@ impl Pace {
     pub fn must_wait<R: Wait>(&self, rt: &R, backlog: Backlog, wanted: Wanted) -> Option<Wakings> {
         let oldest = backlog.oldest?.0 as u64;
         let allowed = self.allowed(rt, wanted.at_once);
-        let window = self.window(backlog.limit, wanted.len).min(allowed);
-        let casts = self.casts.lock(rt);
-        let first = casts.latest.len().checked_sub(window)?;
-        if casts.is_over || *casts.latest.get(first)? <= oldest {
+        let window = self.window(backlog.limit, wanted.len).min(allowed).max(1);
+        let waits = self.waits.lock(rt);
+        if waits.is_over {
             return None;
         }
-        let awaited = *casts.latest.get(first + window / 4)?;
+        let awaited = waits.latest.awaited(oldest, window)?;
         self.awaited.fetch_min(awaited, Ordering::SeqCst);
         self.use_up(rt);
-        Some(Wakings(casts.wakings))
+        Some(Wakings(waits.wakings))
     }
 
     /// Notes that a cast was served. The domain was so far behind before it, and is so far after
@@ -185,11 +173,8 @@ impl Pace {
         if after.next.0 as u64 <= key {
             return;
         }
-        let mut casts = self.casts.lock(rt);
-        for _ in window_of(after.limit, self.sites)..=casts.latest.len() {
-            let _ = casts.latest.pop_front();
-        }
-        let _ = casts.latest.push_back(key);
+        let most = window_of(after.limit, self.sites);
+        let _ = self.waits.lock(rt).latest.note(key, most);
     }
 
     /// Whether readers wait.
@@ -206,12 +191,25 @@ impl Pace {
         }
     }
 
+    /// Whether an event received a message, so that the domain keeps more than there is room for
+    /// beside what all sites may cast on. The domain was so far behind before it, and is so far
+    /// after it.
+    pub fn is_crowded(&self, before: Backlog, after: Backlog) -> bool {
+        let room = room_beside(after.limit, self.sites) as usize;
+        match after.oldest {
+            Some(oldest) => {
+                after.next.0 > before.next.0 && after.next.0.saturating_sub(oldest.0) > room
+            }
+            None => false,
+        }
+    }
+
     /// Wakes the readers that wait.
     pub fn wake<R: Wait>(&self, rt: &R) {
-        let mut casts = self.casts.lock(rt);
-        casts.wakings = casts.wakings.wrapping_add(1);
+        let mut waits = self.waits.lock(rt);
+        waits.wakings = waits.wakings.wrapping_add(1);
         self.awaited.store(NONE, Ordering::SeqCst);
-        drop(casts);
+        drop(waits);
         self.were_woken.notify_all();
     }
 
@@ -224,16 +222,16 @@ impl Pace {
 
     /// Ends all waiting.
     pub fn end<R: Wait>(&self, rt: &R) {
-        self.casts.lock(rt).is_over = true;
+        self.waits.lock(rt).is_over = true;
         self.wake(rt);
     }
 
     /// Waits until the readers are woken once more, at most for so long.
     pub fn wait<R: Wait + Clock>(&self, rt: &R, before: Wakings, most: Duration) {
-        let casts = self.casts.lock(rt);
-        if casts.wakings == before.0 && !casts.is_over {
-            let (casts, _) = self.were_woken.wait_timeout(rt, casts, most);
-            drop(casts);
+        let waits = self.waits.lock(rt);
+        if waits.wakings == before.0 && !waits.is_over {
+            let (waits, _) = self.were_woken.wait_timeout(rt, waits, most);
+            drop(waits);
         }
     }
 }

@@ -3,8 +3,9 @@ use crate::desk::Desk;
 use crate::pace::Pace;
 use crate::record::Tape;
 use crate::table::SharedTable;
-use cast_edge::{Report, Silence, Stables, Unacknowledged};
+use cast_edge::{Acknowledgements, Report, Unacknowledged};
 use cast_events::{Asked, Datagrams, Recording, Told};
+use cast_sending::{Silences, Stables};
 use cast_sockets::{Keyrings, Link};
 use cast_types::SiteNo;
 use std::alloc::Global;
@@ -77,9 +78,9 @@ pub struct Shared<'a, T: SharedTable> {
     pub paces: &'a [Pace],
     /// Of each domain and each of its other sites.
     pub unacknowledged: &'a [Unacknowledged],
-    /// Of each other site.
-    pub silences: &'a [Silence],
+    pub silences: &'a Mutex<Silences>,
     pub stables: &'a Mutex<Stables>,
+    pub acknowledgements: &'a Acknowledgements,
     pub turnstile: &'a Turnstile,
     pub traffic: &'a Traffic,
     /// Not 0 if a domain was halted since the ticker trimmed the trace last.

@@ -7,7 +7,7 @@
 //! What it takes at least is known for each site, since sites may be near and far. Beside a far
 //! site casts may queue for longer at a near one, too: as many are on their way as the far one
 //! needs, and they go to both at once.
-use cast_edge::Took;
+use cast_sending::Took;
 
 // How many casts may be on their way at first, at least, and at most.
 const FIRST: usize = 16;

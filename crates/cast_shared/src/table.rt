@@ -9,6 +9,18 @@ use std::sync::Wait;
 /// An answer, and what came of its event.
 pub type Came = (Result<Taken, Fault>, Outs);
 
+/// What came of a job that is served.
+#[derive(Drop)]
+pub struct Served {
+    /// Its answer, and what came of its event.
+    pub came: Came,
+    /// The place of its domain's pace if readers may go on now that waited for it, or else how many
+    /// paces there are.
+    pub due: usize,
+    /// It received a message, and its domain has little room beside.
+    pub is_crowded: bool,
+}
+
 /// What a line of the console asks of the threads.
 #[derive(Clone, Copy, Debug, PartialEq, Eq)]
 pub enum Instruction {
@@ -48,6 +60,9 @@ pub trait SharedTable {
     /// A share for one more thread. `None` if no parts are left for it.
     fn share<R: Wait>(&self, rt: &R) -> Option<Self::Share>;
 
+    /// Takes back the share of a thread that serves no more.
+    fn give_back<R: Wait>(&self, rt: &R, share: Self::Share);
+
     /// The job of what is asked. `None` for bytes that are no frame, and where memory ran out.
     fn job(&self, asked: Asked) -> Option<Self::Job>;
 
@@ -57,18 +72,17 @@ pub trait SharedTable {
     /// What the frame of a job tells of the site that it is from, if it does.
     fn heard(&self, job: &Self::Job) -> Option<Heard>;
 
-    /// Does a job. Answers also the place of its domain's pace among these if readers may go on now
-    /// that waited for it, or else how many paces there are.
+    /// Does a job. Of these paces one may be its domain's.
     fn serve<R: Wait>(
         &self,
         rt: &R,
         share: &mut Self::Share,
         job: Self::Job,
         paces: &[Pace],
-    ) -> (Came, usize);
+    ) -> Served;
 
     /// Does a job, and then another one of the same domain, without letting go of the table between
-    /// them. Answers what came of each, and what `serve` answers of the paces.
+    /// them. Answers what came of the first, and what `serve` answers of the second.
     fn serve_both<R: Wait>(
         &self,
         rt: &R,
@@ -76,7 +90,7 @@ pub trait SharedTable {
         job: Self::Job,
         then: Self::Job,
         paces: &[Pace],
-    ) -> (Came, Came, usize);
+    ) -> (Came, Served);
 
     /// Does the job of a cast, unless its program has to wait: then the job comes back, with how
     /// often the readers were woken before. A cast of which it is not said what it asks for does
@@ -90,7 +104,7 @@ pub trait SharedTable {
         asks: Option<Wanted>,
     ) -> Result<Came, (Self::Job, Wakings)>;
 
-    /// Serves as a worker until nothing can be asked any more.
+    /// Serves as a worker until nothing can be asked any more, and takes the share back.
     fn work<R: Wait>(
         &self,
         rt: &R,

@@ -1,5 +1,5 @@
 //! How many casts of a domain may be on their way, by the time that acknowledgements take.
-use cast_edge::Took;
+use cast_sending::Took;
 use cast_shared::Speed;
 
 // For how many microseconds casts may queue.

@@ -1,17 +1,20 @@
 //! Two workers over one table.
 ghost use Rattle.std.specs.Prelude.{◌≡◌, ◌<◌, IfOk, IfSome};
 
-use crate::gate::{PATIENT, Waits};
+use crate::gate::{Counting, PATIENT, Place, Waits};
 use crate::rows::{begun, cast_and_show, casts_and_takes, config, two_casts};
 use cast_events::Taken;
 use cast_message::Push;
-use cast_pool::{Asked, Channels, Done, Gate, Kept, Outcome, Raw, Worked, can_keep, decode, work};
+use cast_pool::{
+    Asked, Channels, Done, Kept, Outcome, Raw, Service, Worked, can_keep, decode, work,
+};
 use crossbeam_channel::{Receiver, Sender};
 use std::alloc::Global;
 use std::marker::Brand;
 use std::rt::Clock;
+use std::sync::Wait;
+use std::sync::atomic::AtomicU64;
 use std::sync::ledger::{Blank, Ledger};
-use std::sync::{Mutex, Wait};
 use std::test::Fail;
 use std::thread;
 use std::thread::Threads;
@@ -72,18 +75,29 @@ fn ask_all<R: Wait>(rt: &R, jobs: Sender<Raw>, asked: Vec<Raw>) {
     }
 }
 
+// The ends that a worker has.
+fn counting<'a, R>(
+    rt: &'a R,
+    from: Receiver<Raw>,
+    to: Sender<Done>,
+    sent: &'a AtomicU64,
+) -> Counting<'a, R> {
+    Counting {
+        channels: Channels { rt, from, to },
+        sent,
+    }
+}
+
 // Two workers serve what was asked, and answer their shares, joined.
-fn work_both<L: Ledger + Send + Sync, R: Threads + Wait + Sync, G: Gate + Sync>(
+fn work_both<L: Ledger + Send + Sync, R: Threads + Wait + Sync, S: Service<L> + Sync>(
     rt: &R,
     alloc: Global,
-    kept: &Mutex<Kept<L>>,
+    service: &S,
     mine: Worked<L>,
     queue: Receiver<Raw>,
     answers: Sender<Done>,
-    gate: &G,
+    sent: &AtomicU64,
 ) -> Option<Worked<L>>
-where
-    G::Pass: Send,
     requires { mine.parts ≡ 2 }
     ensures { IfSome result (λ all. all.parts ≡ 2) }
 {
@@ -97,23 +111,15 @@ where
             requires { one.parts ≡ 1 }
             ensures { result.parts ≡ 1 }
         {
-            let mut post = Channels {
-                rt,
-                from: queue,
-                to: answers,
-            };
-            work(rt, alloc, kept, one, true, &mut post, gate)
+            let mut post = counting(rt, queue, answers, sent);
+            work(rt, alloc, service, one, true, &mut post)
         },
         move || -> Worked<L>
             requires { two.parts ≡ 1 }
             ensures { result.parts ≡ 1 }
         {
-            let mut post = Channels {
-                rt,
-                from: also_queue,
-                to: also_answers,
-            };
-            work(rt, alloc, kept, two, true, &mut post, gate)
+            let mut post = counting(rt, also_queue, also_answers, sent);
+            work(rt, alloc, service, two, true, &mut post)
         },
     );
     one.join(two).ok()
@@ -137,6 +143,8 @@ struct Ran {
     counts: [u64; 3],
     // How many of them the trace has.
     trace_len: usize,
+    // Nobody waited in vain.
+    was_passed: bool,
 }
 
 fn counted<L: Ledger>(kept: &mut Kept<L>, all: Worked<L>) -> [u64; 3]
@@ -147,17 +155,15 @@ fn counted<L: Ledger>(kept: &mut Kept<L>, all: Worked<L>) -> [u64; 3]
     [taken, events, kept.total(all)]
 }
 
-// Two workers serve what was asked of a table that has served the first.
-fn run<L: Ledger + Send + Sync, R: Threads + Wait + Sync, G: Gate + Sync>(
+// Two workers serve what was asked of a table that has served the first, and wait at this place.
+fn run<L: Ledger + Send + Sync, R: Threads + Wait + Clock + Sync>(
     rt: &R,
     alloc: Global,
     blank: Blank,
     first: Vec<Asked>,
     asked: Vec<Raw>,
-    gate: &G,
+    place: Place,
 ) -> Result<Ran, Fail>
-where
-    G::Pass: Send,
     requires name { blank.name ≡ L.name }
     requires parts { (blank.parts ≡ L.parts) × (blank.parts ≡ 2) }
 {
@@ -170,17 +176,19 @@ where
     } = ends;
     let (mut kept, mut mine) = new::<L>(alloc, blank)?;
     serve_all(alloc, &mut kept, &mut mine, first);
-    let kept = Mutex::new(kept);
-    let worked = work_both(rt, alloc, &kept, mine, queue, answers, gate);
+    let sent = AtomicU64::new(0);
+    let service = Waits::new(rt, kept, place, &sent);
+    let worked = work_both(rt, alloc, &service, mine, queue, answers, &sent);
     let all = worked.ok_or("the workers ended")?;
     let dones = gathered(rt, alloc, answered)?;
-    let mut kept = kept.lock(rt);
+    let (mut kept, was_passed) = service.end();
     let trace_len = kept.trace_len();
     let counts = counted(&mut kept, all);
     Ok(Ran {
         dones,
         counts,
         trace_len,
+        was_passed,
     })
 }
 
@@ -199,9 +207,12 @@ fn passes<R: Threads + Wait + Clock + Sync>(
     is_served: bool,
 ) -> Result<bool, Fail> {
     let (first, asked) = (begun(alloc, 0)?, two_casts(alloc)?);
-    let gate = Waits::new(rt, is_served, 1);
-    let ran = run::<Brand, _, _>(rt, alloc, Blank::new(2), first, asked, &gate)?;
-    Ok(gate.was_passed() && are_numbered(&ran.dones, &[2, PATIENT]) && ran.counts == [14; 3])
+    let place = Place {
+        is_served,
+        awaited: 1,
+    };
+    let ran = run::<Brand, _>(rt, alloc, Blank::new(2), first, asked, place)?;
+    Ok(ran.was_passed && are_numbered(&ran.dones, &[2, PATIENT]) && ran.counts == [14; 3])
 }
 
 #[test]
@@ -227,8 +238,11 @@ fn tells_of(dones: &[Done], casts: u64) -> bool {
 // Whether a cast is shown that is done.
 fn is_shown<R: Threads + Wait + Clock + Sync>(rt: &R, alloc: Global) -> Result<bool, Fail> {
     let (first, asked) = (begun(alloc, 0)?, cast_and_show(alloc)?);
-    let gate = Waits::new(rt, false, 1);
-    let ran = run::<Brand, _, _>(rt, alloc, Blank::new(2), first, asked, &gate)?;
+    let place = Place {
+        is_served: false,
+        awaited: 1,
+    };
+    let ran = run::<Brand, _>(rt, alloc, Blank::new(2), first, asked, place)?;
     let is_counted = ran.counts == [13; 3];
     Ok(is_counted && are_numbered(&ran.dones, &[1, PATIENT]) && tells_of(&ran.dones, 1))
 }
@@ -294,8 +308,11 @@ fn are_replied(alloc: Global, dones: &[Done]) -> Result<bool, Fail> {
 // trimmed meanwhile.
 fn counts_once<R: Threads + Wait + Clock + Sync>(rt: &R, alloc: Global) -> Result<bool, Fail> {
     let (first, asked) = (begun(alloc, 3_900)?, casts_and_takes(alloc)?);
-    let gate = Waits::new(rt, false, 200);
-    let ran = run::<Brand, _, _>(rt, alloc, Blank::new(2), first, asked, &gate)?;
+    let place = Place {
+        is_served: false,
+        awaited: 200,
+    };
+    let ran = run::<Brand, _>(rt, alloc, Blank::new(2), first, asked, place)?;
     let is_trimmed = ran.counts == [4_114; 3] && ran.trace_len == 18;
     Ok(is_trimmed && are_answered(alloc, &ran.dones)? && are_replied(alloc, &ran.dones)?)
 }

@@ -59,4 +59,5 @@ pub fn run_dispatcher<T: SharedTable, R: Wait>(
         dispatch(rt, &mut server, done);
     }
     server.shared.desk.lock(rt).end_reports();
+    server.end(rt);
 }

@@ -2,8 +2,9 @@
 use crate::reader::{Reader, run_reader};
 use crate::server::Server;
 use cast_device::Watched;
-use cast_edge::{Client, Report, Session, WriterTask};
+use cast_edge::{Client, Report, Session};
 use cast_message::Push;
+use cast_pen::WriterTask;
 use cast_session::pump_out;
 use cast_shared::{Opened, Opening, Shared, SharedTable};
 use cast_types::{DomainNo, NoMemory, Refusal};
@@ -20,14 +21,32 @@ use std::time::Duration;
 const PATIENCE: u64 = 30;
 
 // Writes what others leave to be written, until nothing more is written.
-fn run_writer<T: SharedTable, R: Wait>(rt: &R, client: Arc<Client, Global>, server: Server<'_, T>) {
-    let mut server = server;
+fn write_on<T: SharedTable, R: Wait>(rt: &R, client: &Client, server: &mut Server<'_, T>) {
     for _ in rt.forever() {
         match client.next_task(rt) {
             None => break,
-            Some(WriterTask::Take) => server.write(rt, &client, true),
-            Some(WriterTask::Write(unwritten)) => server.write_rest(rt, &client, unwritten),
+            Some((hold, WriterTask::Take)) => server.write(rt, client, hold, true),
+            Some((hold, WriterTask::Write(unwritten))) => {
+                server.write_rest(rt, client, hold, unwritten);
+            }
         }
+    }
+}
+
+// Writes what others leave to be written, until nothing more is written. Without a share of the
+// count nothing can be.
+fn run_writer<T: SharedTable, R: Wait>(
+    rt: &R,
+    client: Arc<Client, Global>,
+    shared: &Shared<'_, T>,
+) {
+    match server_of(rt, shared) {
+        Ok(server) => {
+            let mut server = server;
+            write_on(rt, &client, &mut server);
+            server.end(rt);
+        }
+        Err(_) => client.close(rt),
     }
 }
 
@@ -96,21 +115,20 @@ fn enter<T: SharedTable, R: Wait>(
     Ok(is_entered)
 }
 
-// Starts the thread that writes what the others would wait for. False if none can be started.
+// Starts the thread that writes what the others would wait for. False if none can be started. It
+// takes its share of the count itself: a share that a thread that does not start has is lost.
 fn start_writer<'s, 'e, T: SharedTable + Sync, R: Threads + Wait + Clock + Sync>(
     scope: &'s Scope<'s, &'e ()>,
     rt: &'e R,
     shared: &'e Shared<'e, T>,
     client: Arc<Client, Global>,
-    share: T::Share,
 ) -> bool
 where
     T::Share: Send,
     T::Job: Send,
     T::Done: Send,
 {
-    let server = Server::new(shared, share);
-    scope.spawn(move || run_writer(rt, client, server)).is_ok()
+    scope.spawn(move || run_writer(rt, client, shared)).is_ok()
 }
 
 // Serves what a program writes, until its stream ends.
@@ -118,10 +136,12 @@ fn read<T: SharedTable, R: Wait + Clock>(
     rt: &R,
     shared: &Shared<'_, T>,
     client: &Client,
-    share: T::Share,
-) {
-    let reader = Mutex::new(Reader::new(Server::new(shared, share), client));
+) -> io::Result<()> {
+    let server = server_of(rt, shared)?;
+    let reader = Mutex::new(Reader::new(server, client));
     run_reader(rt, shared.alloc, client, &reader);
+    reader.into_inner().end(rt);
+    Ok(())
 }
 
 // Serves a program that was entered: this thread reads, and a second one writes what the others
@@ -132,22 +152,19 @@ fn serve_entered<'s, 'e, T: SharedTable + Sync, R: Threads + Wait + Clock + Sync
     shared: &'e Shared<'e, T>,
     client: &Client,
     writing: Arc<Client, Global>,
-    reads: T::Share,
-    writes: T::Share,
 ) -> io::Result<()>
 where
     T::Share: Send,
     T::Job: Send,
     T::Done: Send,
 {
-    if !start_writer(scope, rt, shared, writing, writes) {
+    if !start_writer(scope, rt, shared, writing) {
         return Err(io::Error::from(io::ErrorKind::OutOfMemory));
     }
-    read(rt, shared, client, reads);
-    Ok(())
+    read(rt, shared, client)
 }
 
-// Serves a program that has a session. What it needs is made before it is entered.
+// Serves a program that has a session. What it needs of memory is there before it is entered.
 fn serve_session<'s, 'e, T: SharedTable + Sync, R: Threads + Wait + Clock + Sync>(
     scope: &'s Scope<'s, &'e ()>,
     rt: &'e R,
@@ -162,12 +179,10 @@ where
 {
     let client = client_of(shared.alloc, session, stream)?;
     let writing = Arc::try_clone(&client)?;
-    let reads = share_of(rt, shared)?;
-    let writes = share_of(rt, shared)?;
     if !enter(rt, shared, &client)? {
         return Ok(());
     }
-    let ended = serve_entered(scope, rt, shared, &client, writing, reads, writes);
+    let ended = serve_entered(scope, rt, shared, &client, writing);
     client.close(rt);
     ended
 }

@@ -1,16 +1,16 @@
 //! The reader of a program: it serves the program's commands, and writes what they push.
 use crate::server::{Server, session_of};
 use cast_device::Watched;
-use cast_edge::{Client, Session};
+use cast_edge::{Client, Incoming, Session};
 use cast_events::{Asked, Event, Fault, Outs, Taken};
 use cast_message::{Command, Request};
+use cast_pen::Hold;
 use cast_session::{InEnd, Sink, pump_on};
 use cast_shared::{Came, Pace, Patience, SharedTable, Wanted};
 use cast_types::{NoMemory, Refusal};
 use std::alloc::{AllocError, Global};
 use std::io;
 use std::io::Read;
-use std::os::unix::net::UnixStream;
 use std::rt::Clock;
 use std::sync::{Mutex, Wait};
 
@@ -61,6 +61,12 @@ impl<'a, T: SharedTable> Reader<'a, T> {
         }
     }
 
+    /// Serves no more: gives the share of the count back.
+    pub fn end<R: Wait>(self, rt: &R) {
+        let Reader { server, .. } = self;
+        server.end(rt);
+    }
+
     // Serves a cast of so many bytes once its program may make it.
     fn cast<R: Wait + Clock>(&mut self, rt: &R, job: T::Job, pace: &Pace, len: usize) -> Came {
         let wanted = Wanted {
@@ -97,14 +103,15 @@ impl<'a, T: SharedTable> Reader<'a, T> {
     }
 
     // Takes the pen of the program if its command is a cast, of so many bytes, that most likely
-    // comes alone, in a domain without other sites. Answers whether it did. Then what the cast
-    // pushes to the program is taken at once, so that the thread waits for the table once.
-    fn take_pen_if_alone<R: Wait>(&self, rt: &R, len: Option<usize>) -> bool {
-        self.pace.is_none()
-            && len.is_some()
-            && self.count == 1
-            && self.last_count <= 1
-            && self.client.claim(rt)
+    // comes alone, in a domain without other sites. Then what the cast pushes to the program is
+    // taken at once, so that the thread waits for the table once.
+    fn take_pen_if_alone<R: Wait>(&self, rt: &R, len: Option<usize>) -> Option<Hold> {
+        let is_alone = self.count == 1 && self.last_count <= 1;
+        if self.pace.is_none() && len.is_some() && is_alone {
+            self.client.claim(rt)
+        } else {
+            None
+        }
     }
 
     // Serves a command. False if the stream is of no more use.
@@ -124,11 +131,11 @@ impl<'a, T: SharedTable> Reader<'a, T> {
             serial,
             command,
         };
-        let has_pen = self.take_pen_if_alone(rt, len);
-        let (answer, outs) = if has_pen {
-            self.server.serve_and_write(rt, self.client, event)
-        } else {
-            self.serve_event(rt, event, len)
+        let hold = self.take_pen_if_alone(rt, len);
+        let has_pen = hold.is_some();
+        let (answer, outs) = match hold {
+            Some(hold) => self.server.serve_and_write(rt, self.client, hold, event),
+            None => self.serve_event(rt, event, len),
         };
         self.note(rt, &outs);
         if has_pen {
@@ -211,9 +218,9 @@ impl<'a, T: SharedTable> Reader<'a, T> {
         }
         if self.is_pushed || self.untaken >= UNTAKEN {
             self.is_pushed = false;
-            if self.client.claim(rt) {
+            if let Some(hold) = self.client.claim(rt) {
                 self.untaken = 0;
-                self.server.write(rt, self.client, false);
+                self.server.write(rt, self.client, hold, false);
             }
         }
         self.call_others(rt);
@@ -250,26 +257,24 @@ impl<T: SharedTable, R: Wait + Clock> Sink for Serving<'_, '_, T, R> {
 struct Flushing<'a, 'b, T: SharedTable, R: Wait + Clock> {
     rt: &'b R,
     reader: &'b Mutex<Reader<'a, T>>,
-    stream: &'b UnixStream,
+    incoming: Incoming<'b>,
 }
 
 impl<T: SharedTable, R: Wait + Clock> Read for Flushing<'_, '_, T, R> {
     fn read(&mut self, room: &mut [u8]) -> io::Result<usize> {
         self.reader.lock(self.rt).read_on(self.rt);
-        let mut stream = self.stream;
-        stream.read(room)
+        self.incoming.read(room)
     }
 
     fn read_exact(&mut self, room: &mut [u8]) -> io::Result<()> {
         self.reader.lock(self.rt).read_on(self.rt);
-        let mut stream = self.stream;
-        stream.read_exact(room)
+        self.incoming.read_exact(room)
     }
 }
 
 // Reads on until the stream is closed: bytes were no frame, and the program is still to be told so.
-fn wait_for_close(stream: &UnixStream) {
-    let mut reader = stream;
+fn wait_for_close(incoming: Incoming<'_>) {
+    let mut reader = incoming;
     let mut room = [0; 512];
     for _ in 0..u64::MAX {
         match reader.read(&mut room) {
@@ -290,14 +295,14 @@ pub fn run_reader<T: SharedTable, R: Wait + Clock>(
     let source = Flushing {
         rt,
         reader,
-        stream: &client.stream,
+        incoming: client.incoming(),
     };
     let mut source = Watched::new(source);
     let mut sink = Serving { rt, reader };
     let end = pump_on(rt, alloc, &mut source, &mut sink);
     reader.lock(rt).flush(rt);
     match end {
-        InEnd::Bad(_) => wait_for_close(&client.stream),
+        InEnd::Bad(_) => wait_for_close(client.incoming()),
         InEnd::End => {
             let _ = client.wait(rt, LAST_TAKES);
         }

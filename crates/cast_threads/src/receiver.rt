@@ -1,10 +1,11 @@
 //! The receiver: it serves the datagrams that come.
 use crate::server::{Server, session_of};
 use bytes::Bytes;
-use cast_edge::{Report, Session, Stables};
+use cast_edge::{Report, Session};
 use cast_events::{Asked, Outs};
 use cast_link::{LinkFault, Unpacked, Wire, receive_one, unpack};
 use cast_message::SiteFrame;
+use cast_sending::Stables;
 use cast_shared::{Shared, SharedTable};
 use cast_types::{DomainNo, SiteNo};
 use std::rt::Clock;
@@ -153,8 +154,8 @@ impl<T: SharedTable> Receiver<'_, T> {
             };
             let client = self.server.shared.desk.lock(rt).client(session);
             if let Some(client) = client {
-                if client.claim(rt) {
-                    self.server.write(rt, &client, false);
+                if let Some(hold) = client.claim(rt) {
+                    self.server.write(rt, &client, hold, false);
                 }
             }
         }
@@ -204,4 +205,6 @@ pub fn run_receiver<T: SharedTable, R: Wait + Clock>(
             }
         }
     }
+    let Receiver { server, .. } = receiver;
+    server.end(rt);
 }

@@ -1,21 +1,15 @@
 //! A thread that serves events: under the table's lock for each, and sends the frames outside it.
-use cast_edge::{
-    Client, Heard, Report, Session, Silence, Unacknowledged, Unwritten, WriterTask, Written,
-    has_end, write_now, write_whole,
-};
+use cast_edge::{Client, Heard, Report, Session, Unacknowledged};
 use cast_events::{Asked, Event, Fault, Outs, Taken};
 use cast_link::{Wire, send_all, send_bundled};
 use cast_message::Push;
-use cast_session::spell_out;
+use cast_pen::{BATCH, Hold, Next, Unwritten, WriterTask, put_entries, put_rest};
 use cast_shared::{Came, Pace, Shared, SharedTable, Udp, Wakings, Wanted};
 use cast_types::{DomainNo, List, Refusal, SiteNo};
 use std::mem;
 use std::rt::Clock;
 use std::sync::Wait;
 use std::sync::atomic::Ordering;
-
-/// Most entries that one Take of a session asks for.
-pub const BATCH: u32 = 64;
 
 // So often a thread takes an outbox in a row that is not the program's writer. Then the writer goes
 // on.
@@ -51,6 +45,32 @@ fn take_of(session: Session) -> Event {
     }
 }
 
+// After bytes were given to a program. Passes what is left of them on with the pen. `None` if the
+// pen is gone, else the pen, and whether the outbox may have more entries.
+fn go_on<R: Wait>(rt: &R, client: &Client, hold: Hold, next: Next) -> Option<(Hold, bool)> {
+    match next {
+        Next::GoOn(is_more) => Some((hold, is_more)),
+        Next::Rest(unwritten) => {
+            client.pass(rt, hold, WriterTask::Write(unwritten));
+            None
+        }
+        Next::End => {
+            client.end(rt, hold);
+            None
+        }
+    }
+}
+
+// Keeps the pen if the outbox may have more entries, or if the session was pushed to since. Else it
+// is free.
+fn keep<R: Wait>(rt: &R, client: &Client, hold: Hold, is_more: bool) -> Option<Hold> {
+    if is_more {
+        Some(hold)
+    } else {
+        client.goes_on(rt, hold)
+    }
+}
+
 /// The session that an entry was pushed to.
 pub fn session_of(push: &(DomainNo, u32, Push)) -> Session {
     Session {
@@ -72,13 +92,20 @@ impl<'a, T: SharedTable> Server<'a, T> {
         }
     }
 
-    // Does a job, and lets the readers go on that waited for what it released.
-    fn do_job<R: Wait>(&mut self, rt: &R, job: T::Job) -> Came {
+    /// Serves no more: gives the share of the count back.
+    pub fn end<R: Wait>(self, rt: &R) {
+        let Server { shared, share, .. } = self;
+        shared.table.give_back(rt, share);
+    }
+
+    // Does a job, and lets the readers go on that waited for what it released. Answers also whether
+    // it received a message where there is little room.
+    fn do_job<R: Wait>(&mut self, rt: &R, job: T::Job) -> (Came, bool) {
         let shared = self.shared;
         shared.turnstile.pass(rt);
-        let (came, due) = shared.table.serve(rt, &mut self.share, job, shared.paces);
-        self.wake_due(rt, due);
-        came
+        let served = shared.table.serve(rt, &mut self.share, job, shared.paces);
+        self.wake_due(rt, served.due);
+        (served.came, served.is_crowded)
     }
 
     // After a job: lets the readers go on that wait for this pace, if there is one.
@@ -114,9 +141,14 @@ impl<'a, T: SharedTable> Server<'a, T> {
             return None;
         }
         let heard = self.shared.table.heard(&job);
-        let (_, outs) = self.do_job(rt, job);
+        let (came, is_crowded) = self.do_job(rt, job);
+        let (_, mut outs) = came;
         if let Some(heard) = heard {
             self.hear(rt, heard);
+        }
+        if is_crowded {
+            let lost = self.shared.acknowledgements.hold(rt, &mut outs);
+            self.count_unspelled(rt, lost);
         }
         Some(outs)
     }
@@ -148,9 +180,8 @@ impl<'a, T: SharedTable> Server<'a, T> {
     // A site acknowledged a message. If it was silent, all that it was sent may be sent again as if
     // for the first time.
     fn end_silence<R: Wait>(&self, rt: &R, site: SiteNo) {
-        if let Some(silence) = Silence::find(self.shared.silences, site)
-            && silence.end(rt)
-        {
+        let was_silent = self.shared.silences.lock(rt).end(site);
+        if was_silent {
             for unacknowledged in self.shared.unacknowledged {
                 if unacknowledged.site == site {
                     unacknowledged.begin_anew(rt);
@@ -162,7 +193,7 @@ impl<'a, T: SharedTable> Server<'a, T> {
     /// Serves an event.
     pub fn serve<R: Wait>(&mut self, rt: &R, event: Event) -> Came {
         match self.shared.job(rt, Asked::Event(event)) {
-            Some(job) => self.do_job(rt, job),
+            Some(job) => self.do_job(rt, job).0,
             None => (Err(Fault::NoMemory), Outs::new(self.shared.alloc)),
         }
     }
@@ -176,6 +207,8 @@ impl<'a, T: SharedTable> Server<'a, T> {
     /// `send_gathered`, and tells the operator which domains it halted. If each frame has a
     /// datagram of its own, they are sent now.
     pub fn gather<R: Wait>(&mut self, rt: &R, outs: &mut Outs) {
+        let lost = self.shared.acknowledgements.pass(rt, outs);
+        self.count_unspelled(rt, lost);
         if self.shared.bundle.is_none() {
             self.send_frames(rt, outs);
         } else {
@@ -208,7 +241,7 @@ impl<'a, T: SharedTable> Server<'a, T> {
         let mut outs = mem::replace(&mut self.gathered, Outs::new(self.shared.alloc));
         let lost = self.shared.stables.lock(rt).join(&mut outs);
         self.count_unspelled(rt, lost);
-        self.send_frames(rt, &outs);
+        self.send_frames(rt, &mut outs);
     }
 
     /// Sends the Stables that wait.
@@ -235,11 +268,9 @@ impl<'a, T: SharedTable> Server<'a, T> {
     }
 
     // Sends frames, but for messages for silent sites beyond the first few.
-    fn send_frames<R: Wait>(&mut self, rt: &R, outs: &Outs) {
-        match Silence::pass(rt, self.shared.alloc, self.shared.silences, outs) {
-            Some(passed) => self.send_passed(rt, &passed),
-            None => self.send_passed(rt, outs),
-        }
+    fn send_frames<R: Wait>(&mut self, rt: &R, outs: &mut Outs) {
+        self.shared.silences.lock(rt).pass(outs);
+        self.send_passed(rt, outs);
     }
 
     // Sends frames, if there is room to count one more failure of each. They share datagrams if
@@ -290,165 +321,150 @@ impl<'a, T: SharedTable> Server<'a, T> {
         }
     }
 
-    // Writes what was spelled. False if the pen was passed on, or the stream is of no use.
-    fn put<R: Wait>(
+    // Writes what is unwritten, and waits where it has to. Answers as `write_taken` does.
+    fn put_rest<R: Wait>(
         &mut self,
         rt: &R,
         client: &Client,
-        is_last: bool,
-        is_more: bool,
-        may_wait: bool,
-    ) -> bool {
-        let is_out = match write_now(&client.stream, self.room.as_slice()) {
-            Written::All => true,
-            Written::Failed => false,
-            Written::Part(written) => {
-                let bytes = mem::replace(&mut self.room, Vec::new(self.shared.alloc));
-                let unwritten = Unwritten {
-                    bytes,
-                    written,
-                    is_last,
-                    is_more,
-                };
-                if !may_wait {
-                    client.pass(rt, WriterTask::Write(unwritten));
-                    return false;
-                }
-                return self.put_rest(rt, client, unwritten);
-            }
-        };
-        self.shrink();
-        if !is_out || is_last {
-            client.close(rt);
-            return false;
-        }
-        true
-    }
-
-    // Writes what is unwritten, and waits where it has to. False if the stream is of no use.
-    fn put_rest<R: Wait>(&mut self, rt: &R, client: &Client, unwritten: Unwritten) -> bool {
-        client.was_taken(rt);
-        let from = unwritten.written.min(unwritten.bytes.len());
-        if !write_whole(&client.stream, &unwritten.bytes[from..]) || unwritten.is_last {
-            client.close(rt);
-            return false;
-        }
-        true
+        hold: Hold,
+        unwritten: Unwritten,
+    ) -> Option<(Hold, bool)> {
+        client.was_taken(rt, &hold);
+        let next = put_rest(&mut client.outlet(&hold), unwritten);
+        go_on(rt, client, hold, next)
     }
 
     /// As the writer of a program, writes what another thread left unwritten, and then what there
     /// is more.
-    pub fn write_rest<R: Wait>(&mut self, rt: &R, client: &Client, unwritten: Unwritten) {
-        let is_more = unwritten.is_more;
-        if self.put_rest(rt, client, unwritten) && (is_more || client.goes_on(rt)) {
-            self.write(rt, client, true);
+    pub fn write_rest<R: Wait>(
+        &mut self,
+        rt: &R,
+        client: &Client,
+        hold: Hold,
+        unwritten: Unwritten,
+    ) {
+        if let Some((hold, is_more)) = self.put_rest(rt, client, hold, unwritten)
+            && let Some(hold) = keep(rt, client, hold, is_more)
+        {
+            self.write(rt, client, hold, true);
         }
     }
 
-    // Writes what a Take of the outbox of a session had. `None` if the pen is gone, else whether
-    // there may be more.
+    // Writes what a Take of the outbox of a session had. `None` if the pen is gone, else the pen,
+    // and whether there may be more.
     fn write_taken<R: Wait>(
         &mut self,
         rt: &R,
         client: &Client,
+        hold: Hold,
         came: Came,
         may_wait: bool,
-    ) -> Option<bool> {
+    ) -> Option<(Hold, bool)> {
         let (answer, mut outs) = came;
         self.send(rt, &mut outs);
         match answer {
-            Ok(Taken::Entries(entries)) => self.put_entries(rt, client, entries, may_wait),
+            Ok(Taken::Entries(entries)) => self.put_entries(rt, client, hold, entries, may_wait),
             Ok(Taken::Refused(Refusal::Halted)) => {
-                client.close(rt);
+                client.end(rt, hold);
                 None
             }
             Err(_) => {
-                client.gives_up(rt);
+                client.gives_up(rt, hold);
                 None
             }
-            _ => Some(false),
+            _ => Some((hold, false)),
         }
     }
 
-    // Writes entries that were taken.
+    // Writes entries that were taken. Answers as `write_taken` does.
     fn put_entries<R: Wait>(
         &mut self,
         rt: &R,
         client: &Client,
+        hold: Hold,
         entries: List<Push>,
         may_wait: bool,
-    ) -> Option<bool> {
-        if entries.is_empty() {
-            return Some(false);
-        }
-        let is_more = entries.len() >= BATCH as usize;
-        let is_last = has_end(entries.as_slice());
-        self.room.clear();
-        if spell_out(&mut self.room, entries.as_slice()).is_err() {
-            client.close(rt);
-            return None;
-        }
-        if self.put(rt, client, is_last, is_more, may_wait) {
-            Some(is_more)
-        } else {
-            None
+    ) -> Option<(Hold, bool)> {
+        let (alloc, entries) = (self.shared.alloc, entries.as_slice());
+        let next = put_entries(&mut client.outlet(&hold), &mut self.room, alloc, entries);
+        self.shrink();
+        match next {
+            Ok(Next::Rest(unwritten)) if may_wait => self.put_rest(rt, client, hold, unwritten),
+            Ok(next) => go_on(rt, client, hold, next),
+            Err(_) => {
+                client.end(rt, hold);
+                None
+            }
         }
     }
 
     /// With the pen of a program, takes its outbox until that is empty, and writes what it had. If
     /// that would wait, or goes on for long, the pen is passed to the program's writer, unless this
     /// is the writer.
-    pub fn write<R: Wait>(&mut self, rt: &R, client: &Client, is_writer: bool) {
+    pub fn write<R: Wait>(&mut self, rt: &R, client: &Client, hold: Hold, is_writer: bool) {
         let came = self.serve(rt, take_of(client.session));
-        self.write_from(rt, client, came, is_writer);
+        self.write_from(rt, client, hold, came, is_writer);
     }
 
     // With the pen of a program, and with what came of a Take of its outbox: writes that, and goes
     // on as `write` does.
-    fn write_from<R: Wait>(&mut self, rt: &R, client: &Client, came: Came, is_writer: bool) {
+    fn write_from<R: Wait>(
+        &mut self,
+        rt: &R,
+        client: &Client,
+        hold: Hold,
+        came: Came,
+        is_writer: bool,
+    ) {
+        let mut hold = hold;
         let mut came = came;
         let mut rounds: u32 = 0;
         for _ in rt.forever() {
-            match self.write_taken(rt, client, came, is_writer) {
-                None => break,
-                Some(true) => {}
-                Some(false) => {
-                    if !client.goes_on(rt) {
-                        break;
-                    }
-                }
-            }
+            let Some((held, is_more)) = self.write_taken(rt, client, hold, came, is_writer) else {
+                return;
+            };
+            let Some(kept) = keep(rt, client, held, is_more) else {
+                return;
+            };
             rounds = rounds.saturating_add(1);
             if rounds >= ROUNDS && !is_writer {
-                client.pass(rt, WriterTask::Take);
-                break;
+                client.pass(rt, kept, WriterTask::Take);
+                return;
             }
+            hold = kept;
             came = self.serve(rt, take_of(client.session));
         }
+        client.gives_up(rt, hold);
     }
 
     // There is no memory for a job. The pen of a program is given back.
-    fn give_up<R: Wait>(&self, rt: &R, client: &Client) -> Came {
-        client.gives_up(rt);
+    fn give_up<R: Wait>(&self, rt: &R, client: &Client, hold: Hold) -> Came {
+        client.gives_up(rt, hold);
         (Err(Fault::NoMemory), Outs::new(self.shared.alloc))
     }
 
     /// With the pen of a program, serves an event of its session, takes the outbox at once, and
     /// then writes as `write` does: the thread waits for the table once for both.
-    pub fn serve_and_write<R: Wait>(&mut self, rt: &R, client: &Client, event: Event) -> Came {
+    pub fn serve_and_write<R: Wait>(
+        &mut self,
+        rt: &R,
+        client: &Client,
+        hold: Hold,
+        event: Event,
+    ) -> Came {
         let shared = self.shared;
         let Some(job) = shared.job(rt, Asked::Event(event)) else {
-            return self.give_up(rt, client);
+            return self.give_up(rt, client, hold);
         };
         let Some(take) = shared.job(rt, Asked::Event(take_of(client.session))) else {
-            return self.give_up(rt, client);
+            return self.give_up(rt, client, hold);
         };
         shared.turnstile.pass(rt);
-        let (came, taken, due) = shared
+        let (came, taken) = shared
             .table
             .serve_both(rt, &mut self.share, job, take, shared.paces);
-        self.wake_due(rt, due);
-        self.write_from(rt, client, taken, false);
+        self.wake_due(rt, taken.due);
+        self.write_from(rt, client, hold, taken.came, false);
         came
     }
 }

@@ -9,8 +9,8 @@ pub loop-preserved : goal.loop-preserved
 loop-preserved g c = record {
   parts = cc;
   answered =
-      answered_one _ _ _ _ _ _ _ _ _ c.in-Some-take.raw c.answer-done.result c.loop.invariant.answered c.in-Some-take.ensures.some
+      answered_one _ _ _ _ _ _ _ _ _ c.in-Some-take.raw c.answer.result c.loop.invariant.answered c.in-Some-take.ensures.some
       c.in-Some-take.ensures.sent
-      (record { number = c.answer-done.ensures.number; was = _; now = _; answered = c.answer-done.ensures.answered }) c.send.ensures.sent
+      (record { number = c.answer.ensures.number; was = _; now = _; answered = c.answer.ensures.answered }) c.send.ensures.sent
       c.send.ensures.taken;
 }

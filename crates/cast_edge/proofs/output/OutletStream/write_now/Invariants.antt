@@ -1,5 +1,5 @@
 use Rattle.std.proofs.Common.{length, ◌-◌, ◌≤◌}
-use Rattle.cast_edge.proofs.output.write_now.Given as goal
+use Rattle.cast_edge.proofs.output.OutletStream.write_now.Given as goal
 
 abbrev pub invariant-loop-written : goal.invariant-loop-written
 invariant-loop-written l = l.written ≤ length l.bytes

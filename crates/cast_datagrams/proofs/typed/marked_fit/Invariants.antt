@@ -1,0 +1,7 @@
+use Rattle.std.proofs.Common.{take}
+use Rattle.std.specs.List.{AllByRecursion}
+use Rattle.cast_datagrams.specs.Typed.{FitsMarked}
+use Rattle.cast_datagrams.proofs.typed.marked_fit.Given as goal
+
+abbrev pub invariant-loop-entry : goal.invariant-loop-entry
+invariant-loop-entry l = AllByRecursion FitsMarked (take l.entry-index l.entries)

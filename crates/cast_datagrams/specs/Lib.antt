@@ -1,0 +1,4 @@
+pub mod Typed
+pub mod Numbers
+pub mod Datagrams
+pub mod Laws

@@ -1,0 +1,22 @@
+//! Whole daemons whose wires carry bytes: laws that join datagrams to networks of frames.
+//!
+//! # What is proved
+//!
+//! - Each frame that is sent is a value of its type, and so are the numbers of its domain and of
+//!   the site that it is for: `typed::frames_fit`. Two such frames that differ, or that are of
+//!   different domains or sites, are spelled differently: `laws::spellings_of_types_differ`.
+//! - So each frame that a site reads of a datagram is one that was sent to it, of that domain and
+//!   from that site, alone or in a bundle: `laws::datagrams_are_frames` (`sent`). Daemons that take
+//!   in such frames and their own events alone come only to what steps of a network of frames lead
+//!   to (`networks`), so that the laws hold of each domain: its deliveries are causal (`causal`),
+//!   its views agree (`agree`), and its programs are told so (`told`).
+//! - Of what a wire is given for a frame that has a spelling, the site reads that frame
+//!   (`received`). Each frame that was sent has a spelling, if those of its numbers that count from
+//!   1 are not 0 (`spelled`). No law says that they are not.
+//! - Where the keys of two sites seal nothing but frames that the one sent to the other,
+//!   `cast_trust` needs no other premise on the network of any domain:
+//!   `laws::senders_seal_what_is_spelled`.
+#![tactic(auto)]
+
+pub mod laws;
+pub mod typed;

@@ -1,0 +1,19 @@
+-- The casts that follow a message, by the keys under which a site keeps them.
+-- Keys rise as messages are received.
+use Rattle.std.specs.Prelude.{◌≡◌, ◌⊎◌, ℕ, ◌≤◌, true, ◌++◌, List, [], ◌∷◌, length, filter, nat_lt}
+use Rattle.cast_index.specs.Rises.{rises}
+
+-- each key is below all behind it
+abbrev pub KeysRise : List ℕ → Type 0
+KeysRise casts = rises (λ k. k) casts ≡ true
+
+-- how many of these were received after the message under a key
+abbrev pub following : ℕ → List ℕ → ℕ
+following key casts = length (filter (λ k. nat_lt key k) casts)
+
+-- the casts and one more are remembered: all of them, or all but the earliest where they are more
+-- than may be
+abbrev pub Remembers : ℕ → ℕ → List ℕ → List ℕ → Type 0
+Remembers key most old new =
+    ((new ≡ old ++ key ∷ []) × (length new ≤ most))
+    ⊎ ((earliest : ℕ) × (old ++ key ∷ [] ≡ earliest ∷ new) × (most ≤ length new))

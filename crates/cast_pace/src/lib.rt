@@ -1,0 +1,28 @@
+//! How far the programs of a domain may run ahead of its other sites, as plain values.
+//!
+//! A site keeps each message until all sites have it. So where it lets only some casts follow the
+//! oldest message that it keeps, another site has room for the one that it lacks.
+//!
+//! # What is proved
+//!
+//! - All sites of a domain together take half of the room that one has, and their windows could not
+//!   be greater: `window_of` (`window`). Long casts have the window that finds room in the sockets:
+//!   `window_for` (`window`).
+//! - What a site may keep, and the windows of all sites with a set-order message for each of their
+//!   casts, are together what it has room for: `room_beside`.
+//! - A cast has to wait exactly where as many casts of the site follow the oldest message as its
+//!   window has. It waits until fewer do: `Casts::awaited` (`some`, `none`). Only the earliest cast
+//!   is ever forgotten, and only where more are remembered than may be: `Casts::note` (`noted`,
+//!   `refused`).
+//! - An acknowledgement that waits is one that was added, and waits until it is taken out for the
+//!   delivery of its message: `WaitingAcks::{add, has, take}` (`added`, `some`, `none`). Only the
+//!   earliest is ever forgotten, and only where 4,096 wait.
+#![tactic(auto)]
+
+mod acks;
+mod casts;
+mod window;
+
+pub use acks::WaitingAcks;
+pub use casts::Casts;
+pub use window::{room_beside, window_for, window_of};

@@ -1,0 +1,5 @@
+pub mod Holders
+pub mod Takes
+pub mod Bytes
+pub mod Ends
+pub mod Puts

@@ -1,0 +1,4 @@
+pub mod Pens
+pub mod Writing
+pub mod Moves
+pub mod Laws
