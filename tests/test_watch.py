@@ -16,6 +16,7 @@ from harness import (
     PATIENCE,
     PORT,
     Case,
+    Failed,
     Setup,
     castd,
     change_plan,
@@ -28,6 +29,8 @@ from harness import (
 
 # How long a site may be silent. It leaves room for a machine that does much else.
 SILENCE = 2.0
+# How long in a test in which no site is to be put out, however slow the machine is.
+LONG_SILENCE = 10.0
 # So many casts a program says in a row while keys change.
 BURST = 20
 INCARNATION, NEXT_INCARNATION = "0123456789abcdef", "fedcba9876543210"
@@ -106,15 +109,17 @@ def keys_words(setup: Setup, site: int) -> list[str]:
     return ["--keys", keys_of(setup, site)] if site in setup.sealed else []
 
 
-def words_of(setup: Setup, site: int) -> list[str]:
+def words_of(setup: Setup, site: int, silence: float = SILENCE) -> list[str]:
     """The words of the watch of a site."""
-    return ["--patience", str(SILENCE), *keys_words(setup, site)]
+    return ["--patience", str(silence), *keys_words(setup, site)]
 
 
 class Sites(Case):
     """Tests with sites that have a keeper and a watch each."""
 
-    def start(self, sites: int, links: tuple[tuple[int, int], ...] = (), sealed: Collection[int] = ()) -> None:
+    def start(
+        self, sites: int, links: tuple[tuple[int, int], ...] = (), sealed: Collection[int] = (), silence: float = SILENCE
+    ) -> None:
         """Starts sites with a program at each, and waits until the home hears all."""
         self.setup = self.setup_of(sites, sealed=sealed)
         self.numbers = range(1, sites + 1)
@@ -128,7 +133,7 @@ class Sites(Case):
                 wait_for_view(program, sites)
         configs = {site: self.config_with(site, links) for site in self.numbers}
         self.watches = {
-            site: self.watch(self.setup, site, *words_of(self.setup, site), config=configs[site])
+            site: self.watch(self.setup, site, *words_of(self.setup, site, silence), config=configs[site])
             for site in self.numbers
         }
         self.watches[1].wait_for_lines(*(f"site {site} is heard in domain 1" for site in self.numbers[1:]))
@@ -320,14 +325,17 @@ class Sealing(Sites):
         self.assertEqual(keeper.ask("suspected"), "")
 
     def test_keys_change_while_programs_cast(self):
-        self.start(3, sealed=(1, 2, 3))
+        self.start(3, sealed=(1, 2, 3), silence=LONG_SILENCE)
         delivered = dict.fromkeys(self.numbers, 0)
 
         def have_heard(count: int) -> bool:
             """Whether all programs were pushed so many casts. What they have to send goes out meanwhile."""
             for site, program in self.programs.items():
-                while push := program.read(0.01):
-                    delivered[site] += isinstance(push, castd.Deliver)
+                try:
+                    while push := program.read(0.01):
+                        delivered[site] += isinstance(push, castd.Deliver)
+                except castd.Ended as ended:
+                    raise Failed(f"the session at site {site} is over; put out: {self.suspected() or 'none'}") from ended
             return set(delivered.values()) == {count}
 
         count = 0
@@ -338,9 +346,10 @@ class Sealing(Sites):
                         program.send(castd.Cast(1, castd.CAUSAL, b"x"))
                 count += BURST * len(self.programs)
                 have_heard(count)
-                path = keys_of(self.setup, changed, *numbers)
+                keys_of(self.setup, changed, *numbers)
                 self.assertEqual(self.keepers[changed].castctl("keys"), (0, "ok\n"))
-                self.watches[changed].wait_for_lines(f"keys: {path}: taken")
+            for watch in self.watches.values():
+                watch.wait_for_lines(".keys: taken")
         wait_until(lambda: have_heard(count), "each cast is delivered everywhere")
         for keeper in self.keepers.values():
             self.assertIn("undecoded 0", keeper.ask("datagrams"))
