@@ -26,4 +26,4 @@ pub use count::Count;
 pub use folder::Folder;
 pub use output::{Incoming, Outlet};
 pub use report::{Report, report_last, run_reporter};
-pub use unacknowledged::{Heard, Unacknowledged, heard_in};
+pub use unacknowledged::Unacknowledged;

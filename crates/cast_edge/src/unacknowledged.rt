@@ -1,6 +1,6 @@
 //! What another site was sent and has not acknowledged, behind a lock: a `Flight` says what goes to
 //! the wire again.
-use cast_events::{Event, Outs};
+use cast_events::Outs;
 use cast_message::{Message, SiteFrame};
 use cast_sending::{Flight, Least, Took};
 use cast_types::{DomainNo, GroupNo, List, NoMemory, SiteNo, Uid};
@@ -130,41 +130,4 @@ impl Unacknowledged {
 fn micros_since<R: Clock>(rt: &R, time: Option<Instant>) -> Option<u64> {
     let elapsed = time?.elapsed(rt).ok()?;
     u64::try_from(elapsed.as_micros()).ok()
-}
-
-/// What a frame tells of the site that it is from.
-#[derive(Clone, Copy, Debug, PartialEq, Eq)]
-pub struct Heard {
-    /// The domain of the frame.
-    pub domain: DomainNo,
-    /// The site that sent it.
-    pub site: SiteNo,
-    /// The group that the frame is about.
-    pub group: GroupNo,
-    /// The site has entered this view of it.
-    pub view: u32,
-    /// The message that it acknowledges.
-    pub acknowledged: Option<Uid>,
-}
-
-/// What an event tells of a site, if it is a frame that a site sends only of a view that it has
-/// entered.
-pub fn heard_in(event: &Event) -> Option<Heard> {
-    let Event::Frame(domain, site, frame) = event else {
-        return None;
-    };
-    let (group, view, acknowledged) = match frame {
-        SiteFrame::Data(message) => (message.id.group, message.id.view, None),
-        SiteFrame::Ack(id) => (id.group, id.view, Some(*id)),
-        SiteFrame::Stable(id) => (id.group, id.view, None),
-        SiteFrame::Installed { group, view } => (*group, *view, None),
-        _ => return None,
-    };
-    Some(Heard {
-        domain: *domain,
-        site: *site,
-        group,
-        view,
-        acknowledged,
-    })
 }

@@ -1,3 +1,2 @@
 pub mod Rising
 pub mod Fitting
-pub mod Places

@@ -14,15 +14,10 @@
 //!   window has. It waits until fewer do: `Casts::awaited` (`some`, `none`). Only the earliest cast
 //!   is ever forgotten, and only where more are remembered than may be: `Casts::note` (`noted`,
 //!   `refused`).
-//! - An acknowledgement that waits is one that was added, and waits until it is taken out for the
-//!   delivery of its message: `WaitingAcks::{add, has, take}` (`added`, `some`, `none`). Only the
-//!   earliest is ever forgotten, and only where 4,096 wait.
 #![tactic(auto)]
 
-mod acks;
 mod casts;
 mod window;
 
-pub use acks::WaitingAcks;
 pub use casts::Casts;
 pub use window::{room_beside, window_for, window_of};

@@ -4,3 +4,4 @@ pub mod Moves
 pub mod Passing
 pub mod Quietness
 pub mod Parts
+pub mod Early

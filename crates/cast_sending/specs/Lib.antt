@@ -6,3 +6,5 @@ pub mod Quiet
 pub mod RoundTrips
 pub mod Flights
 pub mod Marks
+pub mod Acks
+pub mod Heard

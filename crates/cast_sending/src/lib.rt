@@ -27,17 +27,28 @@
 //!   it goes it may go once less. None is remembered more often than it was, at most 1,024 are, and
 //!   as many that came too soon. An acknowledgement takes one of its id out before any is sent
 //!   again, and a tick sends eight at most: `Flight::{note, enter, acknowledge, tick}`.
+//! - What an event tells of a site is the view of the group that its frame is about, and the
+//!   message that it acknowledges: `heard_in`.
+//! - The acknowledgements among the frames of an event are to wait, but for those of messages that
+//!   it delivered: `WaitingAcks::hold` (`ok`, `err`). One waits until its message is delivered.
+//!   Then it goes, or is counted as lost for want of memory. Until then no frame goes that
+//!   acknowledges the message: `WaitingAcks::pass` (`passed`, `rest`). Only the earliest is ever
+//!   forgotten, and only where 4,096 wait.
 #![tactic(auto)]
 
+mod acks;
 mod dues;
 mod flight;
+mod heard;
 pub mod laws;
 mod round_trip;
 mod sent;
 mod silence;
 mod stables;
 
+pub use acks::WaitingAcks;
 pub use flight::Flight;
+pub use heard::{Heard, heard_in};
 pub use round_trip::{Least, RoundTrip, Took};
 pub use silence::Silences;
 pub use stables::Stables;

@@ -1,7 +1,7 @@
 //! The table of a daemon behind its lock, as the threads use it.
 use crate::pace::{Pace, Wakings, Wanted};
-use cast_edge::Heard;
 use cast_events::{Asked, Fault, Outs, Raw, Taken, Told};
+use cast_sending::Heard;
 use cast_types::{DomainNo, NoMemory, SiteNo};
 use crossbeam_channel::{Receiver, Sender};
 use std::sync::Wait;

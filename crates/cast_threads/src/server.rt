@@ -1,9 +1,10 @@
 //! A thread that serves events: under the table's lock for each, and sends the frames outside it.
-use cast_edge::{Client, Heard, Report, Session, Unacknowledged};
+use cast_edge::{Client, Report, Session, Unacknowledged};
 use cast_events::{Asked, Event, Fault, Outs, Taken};
 use cast_link::{Wire, send_all, send_bundled};
 use cast_message::Push;
 use cast_pen::{BATCH, Hold, Next, Unwritten, WriterTask, put_entries, put_rest};
+use cast_sending::Heard;
 use cast_shared::{Came, Pace, Shared, SharedTable, Udp, Wakings, Wanted};
 use cast_types::{DomainNo, List, Refusal, SiteNo};
 use std::mem;
@@ -142,13 +143,12 @@ impl<'a, T: SharedTable> Server<'a, T> {
         }
         let heard = self.shared.table.heard(&job);
         let (came, is_crowded) = self.do_job(rt, job);
-        let (_, mut outs) = came;
+        let (_, outs) = came;
         if let Some(heard) = heard {
             self.hear(rt, heard);
         }
         if is_crowded {
-            let lost = self.shared.acknowledgements.hold(rt, &mut outs);
-            self.count_unspelled(rt, lost);
+            self.shared.acknowledgements.hold(rt, &outs);
         }
         Some(outs)
     }
