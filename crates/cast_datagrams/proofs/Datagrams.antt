@@ -44,8 +44,9 @@ use Rattle.cast_trust.specs.Laws.{Carries}
 use Rattle.cast_world.proofs.NewsRuns.{tells_lead}
 use Rattle.cast_sites.specs.Laws.{AreToldLawfully, HoldsOfDomains, pushed_in, sites_of}
 use Rattle.cast_sites.proofs.Domains.{domains_agree, domains_are_networks, domains_are_told, domains_deliver_causally}
-use Rattle.cast_datagrams.specs.Datagrams.{Answers, Comes, DatagramNetwork, IsGiven, IsReceived, IsWired, TakesEvents}
+use Rattle.cast_datagrams.specs.Datagrams.{Answers, Comes, DatagramNetwork, DatagramsReach, IsReceived, IsWired, TakesEvents, WereSent}
 use Rattle.cast_datagrams.specs.Datagrams.{opened_wires}
+use Rattle.cast_events.specs.declared.config.DomainConfig.{DomainConfig}
 use Rattle.cast_datagrams.specs.Laws.{DatagramsAgree, DatagramsAreFrames, DatagramsAreTold, DatagramsDeliverCausally, HoldsOverDatagrams}
 use Rattle.cast_datagrams.specs.Laws.{ReceivedFramesWereSent, SentFramesAreSpelled, SpelledFramesAreReceived}
 use Rattle.cast_datagrams.specs.Typed.{FitsSent, FitsType, IsByte, IsShort}
@@ -186,15 +187,18 @@ module _ (sent : List (DomainNo × Packet)) (s : SiteNo) (frames : List (DomainN
         (record { domain = fits.domain; from = number; frame = fits.frame })
   ]
 
+-- Its wire is given such frames of a site as it has sent
+module _ (after : List (DomainNo × Packet)) (s : SiteNo) (frames : List (DomainNo × SiteNo × SiteFrame)) (number : IsShort s.0)
+    (typed : AllTyped after) (were : WereSent after s frames) where
   spells_frame : (f : DomainNo × SiteNo × SiteFrame) (to : SiteNo) (bytes : List ℕ) → Contains frames f → f.1 ≡ to →
       bytes ≡ spelled_site f.0 s f.2 → Spells after to bytes
   spells_frame f to bytes at for is =
       record {
-        packet = tagged f;
-        among = Contains-append_right sent (map tagged frames) (tagged f) (goes_to tagged frames f at);
+        packet = (f.0, record { from = s; to = f.1; frame = f.2 });
+        among = were f at;
         addressed = for;
         number = number;
-        typed = (fits_of f at).frame;
+        typed = (typed f.0 (record { from = s; to = f.1; frame = f.2 }) (were f at)).frame;
         spelled = is;
       }
 
@@ -208,12 +212,9 @@ module _ (sent : List (DomainNo × Packet)) (s : SiteNo) (frames : List (DomainN
       spells_frame made.0 to bytes made.1 (ap (λ (x : SiteNo × List ℕ). x.0) made.2 ∙ for)
       (sym chosen.2 ∙ sym (ap (λ (x : SiteNo × List ℕ). x.1) made.2))
 
-  wire_has : (datagrams : List (SiteNo × List ℕ)) → IsGiven s frames datagrams → (to : SiteNo) (datagram : List ℕ) →
+  wire_has : (datagrams : List (SiteNo × List ℕ)) → IsWired s frames datagrams → (to : SiteNo) (datagram : List ℕ) →
       Contains datagrams (to, datagram) → HasSent after to datagram
-  wire_has datagrams (inl none) to datagram at =
-      let empty : Contains [] (to, datagram) = subst (λ (l : List (SiteNo × List ℕ)). Contains l (to, datagram)) none at in
-      absurd (omega (arith, empty.1))
-  wire_has datagrams (inr (inl each)) to datagram at =
+  wire_has datagrams (inl each) to datagram at =
       let made =
       came_of (datagram_of s) frames (to, datagram) (subst (λ (l : List (SiteNo × List ℕ)). Contains l (to, datagram)) each at) in
       let spells =
@@ -229,7 +230,7 @@ module _ (sent : List (DomainNo × Packet)) (s : SiteNo) (frames : List (DomainN
       only : (bytes : List ℕ) → Spells after to datagram → Contains (datagram ∷ []) bytes → Spells after to bytes
       only bytes spells (zero, lt, same) = subst (Spells after to) same spells
       only bytes spells (suc k, lt, same) = absurd (omega (arith, lt))
-  wire_has datagrams (inr (inr (most, packed))) to datagram at =
+  wire_has datagrams (inr (most, packed)) to datagram at =
       let found =
       carried_by most (to_site to datagrams) (to_site to (datagrams_of s frames)) (packed to) datagram
       (for_site to datagrams datagram at) in
@@ -320,14 +321,17 @@ spelled_frames_are_received own frames datagrams f wired at spelled =
 
 -- Events
 
-answers_keep : (n m : DatagramNetwork) (s : SiteNo) (e : Event) → IsShort s.0 → Answers n s e m → AllSent n → AllSent m
-answers_keep n m s e number does all =
+answers_keep : (n m : DatagramNetwork) (s : SiteNo) (e : Event) → IsShort s.0 → (does : Answers n s e m) →
+    AllTyped (move_daemon n.daemons s does.table does.outs).sent → AllSent n → AllSent m
+answers_keep n m s e number does typed all =
     subst AllSent (sym does.becomes)
     (λ to datagram at. elim (Contains-append_cases n.given does.datagrams (to, datagram) at) [
       | inl old ↦
           still_has n.daemons.sent (map (λ f. (f.0, record { from = s; to = f.1; frame = f.2 })) does.outs.frames) to datagram
           (all to datagram old)
-      | inr new ↦ wire_has n.daemons.sent s does.outs.frames number does.typed does.datagrams does.given to datagram new
+      | inr new ↦
+          wire_has (move_daemon n.daemons s does.table does.outs).sent s does.wired number typed does.sent does.datagrams does.given to
+          datagram new
     ])
 
 received_is_sent : (n : DatagramNetwork) (to : SiteNo) (e : Event) → AllSent n → IsReceived n.given to e →
@@ -367,18 +371,19 @@ record ComesTo (n m : DatagramNetwork) : Type 0 where
   steps : List Step
   takes : TakesSteps n.daemons steps m.daemons
   sent : AllSent m
-  typed : AllTyped n.daemons.sent → AllTyped m.daemons.sent
+  typed : AllTyped m.daemons.sent
 
 run_by_steps : (events : List (SiteNo × Event)) (n m : DatagramNetwork) →
-    AllByRecursion (λ (s : SiteNo). IsShort s.0) n.daemons.sites → AllSent n → TakesEvents n events m → ComesTo n m
-run_by_steps [] n m numbers all same =
+    AllByRecursion (λ (s : SiteNo). IsShort s.0) n.daemons.sites → AllTyped n.daemons.sent → AllSent n → TakesEvents n events m →
+    ComesTo n m
+run_by_steps [] n m numbers typed all same =
     record {
       steps = [];
       takes = ap (λ (x : DatagramNetwork). x.daemons) same;
       sent = subst AllSent (sym same) all;
-      typed = λ typed. subst (λ (x : DatagramNetwork). AllTyped x.daemons.sent) (sym same) typed;
+      typed = subst (λ (x : DatagramNetwork). AllTyped x.daemons.sent) (sym same) typed;
     }
-run_by_steps (at ∷ events) n m numbers all (u, among, comes, does, later) =
+run_by_steps (at ∷ events) n m numbers typed all (u, among, comes, does, later) =
     let first = comes_by_step n at.0 at.1 all among comes in
     let moved : u.daemons ≡ move_daemon n.daemons at.0 does.table does.outs = ap (λ (x : DatagramNetwork). x.daemons) does.becomes in
     let here : TakesEvent n.daemons at.0 (Some at.1) u.daemons = (does.answer, does.table, does.outs, does.answered, moved) in
@@ -387,31 +392,40 @@ run_by_steps (at ∷ events) n m numbers all (u, among, comes, does, later) =
     (subst (λ (s : SiteNo). TakesEvent n.daemons s (Some at.1) u.daemons) (sym first.1) here) in
     let still : AllByRecursion (λ (s : SiteNo). IsShort s.0) u.daemons.sites =
     subst (λ (x : DaemonNetwork). AllByRecursion (λ (s : SiteNo). IsShort s.0) x.sites) (sym moved) numbers in
-    let rest =
-    run_by_steps events u m still (answers_keep n u at.0 at.1 (site_fits n.daemons.sites at.0 numbers among) does all) later in
-    let fits : AllTyped n.daemons.sent → AllTyped u.daemons.sent =
-    λ typed. subst (λ (x : DaemonNetwork). AllTyped x.sent) (sym moved)
-    (all_typed n.daemons.sent at.0 does.outs.frames (site_fits n.daemons.sites at.0 numbers among) does.typed typed) in
+    let number : IsShort at.0.0 = site_fits n.daemons.sites at.0 numbers among in
+    let fits : AllTyped (move_daemon n.daemons at.0 does.table does.outs).sent =
+    all_typed n.daemons.sent at.0 does.outs.frames number does.typed typed in
+    let fit : AllTyped u.daemons.sent = subst (λ (x : DaemonNetwork). AllTyped x.sent) (sym moved) fits in
+    let rest = run_by_steps events u m still fit (answers_keep n u at.0 at.1 number does fits all) later in
     record {
       steps = first.0 ∷ rest.steps;
       takes = (u.daemons, step, rest.takes);
       sent = rest.sent;
-      typed = λ typed. rest.typed (fits typed);
+      typed = rest.typed;
     }
 
 none_given : (sites : List SiteNo) (tables : SiteNo → Table) → AllSent (opened_wires sites tables)
 none_given sites tables to datagram at = absurd (omega (arith, at.1))
 
+none_sent : (sites : List SiteNo) (tables : SiteNo → Table) → AllTyped (opened_wires sites tables).daemons.sent
+none_sent sites tables d p at = absurd (omega (arith, at.1))
+
+run_of : (sites : List SiteNo) (served : SiteNo → List DomainConfig) (events : List (SiteNo × Event)) (n : DatagramNetwork) →
+    (reach : DatagramsReach sites served events n) → ComesTo (opened_wires sites reach.tables) n
+run_of sites served events n reach =
+    run_by_steps events (opened_wires sites reach.tables) n reach.numbers (none_sent sites reach.tables) (none_given sites reach.tables)
+    reach.takes
+
 -- The laws
 
 pub received_frames_were_sent : ReceivedFramesWereSent
 received_frames_were_sent sites served events n to e reach received =
-    let run = run_by_steps events (opened_wires sites reach.tables) n reach.numbers (none_given sites reach.tables) reach.takes in
+    let run = run_of sites served events n reach in
     received_is_sent n to e run.sent received
 
 pub datagrams_are_frames : DatagramsAreFrames
 datagrams_are_frames sites served events n reach =
-    let run = run_by_steps events (opened_wires sites reach.tables) n reach.numbers (none_given sites reach.tables) reach.takes in
+    let run = run_of sites served events n reach in
     (run.steps, record { tables = reach.tables; new = reach.new; takes = run.takes })
 
 -- what was sent is among what was sent for its domain
@@ -422,8 +436,8 @@ in_own d p sent at =
 
 pub sent_frames_are_spelled : SentFramesAreSpelled
 sent_frames_are_spelled sites served events n d p reach agree at from =
-    let run = run_by_steps events (opened_wires sites reach.tables) n reach.numbers (none_given sites reach.tables) reach.takes in
-    let fits = run.typed (λ e q none. absurd (omega (arith, none.1))) d p at in
+    let run = run_of sites served events n reach in
+    let fits = run.typed d p at in
     let own =
     domains_are_networks sites served run.steps n.daemons d (record { tables = reach.tables; new = reach.new; takes = run.takes }) agree in
     let is = own.2 in

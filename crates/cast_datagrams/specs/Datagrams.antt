@@ -1,5 +1,6 @@
 -- Whole daemons whose wires carry bytes, and every datagram that a wire was ever given.
--- A datagram that no site reads is lost; sites may read one again, and in any order.
+-- A datagram that no site reads is lost; sites may read one again, and in any order. What a daemon
+-- gives its wire of the frames of its steps, when and how often, is its own choice.
 use Rattle.std.specs.Prelude.{◌≡◌, ◌⊎◌, ◌++◌, ℕ, true, List, [], ◌∷◌, Contains, Result, Ok}
 use Rattle.std.specs.List.{AllByRecursion}
 use Rattle.cast_types.specs.Names.{site_eq}
@@ -21,6 +22,7 @@ use Rattle.cast_link.specs.Packing.{IsPacked}
 use Rattle.cast_table.specs.declared.table.Table.{Table}
 use Rattle.cast_trust.specs.Laws.{Carries}
 use Rattle.cast_world.specs.Network.{is_local}
+use Rattle.cast_world.specs.declared.step.Packet.{Packet}
 use Rattle.cast_sites.specs.Daemons.{AreNew, DaemonNetwork, IsAnswered, move_daemon, opened}
 use Rattle.cast_datagrams.specs.Typed.{FitsSent, IsShort}
 
@@ -58,28 +60,32 @@ Comes n s e = (is_local e ≡ true) ⊎ IsReceived n.given s e
 
 -- What becomes of it
 
--- a wire is given datagrams with these frames of a site: one each, or bundles of at most so many
--- bytes
+-- datagrams with these frames of a site: one each, or bundles of at most so many bytes
 abbrev pub IsWired : SiteNo → List (DomainNo × SiteNo × SiteFrame) → List (SiteNo × List ℕ) → Type 0
 IsWired own frames datagrams =
     (datagrams ≡ datagrams_of own frames)
     ⊎ ((most : ℕ) × IsPacked most (datagrams_of own frames) datagrams)
 
--- it is given these, or none, where memory ran out before the first
-abbrev pub IsGiven : SiteNo → List (DomainNo × SiteNo × SiteFrame) → List (SiteNo × List ℕ) → Type 0
-IsGiven own frames datagrams = (datagrams ≡ []) ⊎ IsWired own frames datagrams
+-- frames that a site sent, in this event or before it
+abbrev pub WereSent : List (DomainNo × Packet) → SiteNo → List (DomainNo × SiteNo × SiteFrame) → Type 0
+WereSent sent own frames =
+    (f : DomainNo × SiteNo × SiteFrame) → Contains frames f
+    → Contains sent (f.0, record { from = own; to = f.1; frame = f.2 })
 
 -- the daemon of a site answers an event, which takes n to m: the frames that it sends are values of
--- their type, and its wire is given datagrams with them
+-- their type. Its wire is given datagrams with such frames as it has sent so far: it may hold some
+-- back, leave some out, and send some again, in any order and in other bundles
 pub record Answers (n : DatagramNetwork) (s : SiteNo) (e : Event) (m : DatagramNetwork)
     : Type 0 where
   pub answer : Result Taken Fault
   pub table : Table
   pub outs : Outs
+  pub wired : List (DomainNo × SiteNo × SiteFrame)
   pub datagrams : List (SiteNo × List ℕ)
   pub answered : IsAnswered answer e (n.daemons.at s) table outs
   pub typed : AllByRecursion FitsSent outs.frames
-  pub given : IsGiven s outs.frames datagrams
+  pub sent : WereSent (move_daemon n.daemons s table outs).sent s wired
+  pub given : IsWired s wired datagrams
   pub becomes : m
       ≡ record {
         daemons = move_daemon n.daemons s table outs;

@@ -13,7 +13,8 @@ pub fn spellings_of_types_differ()
 /// Each frame that a site reads of a datagram is a frame that was sent to it, of the same domain
 /// and from the same site. The datagram is any that the wire of some daemon was given for the site,
 /// whether it comes late, out of order or again, and whether the frame went alone or in a bundle. A
-/// datagram that is refused counts as lost.
+/// datagram that is refused counts as lost. Of the frames of its steps a daemon may hold some back,
+/// leave some out, and give some to its wire again, as often as it likes.
 ///
 /// So whole daemons whose wires carry bytes come to nothing but what steps of a network of frames
 /// lead to, and the laws of such networks hold of each of their domains.
