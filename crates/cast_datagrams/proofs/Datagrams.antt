@@ -1,12 +1,13 @@
 -- What a site reads of a datagram was sent to it, so runs over datagrams are runs of steps.
-use Rattle.std.proofs.Common.{◌≡◌, ℕ, zero, suc, true, List, [], ◌∷◌, ◌++◌, map, filter, Option, Some, None}
+use Rattle.std.proofs.Common.{◌≡◌, ◌≤◌, ℕ, zero, suc, Bool, true, List, [], ◌∷◌, ◌++◌, map, filter, Option, Some, None}
 use Rattle.std.proofs.Common.{Contains, refl, sym, ap, subst, ◌∙◌, inl, inr, arith}
-use Rattle.std.specs.Prelude.{◌⊎◌, if◌then◌else◌}
+use Rattle.std.specs.Prelude.{◌⊎◌, ◌||◌, false, if◌then◌else◌}
 use Rattle.std.specs.List.{AllByRecursion}
 use Rattle.std.proofs.lemmas.Bool.{cases_Bool, eq-eqb, false≢true}
 use Rattle.std.proofs.lemmas.List.Elements.{All-contains, All-from_recursion, Contains-append_cases}
 use Rattle.std.proofs.lemmas.List.Elements.{Contains-append_left, Contains-append_right}
 use Rattle.cast_types.specs.declared.names.DomainNo.{DomainNo}
+use Rattle.cast_types.specs.declared.names.GroupNo.{GroupNo}
 use Rattle.cast_types.specs.declared.names.Proc.{Proc}
 use Rattle.cast_types.specs.declared.names.SiteNo.{SiteNo}
 use Rattle.cast_types.specs.Names.{site_eq}
@@ -27,7 +28,7 @@ use Rattle.cast_link.specs.declared.bundle.Unpacked.{Unpacked}
 use Rattle.cast_link.specs.declared.bundle.Unpacked.TheVariants.{Alone, Bundle, Bad}
 use Rattle.cast_link.proofs.Bundles.{begins, bundles_are_unique, frames_stand_alone}
 use Rattle.cast_world.proofs.Allowed.{passed}
-use Rattle.cast_world.proofs.Homes.{among_kept}
+use Rattle.cast_world.proofs.Homes.{among_kept, among_site, site_among}
 use Rattle.cast_world.specs.Agreement.{delivered_of}
 use Rattle.cast_world.specs.Laws.{DeliversInOrder, OrdersAgree, SameMessages, SameOrder}
 use Rattle.cast_world.specs.Network.{Network, is_local, start}
@@ -42,16 +43,21 @@ use Rattle.cast_table.specs.declared.table.Table.{Table}
 use Rattle.cast_table.specs.Tables.{domain_eq}
 use Rattle.cast_trust.specs.Laws.{Carries}
 use Rattle.cast_world.proofs.NewsRuns.{tells_lead}
-use Rattle.cast_sites.specs.Laws.{AreToldLawfully, HoldsOfDomains, pushed_in, sites_of}
+use Rattle.cast_sites.specs.Laws.{AreToldLawfully, HasConfig, HoldsOfDomains, pushed_in, sites_of}
+use Rattle.cast_table.proofs.Parts.{same_domain}
+use Rattle.cast_table.specs.Owns.{is_configured}
 use Rattle.cast_sites.proofs.Domains.{domains_agree, domains_are_networks, domains_are_told, domains_deliver_causally}
 use Rattle.cast_datagrams.specs.Datagrams.{Answers, Comes, DatagramNetwork, DatagramsReach, IsReceived, IsWired, TakesEvents, WereSent}
 use Rattle.cast_datagrams.specs.Datagrams.{opened_wires}
 use Rattle.cast_events.specs.declared.config.DomainConfig.{DomainConfig}
 use Rattle.cast_datagrams.specs.Laws.{DatagramsAgree, DatagramsAreFrames, DatagramsAreTold, DatagramsDeliverCausally, HoldsOverDatagrams}
 use Rattle.cast_datagrams.specs.Laws.{ReceivedFramesWereSent, SentFramesAreSpelled, SpelledFramesAreReceived}
+use Rattle.cast_datagrams.specs.Laws.{WiredFramesAreReceived}
 use Rattle.cast_datagrams.specs.Typed.{FitsSent, FitsType, IsByte, IsShort}
 use Rattle.cast_datagrams.proofs.Apart.{spellings_of_types_differ}
 use Rattle.cast_datagrams.proofs.Few.{few_in_every}
+use Rattle.cast_datagrams.proofs.FromOne.{Each}
+use Rattle.cast_datagrams.proofs.FromOneRuns.{sent_from_one}
 use Rattle.cast_datagrams.proofs.Lists.{came_of, goes_to, got_at, stays}
 use Rattle.cast_datagrams.proofs.Ranges.{frame_fits, name_fits}
 use Rattle.cast_datagrams.proofs.Spelled.{is_spelled}
@@ -434,8 +440,32 @@ in_own d p sent at =
     goes_to (λ (x : DomainNo × Packet). x.1) (filter (λ x. domain_eq x.0 d) sent) (d, p)
     (stays (λ (x : DomainNo × Packet). domain_eq x.0 d) sent (d, p) at (eq-eqb d.0 d.0 refl))
 
+-- a site that serves a domain has a configuration of it
+configured_is : (cs : List DomainConfig) (d : DomainNo) → is_configured d cs ≡ true → (c : DomainConfig) × Contains cs c × (c.domain ≡ d)
+configured_is [] d e = absurd (false≢true e)
+configured_is (x ∷ cs) d e = go (domain_eq x.domain d) refl e (configured_is cs d)
+  where
+    go : (b : Bool) → domain_eq x.domain d ≡ b → (b || is_configured d cs) ≡ true →
+        (is_configured d cs ≡ true → (c : DomainConfig) × Contains cs c × (c.domain ≡ d)) →
+        (c : DomainConfig) × Contains (x ∷ cs) c × (c.domain ≡ d)
+    go true same e more = (x, (0, omega arith, refl), same_domain x.domain d same)
+    go false other e more = let r = more e in (r.0, (suc r.1.0, omega (arith, r.1.1), r.1.2), r.2)
+
+served_at : (sites : List SiteNo) (served : SiteNo → List DomainConfig) (d : DomainNo) (s : SiteNo) →
+    is_among site_eq s (sites_of d served sites) ≡ true → (c : DomainConfig) × HasConfig sites served d s c
+served_at sites served d s among =
+    let at = site_among (sites_of d served sites) s among in
+    let found = configured_is (served s) d (passed (λ (t : SiteNo). is_configured d (served t)) sites s at) in (
+      found.0,
+      record {
+        among = among_site sites s (among_kept (λ (t : SiteNo). is_configured d (served t)) sites s at);
+        listed = found.1;
+        number = found.2;
+      },
+    )
+
 pub sent_frames_are_spelled : SentFramesAreSpelled
-sent_frames_are_spelled sites served events n d p reach agree at from =
+sent_frames_are_spelled sites served events n d p reach agree numbers at =
     let run = run_of sites served events n reach in
     let fits = run.typed d p at in
     let own =
@@ -443,8 +473,27 @@ sent_frames_are_spelled sites served events n d p reach agree at from =
     let is = own.2 in
     let leads = tells_lead own.0 (start (sites_of d served sites) is.config) own.1 (pushed_in d n.daemons) is.reaches.tells in
     let among : Contains own.1.sent p = subst (λ (l : List Packet). Contains l p) (sym is.sent) (in_own d p n.daemons.sent at) in
+    let sent = sent_from_one (sites_of d served sites) is.config own.0 own.1 leads
+    (λ a there.
+    let c = served_at sites served d a there in
+    let one = numbers a c.0 c.1.among c.1.listed in (
+      one.0,
+      subst (λ (b : DomainConfig). Each (λ (g : GroupNo). 1 ≤ g.0) b.groups) (sym (is.configs a c.0 c.1))
+          (λ g in_it. All-contains (λ (h : GroupNo). 1 ≤ h.0) c.0.groups g
+          (All-from_recursion (λ (h : GroupNo). 1 ≤ h.0) c.0.groups one.2) in_it),
+    )) p among in
+    let home = served_at sites served d p.from sent.0 in
+    let one = numbers p.from home.0 home.1.among home.1.listed in
     is_spelled d p.from p.frame fits.domain fits.from fits.frame
-    (few_in_every (sites_of d served sites) is.config own.0 own.1 leads p among) from
+    (few_in_every (sites_of d served sites) is.config own.0 own.1 leads p among)
+    (subst (λ (e : DomainNo). 1 ≤ e.0) home.1.number one.1) one.0 sent.1
+
+pub wired_frames_are_received : WiredFramesAreReceived
+wired_frames_are_received sites served events n m s e answers f reach agree numbers at =
+    let packet : Packet = record { from = s; to = f.1; frame = f.2 } in
+    spelled_frames_are_received s answers.wired answers.datagrams f answers.given at
+    (sent_frames_are_spelled sites served events m f.0 packet reach agree numbers
+    (subst (λ (v : DatagramNetwork). Contains v.daemons.sent (f.0, packet)) (sym answers.becomes) (answers.sent f at)))
 
 over_datagrams : (law : Network → (Proc → List Push) → Type 0) → HoldsOfDomains law → HoldsOverDatagrams law
 over_datagrams law every sites served events n d reach agree =

@@ -13,11 +13,12 @@ use Rattle.cast_events.specs.declared.event.Taken.{Taken}
 use Rattle.cast_rules.specs.History.{history}
 use Rattle.cast_rules.specs.Reports.{whole_order}
 use Rattle.cast_rules.specs.Rules.Asking.{is_home}
+use Rattle.cast_rules.specs.Rules.Keys.{id_in}
 use Rattle.cast_rules.specs.Run.{IsStep, after_event, before_event}
 use Rattle.cast_rules.specs.State.{State, emit}
 use Rattle.cast_world.proofs.ClosingDecides.{tail_few}
-use Rattle.cast_world.proofs.Events.{Any, any_came, any_happens, event_keeps_fully, rests_keeps_fully, sets_any}
-use Rattle.cast_world.proofs.Kept.{Adds, FullyKept, FullyKeptByTelling}
+use Rattle.cast_world.proofs.Events.{any_came, any_happens, event_keeps_fully, rests_keeps_fully, sets_any}
+use Rattle.cast_world.proofs.Kept.{Adds, Any, FullyKept, FullyKeptByTelling}
 use Rattle.cast_world.specs.Network.{Becomes, Happens, Leads, Network, event_of, start}
 use Rattle.cast_world.specs.declared.step.Packet.{Packet}
 use Rattle.cast_world.specs.declared.step.Step.{Step}
@@ -45,18 +46,18 @@ module _ (s : State) where
   abbrev FewFrom : State → Type 0
   FewFrom t = (t.here ≡ s.here) × (t.config ≡ s.config) × SendsFew t
 
-  few_telling : FullyKeptByTelling FewFrom
+  few_telling : FullyKeptByTelling Any FewFrom
   few_telling = record {
-    emits = λ t to f x says adds. (x.0, x.1, sends_one_more t to f x.2 (says_few t f adds));
+    emits = λ t to f x says adds draws. (x.0, x.1, sends_one_more t to f x.2 (says_few t f adds));
     books = λ t moment casts x. x;
     pushes = λ t k p x agrees. x;
-    owes = λ t key due x owes wants lacks. x;
+    owes = λ t key due x owes wants lacks awaited. x;
     renews = λ t key due x owes owed. x;
     pays = λ t test x. x;
     releases = λ t lets x. x;
     sets_session = λ t k v x same. x;
     parts = λ t k g x. x;
-    requests = λ t g what p x. x;
+    requests = λ t g what p x inside. x;
   }
 
   kept_few : FullyKept FewFrom (λ g. FewFrom) (λ u. FewFrom) Any (is_home history s) true
@@ -64,7 +65,11 @@ module _ (s : State) where
     telling = few_telling;
     between = λ g. few_telling;
     during = λ u. few_telling;
-    truly = inr ((λ t to u x. (x.0, x.1, sends_one_more t to (frame.Ack u) x.2 tt)), λ t key due x owed. x);
+    truly = inr ((λ t key x owed is known. (
+      x.0,
+      x.1,
+      sends_one_more t key.site (frame.Ack (id_in (t.group key.group).number key)) x.2 tt,
+    )), λ t key due x owed. x);
     fixed = λ t x. λ i. site_eq (x.0 i) (x.1 i).home;
     opens = λ t x. x;
     answers = λ t g x. x;

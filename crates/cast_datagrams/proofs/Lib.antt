@@ -2,6 +2,9 @@ pub mod Lists
 pub mod Apart
 pub mod Ranges
 pub mod Few
+pub mod FromOne
+pub mod FromOneMoves
+pub mod FromOneRuns
 pub mod Spelled
 pub mod Datagrams
 pub mod Seals

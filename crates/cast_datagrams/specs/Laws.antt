@@ -1,6 +1,8 @@
 -- What is proved of daemons whose wires carry bytes.
-use Rattle.std.specs.Prelude.{◌≡◌, ℕ, List, Contains, Some}
+use Rattle.std.specs.Prelude.{◌≡◌, ◌≤◌, ℕ, List, Contains, Some, true}
 use Rattle.std.specs.List.{AllByRecursion}
+use Rattle.cast_types.specs.Names.{site_eq}
+use Rattle.cast_types.specs.Sets.{is_among}
 use Rattle.cast_types.specs.declared.names.DomainNo.{DomainNo}
 use Rattle.cast_types.specs.declared.names.Proc.{Proc}
 use Rattle.cast_types.specs.declared.names.SiteNo.{SiteNo}
@@ -24,8 +26,7 @@ use Rattle.cast_world.specs.declared.step.Step.{Step}
 use Rattle.cast_sites.specs.Daemons.{DaemonNetwork, DaemonsReach, event_coming, in_domain}
 use Rattle.cast_sites.specs.Laws.{AgreeOnHomeOf, AreToldLawfully, IsNetworkOf, pushed_in}
 use Rattle.cast_datagrams.specs.Datagrams.{DatagramNetwork, DatagramsReach}
-use Rattle.cast_datagrams.specs.Datagrams.{IsReceived, IsWired}
-use Rattle.cast_datagrams.specs.Numbers.{HasNumbersFromOne}
+use Rattle.cast_datagrams.specs.Datagrams.{Answers, IsReceived, IsWired}
 use Rattle.cast_datagrams.specs.Typed.{FitsType, IsByte, IsShort}
 
 -- frames that differ are spelled differently, if they are values of their types
@@ -86,14 +87,31 @@ SpelledFramesAreReceived =
     IsWired own frames datagrams → Contains frames f → IsSpelled f.0 own f.2 →
     IsReceived datagrams f.1 (event.Frame f.0 own f.2)
 
--- each frame that was sent has a spelling, if its numbers that count from 1 do
+-- the numbers of these sites, of the domains that they serve, and of the groups of those count from
+-- 1, as in each configuration that is read
+abbrev pub AreNumberedFromOne : List SiteNo → (SiteNo → List DomainConfig) → Type 0
+AreNumberedFromOne sites served =
+    (s : SiteNo) (c : DomainConfig) → is_among site_eq s sites ≡ true → Contains (served s) c →
+    (1 ≤ s.0) × (1 ≤ c.domain.0) × AllByRecursion (λ g. 1 ≤ g.0) c.groups
+
+-- then each frame that was sent has a spelling
 abbrev pub SentFramesAreSpelled : Type 0
 SentFramesAreSpelled =
     (sites : List SiteNo) (served : SiteNo → List DomainConfig) (events : List (SiteNo × Event))
     (n : DatagramNetwork) (d : DomainNo) (p : Packet) →
     DatagramsReach sites served events n → AgreeOnHomeOf sites served d →
-    Contains n.daemons.sent (d, p) → HasNumbersFromOne d p.from p.frame →
+    AreNumberedFromOne sites served → Contains n.daemons.sent (d, p) →
     IsSpelled d p.from p.frame
+
+-- so of what a wire is given when a daemon answers an event, each site reads the frames for it
+abbrev pub WiredFramesAreReceived : Type 0
+WiredFramesAreReceived =
+    (sites : List SiteNo) (served : SiteNo → List DomainConfig) (events : List (SiteNo × Event))
+    (n m : DatagramNetwork) (s : SiteNo) (e : Event) (answers : Answers n s e m)
+    (f : DomainNo × SiteNo × SiteFrame) →
+    DatagramsReach sites served events m → AgreeOnHomeOf sites served f.0 →
+    AreNumberedFromOne sites served → Contains answers.wired f →
+    IsReceived answers.datagrams f.1 (event.Frame f.0 s f.2)
 
 -- Seals
 

@@ -2,7 +2,7 @@ ghost use Rattle.cast_datagrams.specs.Laws.{DatagramsAgree, DatagramsAreFrames, 
 ghost use Rattle.cast_datagrams.specs.Laws.{DatagramsDeliverCausally, ReceivedFramesWereSent};
 ghost use Rattle.cast_datagrams.specs.Laws.{SendersSealWhatIsSpelled, SentFramesAreSpelled};
 ghost use Rattle.cast_datagrams.specs.Laws.{SpelledFramesAreReceived};
-ghost use Rattle.cast_datagrams.specs.Laws.{SpellingsOfTypesDiffer};
+ghost use Rattle.cast_datagrams.specs.Laws.{SpellingsOfTypesDiffer, WiredFramesAreReceived};
 
 /// Two frames that are values of their types and have one spelling are one frame, of one domain and
 /// from one site. Nothing else is asked of their numbers.
@@ -19,9 +19,10 @@ pub fn spellings_of_types_differ()
 /// So whole daemons whose wires carry bytes come to nothing but what steps of a network of frames
 /// lead to, and the laws of such networks hold of each of their domains.
 ///
-/// Of what a wire is given for a frame that has a spelling, the site reads that frame. A frame that
-/// was sent has one if its numbers that count from 1 are not 0: all else that a spelling asks of it
-/// holds of every frame that was sent.
+/// Of what a wire is given for a frame that has a spelling, the site reads that frame. Each frame
+/// that was sent has one, where the numbers of sites, domains and groups count from 1 in the
+/// configurations. So what a wire is given for frames is read, each by its site: nothing that such
+/// a daemon sends is refused as bad.
 pub fn datagrams_are_frames()
     ensures sent { ReceivedFramesWereSent }
     ensures networks { DatagramsAreFrames }
@@ -30,6 +31,7 @@ pub fn datagrams_are_frames()
     ensures told { DatagramsAreTold }
     ensures received { SpelledFramesAreReceived }
     ensures spelled { SentFramesAreSpelled }
+    ensures wired { WiredFramesAreReceived }
 {}
 
 /// Where the keys of two sites seal nothing but frames that the one sent to the other, each network

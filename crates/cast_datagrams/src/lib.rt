@@ -11,8 +11,9 @@
 //!   to (`networks`), so that the laws hold of each domain: its deliveries are causal (`causal`),
 //!   its views agree (`agree`), and its programs are told so (`told`).
 //! - Of what a wire is given for a frame that has a spelling, the site reads that frame
-//!   (`received`). Each frame that was sent has a spelling, if those of its numbers that count from
-//!   1 are not 0 (`spelled`). No law says that they are not.
+//!   (`received`). Each frame that was sent has a spelling, where the numbers of sites, domains and
+//!   groups count from 1 in the configurations (`spelled`). So nothing that such a daemon sends is
+//!   refused as bad: of what its wire is given, each site reads what was sent to it (`wired`).
 //! - Where the keys of two sites seal nothing but frames that the one sent to the other,
 //!   `cast_trust` needs no other premise on the network of any domain:
 //!   `laws::senders_seal_what_is_spelled`.

@@ -35,9 +35,9 @@ use Rattle.cast_types.specs.declared.names.Standing.TheVariants.{Joining, Member
 use Rattle.cast_types.specs.declared.refusal.Refusal.{Refusal}
 use Rattle.cast_types.specs.declared.refusal.Refusal.TheVariants.{Slow}
 use Rattle.cast_view.specs.MemberSide.{is_taken_in}
-use Rattle.cast_world.proofs.Events.{Any, any_came, any_happens, event_keeps_wholly, rests_keeps_wholly, sets_any}
+use Rattle.cast_world.proofs.Events.{any_came, any_happens, event_keeps_wholly, rests_keeps_wholly, sets_any}
 use Rattle.cast_world.proofs.Keeps.{keeps_fold, keeps_if}
-use Rattle.cast_world.proofs.Kept.{KeptByOwing, WhollyKept}
+use Rattle.cast_world.proofs.Kept.{Any, KeptByOwing, WhollyKept}
 use Rattle.cast_world.proofs.News.{IsShut, entries_more, shut_of}
 use Rattle.cast_world.proofs.NewsRuns.{EachNews, each_news, one_step}
 use Rattle.cast_world.proofs.Steps.{same_site}
@@ -116,16 +116,16 @@ module _ (s : State) (k : ℕ) where
       acts true member = set_else t.acts j (t.acts j ++ Left g ∷ []) (by_member t j g x member)
       acts false other = refl
 
-  owing_over : KeptByOwing Over
+  owing_over : KeptByOwing Any Over
   owing_over = record {
-    emits = λ t to f x says adds. x;
+    emits = λ t to f x says adds draws. x;
     books = λ t moment casts x. x;
-    owes = λ t key due x owes wants lacks. x;
+    owes = λ t key due x owes wants lacks awaited. x;
     renews = λ t key due x owes owed. x;
     pays = λ t test x. x;
     releases = λ t passes x. x;
     parts = λ t j g x. parted_over t j g x;
-    requests = λ t g what p x. x;
+    requests = λ t g what p x inside. x;
   }
 
   push_over : (t : State) (j : ℕ) (v : Session) (p : Push) → Over t → (j == k) ≡ false → Over (with_push t j v p)
@@ -246,7 +246,7 @@ module _ (s : State) (k : ℕ) where
   kept_over = record {
     owing = owing_over;
     during = λ u. owing_over;
-    truly = inr ((λ t to u x. x), λ t key due x owed. x);
+    truly = inr ((λ t key x owed is known. x), λ t key due x owed. x);
     fixed = λ t x. λ i. site_eq (x.0 i) (x.1 i).home;
     opens = λ t x.
         push_over (record t { used = t.used + 1 }) (t.used + 1) (first_session (local t (t.used + 1))) (push.Opened (local t (t.used + 1)))

@@ -54,9 +54,9 @@ use Rattle.cast_types.specs.declared.names.Uid.{Uid}
 use Rattle.cast_view.specs.MemberSide.{MemberSide, frozen_side, is_pending, with_answer, with_pending, with_request, with_view}
 use Rattle.cast_view.specs.declared.member.Pending.{Pending}
 use Rattle.cast_world.proofs.Allowed.{contains_more, passed}
-use Rattle.cast_world.proofs.Events.{Any, SetsWell, any_came, any_happens, event_keeps_fully, rests_keeps_fully}
+use Rattle.cast_world.proofs.Events.{SetsWell, any_came, any_happens, event_keeps_fully, rests_keeps_fully}
 use Rattle.cast_world.proofs.Homes.{among_kept, item_was}
-use Rattle.cast_world.proofs.Kept.{Comes, FullyKept, FullyKeptByTelling, IsOwed, MayReceive, Wants}
+use Rattle.cast_world.proofs.Kept.{Any, Comes, FullyKept, FullyKeptByTelling, IsOwed, MayReceive, Wants}
 use Rattle.cast_world.proofs.Kept.{WantsAt, WantsOf, completes, ends, fits, installs, skips, wanted}
 use Rattle.cast_world.proofs.Laters.{set_group_all}
 use Rattle.cast_world.proofs.Local.{cases_group}
@@ -281,18 +281,18 @@ module _ (most : ℕ) (home_here : Bool) where
     homes = x.homes;
   }
 
-  telling : (o : Option GroupNo) → FullyKeptByTelling (At o)
+  telling : (o : Option GroupNo) → FullyKeptByTelling Any (At o)
   telling o = record {
-    emits = λ s to f x says adds. x;
+    emits = λ s to f x says adds draws. x;
     books = λ s moment casts x. x;
     pushes = λ s k p x agrees. x;
-    owes = λ s key due x owes wants lacks. owed_bounded o s key due s.owed (λ y at. at) x (inr wants);
+    owes = λ s key due x owes wants lacks awaited. owed_bounded o s key due s.owed (λ y at. at) x (inr wants);
     renews = λ s key due x owes owed. renewed_bounded o s key due x owed;
     pays = λ s test x. paid_bounded o s test x;
     releases = λ s lets x. released_bounded o s lets x;
     sets_session = λ s k v x same. x;
     parts = λ s k g x. x;
-    requests = λ s g what p x. group_bounded o s g (with_request (s.group g) what p) refl (λ u e. e) x;
+    requests = λ s g what p x inside. group_bounded o s g (with_request (s.group g) what p) refl (λ u e. e) x;
   }
 
   -- Messages
@@ -443,7 +443,7 @@ module _ (most : ℕ) (home_here : Bool) where
     telling = telling None;
     between = λ g. telling (Some g);
     during = λ u. telling None;
-    truly = inr ((λ s to u x. x), λ s key due x owed. renewed_bounded None s key due x owed);
+    truly = inr ((λ s key x owed is known. x), λ s key due x owed. renewed_bounded None s key due x owed);
     fixed = λ s x. x.homes;
     opens = λ s x. x;
     answers = λ s g x. group_bounded None s g (with_answer (s.group g)) refl (λ u e. e) x;

@@ -48,11 +48,11 @@ use Rattle.cast_types.specs.declared.refusal.Refusal.TheVariants.{Flushing, Held
 use Rattle.cast_world.proofs.Acts.{contains_here}
 use Rattle.cast_world.proofs.Cuts.{fact}
 use Rattle.cast_world.proofs.Deliveries.{step_delivers}
-use Rattle.cast_world.proofs.Events.{Any, MayHappen, any_came, event_keeps_fully, rests_keeps_fully, sets_any}
+use Rattle.cast_world.proofs.Events.{MayHappen, any_came, event_keeps_fully, rests_keeps_fully, sets_any}
 use Rattle.cast_world.proofs.Facts.{ActWell, Each}
 use Rattle.cast_world.proofs.Handlers.{send_data_keeps}
 use Rattle.cast_world.proofs.Keeps.{keeps_fold}
-use Rattle.cast_world.proofs.Kept.{FullyKept, FullyKeptByTelling}
+use Rattle.cast_world.proofs.Kept.{Any, FullyKept, FullyKeptByTelling}
 use Rattle.cast_world.proofs.Lists.{contains_split, head_or, never_nil, tail_of}
 use Rattle.cast_world.proofs.Runs.{facts, leads_holds, nothing, some_is, start_holds, step_holds}
 use Rattle.cast_world.proofs.Steps.{AllHold, same_site}
@@ -238,18 +238,18 @@ module _ (s : State) (base : ℕ → List Message) where
   is_true true not = refl
   is_true false not = absurd (false≢true (not refl))
 
-  quiet_telling : FullyKeptByTelling Quiet
+  quiet_telling : FullyKeptByTelling Any Quiet
   quiet_telling = record {
-    emits = λ t to f q says adds. q;
+    emits = λ t to f q says adds draws. q;
     books = λ t moment casts q. q;
     pushes = λ t k p q agrees. q;
-    owes = λ t key due q owes wants lacks. q;
+    owes = λ t key due q owes wants lacks awaited. q;
     renews = λ t key due q owes owed. q;
     pays = λ t test q. q;
     releases = λ t lets q. q;
     sets_session = λ t k v q same. q;
     parts = λ t k g q. parts_quietly t k g q;
-    requests = λ t g what p q. q;
+    requests = λ t g what p q inside. q;
   }
 
   kept_quiet : FullyKept Quiet (λ g. Quiet) (λ u. Quiet) Any (is_home history s) false
@@ -257,7 +257,7 @@ module _ (s : State) (base : ℕ → List Message) where
     telling = quiet_telling;
     between = λ g. quiet_telling;
     during = λ u. quiet_telling;
-    truly = inr ((λ t to u q. q), λ t key due q owed. q);
+    truly = inr ((λ t key q owed is known. q), λ t key due q owed. q);
     fixed = λ t q. λ i. site_eq (q.0 i) (q.1 i).home;
     opens = λ t q. q;
     answers = λ t g q. q;

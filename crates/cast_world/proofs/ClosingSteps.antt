@@ -49,7 +49,7 @@ use Rattle.cast_world.proofs.Firsts.{firsts}
 use Rattle.cast_world.proofs.Flush.{numbers}
 use Rattle.cast_world.proofs.FlushLaters.{Extends}
 use Rattle.cast_world.proofs.Invariants.{Sites}
-use Rattle.cast_world.proofs.Kept.{Adds, MaySend, Says, FullyKept, FullyKeptByTelling, casts, hands, lists}
+use Rattle.cast_world.proofs.Kept.{Adds, Draws, FullyKept, FullyKeptByTelling, MaySend, Says, casts, draws_less, hands, lists}
 use Rattle.cast_world.proofs.Laters.{later_same, set_all, set_group_all}
 use Rattle.cast_world.proofs.Listings.{done_apart, done_here, parts_of_id}
 use Rattle.cast_world.proofs.Lists.{each_more}
@@ -99,16 +99,17 @@ module _ (home : SiteNo) (w : Network) (a : SiteNo) where
 
   -- what telling programs is made of
   module _ (skip : OwedKey → Bool) where
-    abbrev n : FullyKeptByTelling (WindowNow home w a skip)
+    abbrev n : FullyKeptByTelling (Arrived home w a) (WindowNow home w a skip)
     n = window_telling home w a skip
 
     -- a frame that is sent says what is so
-    module _ (t : State) (to : SiteNo) (f : SiteFrame) (i : ClosingNow home w a skip t) (says : Says t to f) (adds : Adds t f) where
+    module _ (t : State) (to : SiteNo) (f : SiteFrame) (i : ClosingNow home w a skip t) (says : Says t to f) (adds : Adds t f)
+        (draws : Draws (Arrived home w a) (WindowNow home w a skip) t f) where
       abbrev now : State
       now = emit t to f
 
       abbrev next : WindowNow home w a skip now
-      next = n.emits t to f i.0 says adds
+      next = n.emits t to f i.0 says adds draws
 
       abbrev from : Extends i.0.0.1 (number t) next.0.1 (number now)
       from = ((flush home w a t i.0.0).telling.emits t to f (begin home w a t i.0.0) says).3
@@ -190,11 +191,13 @@ module _ (home : SiteNo) (w : Network) (a : SiteNo) where
         ((flush home w a t i.0.0).telling.books t quotas moment t.acks t.told t.owed count t.pushes (begin home w a t i.0.0)).3 refl refl
         refl refl refl (λ k g e. e) (still t u (λ g. omega arith)) (λ x. x)
 
-    pub closing_telling : FullyKeptByTelling (ClosingNow home w a skip)
+    pub closing_telling : FullyKeptByTelling (Arrived home w a) (ClosingNow home w a skip)
     closing_telling = record {
-      emits = λ t to f i says adds.
+      emits = λ t to f i says adds draws.
           let u : State = emit t to f in
-          let j : WindowNow home w a skip u = n.emits t to f i.0 says adds in
+          let less : Draws (Arrived home w a) (WindowNow home w a skip) t f =
+          draws_less (Arrived home w a) (ClosingNow home w a skip) (WindowNow home w a skip) (λ v x. x.0) t f draws in
+          let j : WindowNow home w a skip u = n.emits t to f i.0 says adds less in
           closing_quiet home w a skip skip t u (later_same t)
           i j ((flush home w a t i.0.0).telling.emits t to f (begin home w a t i.0.0) says).3 refl refl refl refl refl (λ k g e. e)
           (still t u (λ g. omega arith))
@@ -208,7 +211,7 @@ module _ (home : SiteNo) (w : Network) (a : SiteNo) where
               | inl old ↦ x.sent to_it f_it old
               | inr same ↦
                   subst (λ (p : SiteNo × SiteFrame). IsClosing j.0.1 (at u) j.0.3 j.0.4 j.1 i.1 a p.1)
-                  same (new_frame t to f i says adds x f says adds)
+                  same (new_frame t to f i says adds less x f says adds)
             ];
           });
       books = λ t moment count i. books_closing t t.quotas moment count i;
@@ -217,9 +220,9 @@ module _ (home : SiteNo) (w : Network) (a : SiteNo) where
           closing_quiet home w a skip skip t u (later_same t) i (n.pushes t k p i.0 agrees)
           ((flush home w a t i.0.0).telling.books t t.quotas t.moment t.acks t.told t.owed t.casts (t.pushes ++ (k, p) ∷ [])
           (begin home w a t i.0.0)).3 refl refl refl refl refl (λ k_it g e. e) (still t u (λ g. omega arith)) (λ x. x);
-      owes = λ t key due i owes wants lacks.
+      owes = λ t key due i owes wants lacks awaited.
           let u : State = record t { owed = with_owed t.owed key due } in
-          closing_quiet home w a skip skip t u (later_same t) i (n.owes t key due i.0 owes wants lacks)
+          closing_quiet home w a skip skip t u (later_same t) i (n.owes t key due i.0 owes wants lacks awaited)
           ((flush home w a t i.0.0).telling.books t t.quotas t.moment t.acks t.told (with_owed t.owed key due)
           t.casts t.pushes (begin home w a t i.0.0)).3 refl refl refl refl refl (λ k g e. e) (still t u (λ g. omega arith)) (λ x. x);
       renews = λ t key due i owes owed.
@@ -256,7 +259,7 @@ module _ (home : SiteNo) (w : Network) (a : SiteNo) where
             decision = x.decision;
             sent = x.sent;
           });
-      requests = λ t g what p i. group_closing t g (with_request (t.group g) what p) (omega arith) i (n.requests t g what p i.0)
+      requests = λ t g what p i inside. group_closing t g (with_request (t.group g) what p) (omega arith) i (n.requests t g what p i.0 inside)
           ((flush home w a t i.0.0).telling.requests t g what p (begin home w a t i.0.0)).3 refl refl refl refl (λ e. e) refl;
     }
 
@@ -406,11 +409,11 @@ module _ (home : SiteNo) (w : Network) (a : SiteNo) where
           | inr same ↦ inl (same, refl)
         ])
         (λ h v s. s) (no_notes t) sent_calm (still t sent_now (λ h. omega arith)) (sent_here j)
-    sends_closing member (hands place to held open_it settled is) =
+    sends_closing member (hands place to held open_it settled is named_it) =
         let j : WindowNow home w a no_key sent_now =
-        sends_window home w a t g k content i.0 member (hands place to held open_it settled is) in
+        sends_window home w a t g k content i.0 member (hands place to held open_it settled is named_it) in
         closing_keep home w a no_key no_key t sent_now (later_sent t k m)
-        i j ((flush home w a t i.0.0).sends t g k content (begin home w a t i.0.0) member (hands place to held open_it settled is)).3
+        i j ((flush home w a t i.0.0).sends t g k content (begin home w a t i.0.0) member (hands place to held open_it settled is named_it)).3
         (widened_up home w a t g k content i.0.0 member place to held open_it settled is i.0.1 i.0.2)
         (λ h v. ([], append-nil (i.0.0.3 h v)))
         (λ h v. elim (hand_cases home w a t i.0.0.0 i.0.0.1 i.0.0.2 i.0.0.3 i.0.0.4 i.0.0.5 g k content place to member held open_it

@@ -24,8 +24,8 @@ use Rattle.cast_types.specs.declared.names.Proc.{Proc}
 use Rattle.cast_types.specs.declared.names.SiteNo.{SiteNo}
 use Rattle.cast_types.specs.declared.names.Standing.TheVariants.{Joining}
 use Rattle.cast_types.specs.declared.names.Uid.{Uid}
-use Rattle.cast_world.proofs.Events.{Any, after_event_keeps, any_came, rests_keeps}
-use Rattle.cast_world.proofs.Kept.{Kept}
+use Rattle.cast_world.proofs.Events.{after_event_keeps, any_came, rests_keeps}
+use Rattle.cast_world.proofs.Kept.{Any, Kept}
 use Rattle.cast_world.proofs.Laters.{set_all}
 
 -- of these deliveries those of a process

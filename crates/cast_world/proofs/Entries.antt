@@ -23,7 +23,9 @@ use Rattle.cast_types.specs.declared.names.GroupNo.{GroupNo}
 use Rattle.cast_view.specs.MemberSide.{is_taken_in}
 use Rattle.cast_world.proofs.Acts.{contains_here, sent_delivered, sent_entered, sent_left}
 use Rattle.cast_world.proofs.Allowed.{contains_more, passed}
-use Rattle.cast_world.proofs.Kept.{FullyKeptByTelling}
+use Rattle.cast_types.specs.declared.names.SiteNo.{SiteNo}
+use Rattle.cast_message.specs.declared.site.SiteFrame.{SiteFrame}
+use Rattle.cast_world.proofs.Kept.{Any, FullyKeptByTelling}
 use Rattle.cast_world.proofs.Laters.{set_all}
 use Rattle.cast_world.proofs.Moves.{member_is}
 use Rattle.cast_world.proofs.Telling.{tell_keeps}
@@ -89,18 +91,18 @@ passing_goes_on s g skipped n members request cut k =
     two true goes = more (s.acts k) ((putting_out s g skipped members).acts k) (Entered g n cut) goes
     two false goes = goes
 
-pub goes_on_telling : (s : State) → FullyKeptByTelling (GoesOn s)
+pub goes_on_telling : (s : State) → FullyKeptByTelling Any (GoesOn s)
 goes_on_telling s = record {
-  emits = λ t to f i says adds. i;
+  emits = λ t to f i says adds draws. i;
   books = λ t moment casts i. i;
   pushes = λ t k p i agrees. i;
-  owes = λ t key due i owes wants lacks. i;
+  owes = λ t key due i owes wants lacks awaited. i;
   renews = λ t key due i owes owed. i;
   pays = λ t test i. i;
   releases = λ t passes i. i;
   sets_session = λ t k v i same. i;
   parts = λ t k g i. part_goes_on s t k g i;
-  requests = λ t g what p i. i;
+  requests = λ t g what p i inside. i;
 }
 
 -- Several programs are told the same
@@ -120,7 +122,7 @@ module _ (p : Push) where
       agrees_later (s.acts j) ((tell history s k p).acts j) (told_goes_on s k (agree k (contains_here [] who k)) j)
       p (agree j (contains_more k who j at))
 
-  module _ (I : State → Type 0) (t : FullyKeptByTelling I) where
+  module _ (I : State → Type 0) {Came : SiteNo → SiteFrame → Type 0} (t : FullyKeptByTelling Came I) where
     pub tell_all_keeps : (who : List ℕ) (s : State) → I s → AllAgree p who s → I (told_all p who s)
     tell_all_keeps [] s i agree = i
     tell_all_keeps (k ∷ who) s i agree =

@@ -50,7 +50,7 @@ use Rattle.cast_world.proofs.Handlers.{MayCommand, on_command_keeps, on_site_fra
 use Rattle.cast_world.proofs.Handlers.{sending_keeps, suspect_keeps}
 use Rattle.cast_world.proofs.Keeps.{found_is, keeps_fold, keeps_if, keeps_iterate, keeps_option}
 use Rattle.cast_world.proofs.Homes.{among_kept}
-use Rattle.cast_world.proofs.Kept.{AcksFreely, Kept, KeptByOwing, OwedTrue, Wants, FullyKept, WhollyKept, completes, lists, kept_fully}
+use Rattle.cast_world.proofs.Kept.{AcksFreely, Any, Kept, KeptByOwing, OwedTrue, Wants, FullyKept, WhollyKept, completes, lists, kept_fully}
 use Rattle.cast_world.proofs.Telling.{owe_keeps, tick_keeps}
 use Rattle.cast_world.proofs.Tokens.{holds_still}
 use Rattle.cast_world.proofs.Wholes.{kept_wholly}
@@ -69,10 +69,6 @@ HasCome Came (event.Suspect d site) = Unit {0}
 HasCome Came (event.Quota d name value) = Unit {0}
 HasCome Came (event.Take d n most) = Unit {0}
 HasCome Came (event.Tick t) = Unit {0}
-
--- whatever frames come
-abbrev pub Any : SiteNo → SiteFrame → Type 0
-Any from f = Unit {0}
 
 pub any_came : (e : Event) → HasCome Any e
 any_came (event.Open d) = tt
@@ -172,7 +168,7 @@ is_false false e = refl
 
 module _ (I : State → Type 0) (During : Uid → State → Type 0) (Came : SiteNo → SiteFrame → Type 0) (home_here casting : Bool)
     (k : WhollyKept I During Came home_here casting) where
-  abbrev t : KeptByOwing I
+  abbrev t : KeptByOwing Came I
   t = k.owing
 
   -- The rest
@@ -254,7 +250,7 @@ module _ (I : State → Type 0) (During : Uid → State → Type 0) (Came : Site
   want_all g p (x ∷ xs) s i pending named_all lacked =
       let key : OwedKey = own_want_key history s g x in
       want_all g p xs (owe history s key)
-      (owe_keeps I t s key i tt (named_covers s g p pending x (named_all x (contains_here [] xs x))) (lacked x (contains_here [] xs x)))
+      (owe_keeps I t s key i tt (named_covers s g p pending x (named_all x (contains_here [] xs x))) (lacked x (contains_here [] xs x)) tt)
       (ap (λ (f : GroupNo → MemberSide). (f g).pending) (same_group s key) ∙ pending) (λ y at. named_all y (contains_more x xs y at))
       (λ y at. (λ i_at. list_any (λ (m : Message). uid_eq m.id (uid_in g (same_group s key i_at g).number y)) (same_got s key i_at))
       ∙ lacked y (contains_more x xs y at))

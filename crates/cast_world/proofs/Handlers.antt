@@ -5,7 +5,7 @@
 -- suppose. There is one lemma for each rule, which stands behind those of the rules that it uses.
 use Rattle.cast_types.proofs.Orders.{uid_itself}
 use Rattle.std.proofs.Common.{ap, arith, inl, inr, subst, sym, ◌∙◌}
-use Rattle.std.proofs.lemmas.Bool.{and_parts, eq-eqb, eqb-true, false≢true, leb-false, ltb-false, ltb-true, true≢false}
+use Rattle.std.proofs.lemmas.Bool.{and_parts, eq-eqb, eqb-true, false≢true, leb-false, leb-true, ltb-false, ltb-true, true≢false}
 use Rattle.std.specs.List.{find, fold, list_all, list_any}
 use Rattle.std.specs.Option.{option_map_or, option_or}
 use Rattle.std.specs.Prelude.{◌&&◌, ◌||◌, ◌+◌, ◌++◌, ◌<◌, ◌==◌, Bool, Contains, List, None, Option, Some, [], false, filter}
@@ -17,7 +17,7 @@ use Rattle.cast_rules.specs.Effects.{next_message}
 use Rattle.cast_rules.specs.Entering.{freezing}
 use Rattle.cast_rules.specs.History.{history}
 use Rattle.cast_rules.specs.Order.{holds, place_to_pass}
-use Rattle.cast_rules.specs.Owing.{paying, paying_upto}
+use Rattle.cast_rules.specs.Owing.{noting_owed, paying, paying_upto}
 use Rattle.cast_rules.specs.Reports.{had_here, report_in}
 use Rattle.cast_rules.specs.Rules.Asking.{is_from_home, is_home, request}
 use Rattle.cast_rules.specs.Rules.Commands.{body_handing, body_of, cast, cast_at, on_command, hand_over, join}
@@ -30,7 +30,7 @@ use Rattle.cast_rules.specs.Rules.Home.{lead_group, on_flushed, on_forward, on_i
 use Rattle.cast_rules.specs.Rules.Home.{prepare, start, suspect, suspect_in, want, want_bodies, want_eq, wants}
 use Rattle.cast_rules.specs.Rules.Keys.{ask_key, home_key, message_key, want_key}
 use Rattle.cast_rules.specs.Rules.Leaving.{Attempt, close_session, leave_at}
-use Rattle.cast_rules.specs.Rules.Owing.{owe, send_for}
+use Rattle.cast_rules.specs.Rules.Owing.{frame_for, owe, send_for}
 use Rattle.cast_rules.specs.Rules.Requests.{answer_ask, deny, deny_if, is_joining_by, on_ask, on_asked, take_answer}
 use Rattle.cast_rules.specs.Rules.Room.{may_order, may_receive, may_take}
 use Rattle.cast_rules.specs.Rules.Sending.{may_raise, send_data}
@@ -53,9 +53,10 @@ use Rattle.cast_events.specs.Session.{is_open}
 use Rattle.cast_events.specs.declared.limits.TheConstants.{MAX_CASTS}
 use Rattle.cast_stable.specs.Stable.{has_acked}
 use Rattle.cast_timer.specs.Owed.{is_owed, is_upto}
+use Rattle.cast_timer.specs.declared.key.OwedKey.{OwedKey}
 use Rattle.cast_types.specs.Counts.{CountList}
 use Rattle.cast_types.specs.Names.{Entry, entry_eq, entry_of, group_eq, is_order, proc_eq, site_eq, uid_eq}
-use Rattle.cast_types.specs.Sets.{is_among}
+use Rattle.cast_types.specs.Sets.{is_among, set_at}
 use Rattle.cast_types.specs.declared.limits.TheConstants.{MAX_NUMBER, MAX_PAYLOAD}
 use Rattle.cast_types.specs.declared.names.GroupNo.{GroupNo}
 use Rattle.cast_types.specs.declared.names.Proc.{Proc}
@@ -65,7 +66,7 @@ use Rattle.cast_types.specs.declared.names.Uid.{Uid}
 use Rattle.cast_types.specs.declared.refusal.Refusal.{Refusal}
 use Rattle.cast_types.specs.declared.refusal.Refusal.TheVariants.{AlreadyMember, BadFrame, Flushing, GroupFull, HeldFull}
 use Rattle.cast_types.specs.declared.refusal.Refusal.TheVariants.{NoGroup, NotHolder, NotMember, OwnAbcast, TooLong}
-use Rattle.cast_view.specs.Home.{answer_to, awaited_of, bodies_of, may_decide, may_start}
+use Rattle.cast_view.specs.Home.{Home, answer_to, awaited_of, bodies_of, may_decide, may_start, wants_in}
 use Rattle.cast_view.specs.Home.{apply_move, takes_installed, takes_report, waiting_of}
 use Rattle.cast_view.specs.Home.HomeMove.{Asked, Brought, Decided, Installed, Reported, Started, Suspected}
 use Rattle.cast_view.specs.MemberSide.{MemberSide, answers_prepare, counts_by, first_asking, frozen_side, greatest_of}
@@ -74,7 +75,9 @@ use Rattle.cast_view.specs.declared.member.PendingRequest.{PendingRequest}
 use Rattle.cast_view.specs.declared.member.Verdict.{Verdict}
 use Rattle.cast_view.specs.declared.member.Verdict.TheVariants.{Again, Completes, Ignored, Pends, Skips}
 use Rattle.cast_world.proofs.Keeps.{found_is, keeps_fold, keeps_if, keeps_option}
-use Rattle.cast_world.proofs.Kept.{Comes, KeptByOwing, MaySend, WhollyKept, asked}
+use Rattle.cast_world.proofs.Acts.{contains_here}
+use Rattle.cast_world.proofs.Allowed.{contains_more}
+use Rattle.cast_world.proofs.Kept.{Comes, IsAwaited, KeptByOwing, Lacks, MaySend, Owes, Wants, WhollyKept, asked}
 use Rattle.cast_world.proofs.Kept.{casts, ends, fits, hands, installs, skips, unknown, wanted}
 use Rattle.cast_world.proofs.Telling.{ask_home_keeps, leave_at_keeps, outcome}
 use Rattle.cast_world.proofs.Telling.{owe_keeps, pay_keeps, request_keeps, send_for_keeps}
@@ -116,17 +119,17 @@ MayCommand casting (command.Request q) = MayAsk casting q
 MayCommand casting command.Bad = Unit {0}
 
 -- what was received is acknowledged
-module _ (I : State → Type 0) (t : KeptByOwing I) where
+module _ (I : State → Type 0) {Came : SiteNo → SiteFrame → Type 0} (t : KeptByOwing Came I) where
   acknowledge_keeps : (s : State) (to : SiteNo) (u : Uid) → I s → is_received s u ≡ true → u.view ≡ (s.group u.group).number →
       I (acknowledge history s to u)
   acknowledge_keeps s to u i has current = keeps_if I (is_stable s u) (emit s to (frame.Ack u)) (owe history s (message_key kinds.Ack u to))
-      (λ _. t.emits s to (frame.Ack u) i tt has)
+      (λ _. t.emits s to (frame.Ack u) i tt has tt)
       (λ _. owe_keeps I t s (message_key kinds.Ack u to)
-      i (ap (λ n. is_received s (record { group = u.group; view = n; proc = u.proc; count = u.count })) (sym current) ∙ has) tt tt)
+      i (ap (λ n. is_received s (record { group = u.group; view = n; proc = u.proc; count = u.count })) (sym current) ∙ has) tt tt tt)
 
 module _ (I : State → Type 0) (During : Uid → State → Type 0) (Came : SiteNo → SiteFrame → Type 0) (home_here casting : Bool)
     (k : WhollyKept I During Came home_here casting) where
-  abbrev t : KeptByOwing I
+  abbrev t : KeptByOwing Came I
   t = k.owing
 
   -- Messages of local processes
@@ -134,7 +137,8 @@ module _ (I : State → Type 0) (During : Uid → State → Type 0) (Came : Site
   pub send_data_keeps : (u : Uid) (s : State) (to : SiteNo) → I s → I (send_data history u s to)
   send_data_keeps u s to i =
       keeps_if I (has_acked s.acks u to) (send_for history s (message_key kinds.Data u to)) (owe history s (message_key kinds.Data u to))
-      (λ _. send_for_keeps I t s (message_key kinds.Data u to) i tt) (λ _. owe_keeps I t s (message_key kinds.Data u to) i tt tt tt)
+      (λ _. send_for_keeps I t s (message_key kinds.Data u to) i tt (inr (tt, tt)))
+      (λ _. owe_keeps I t s (message_key kinds.Data u to) i tt tt tt tt)
 
   pub sending_keeps : (s : State) (g : GroupNo) (n : ℕ) (content : Body) → I s → is_member ((s.process n).standing g) ≡ true →
       MaySend s g n content → may_take history s content ≡ true →
@@ -151,6 +155,14 @@ module _ (I : State → Type 0) (During : Uid → State → Type 0) (Came : Site
   reply_keeps : (a : Attempt State) (n tag : ℕ) → I a.0 → I (reply history a n tag)
   reply_keeps a n tag i = k.replies a.0 n tag a.1 i
 
+  -- who joins is inside
+  joining_inside : (s : State) (n : ℕ) (g : GroupNo) (number heard : ℕ) →
+      is_outside (((set_standing s n g (Joining number heard)).process n).standing g) ≡ false
+  joining_inside s n g number heard =
+      ap (λ b. is_outside ((if b then record (s.process n) { standing = set_at group_eq (s.process n).standing g (Joining number heard) }
+      else s.process n).standing g)) (eq-eqb n n refl)
+      ∙ ap (λ b. is_outside (if b then Joining number heard else (s.process n).standing g)) (eq-eqb g.0 g.0 refl)
+
   join_keeps : (s : State) (n : ℕ) (g : GroupNo) → I s → is_open (s.session n) ≡ true → I (outcome (join history s n g))
   join_keeps s n g i open_it = place (is_group s g) refl
     where
@@ -162,7 +174,7 @@ module _ (I : State → Type 0) (During : Uid → State → Type 0) (Came : Site
       full true out known = i
       full false out known =
           request_keeps I t (set_standing s n g (Joining ((s.group g).asked + 1) (view_of (s.process n).time g))) g change.Join (local s n)
-          (k.joins s n g i open_it known out)
+          (k.joins s n g i open_it known out) (refl, joining_inside s n g ((s.group g).asked + 1) (view_of (s.process n).time g))
 
       at : (b : Bool) → not (is_outside ((s.process n).standing g)) ≡ b → is_group s g ≡ true →
           I (outcome (if b then (s, Some AlreadyMember)
@@ -223,14 +235,15 @@ module _ (I : State → Type 0) (During : Uid → State → Type 0) (Came : Site
 
   -- who has settled all that it ordered hands the token over
   handed_keeps : (s : State) (n : ℕ) (g : GroupNo) (to : Proc) → I s → is_member ((s.process n).standing g) ≡ true → holds s g n ≡ true →
-      (s.group g).frozen ≡ false → may_order history s ≡ true → (o : Option ℕ) → place_to_pass s g n ≡ o →
+      (s.group g).frozen ≡ false → may_order history s ≡ true → is_among proc_eq to (members_of (s.group g)) ≡ true →
+      (o : Option ℕ) → place_to_pass s g n ≡ o →
       I (outcome (option_map_or (hand_over history s n g to g) o (s, Some HeldFull)))
-  handed_keeps s n g to i member held open_it room None e = i
-  handed_keeps s n g to i member held open_it room (Some place) e = itself (proc_eq to (local s n))
+  handed_keeps s n g to i member held open_it room named_it None e = i
+  handed_keeps s n g to i member held open_it room named_it (Some place) e = itself (proc_eq to (local s n))
     where
       itself : (b : Bool) → I (outcome (if b then (s, None) else (send_own history s n (next_message s g n (body_handing place to)), None)))
       itself true = i
-      itself false = sending_keeps s g n (body_handing place to) i member (hands place to held open_it e refl) room open_it
+      itself false = sending_keeps s g n (body_handing place to) i member (hands place to held open_it e refl named_it) room open_it
           (λ none. absurd (true≢false none))
 
   pass_token_keeps : (s : State) (n : ℕ) (g : GroupNo) (to : Proc) → I s → I (outcome (pass_token history s n g to))
@@ -239,14 +252,15 @@ module _ (I : State → Type 0) (During : Uid → State → Type 0) (Came : Site
       at : I (outcome (pass_at history s n g to g))
       at = refused_or (not (is_member ((s.process n).standing g))) s NotMember _ i
           (λ member. refused_or (not (is_among proc_eq to (members_of (s.group g)))) s NotMember _ i
-          (λ _. refused_or (s.group g).frozen s Flushing _ i
+          (λ named_it. refused_or (s.group g).frozen s Flushing _ i
           (λ open_it. refused_or (awaits_own s n) s OwnAbcast _ i
           (λ _. refused_or (not (holds s g n)) s NotHolder _ i
           (λ held. refused_or (not (may_order history s)) s HeldFull _ i
           (λ room. refused_or (not (may_raise (s.process n).time g (local s n)))
           s HeldFull (option_map_or (hand_over history s n g to g) (place_to_pass s g n) (s, Some HeldFull)) i
           (λ _. handed_keeps s n g to i (not_true (is_member ((s.process n).standing g)) member) (not_true (holds s g n) held)
-          open_it (not_true (may_order history s) room) (place_to_pass s g n) refl)))))))
+          open_it (not_true (may_order history s) room) (not_true (is_among proc_eq to (members_of (s.group g))) named_it)
+          (place_to_pass s g n) refl)))))))
 
       place : (b : Bool) → I (outcome (option_map_or (pass_at history s n g to) (if b then Some g else None) (s, Some NoGroup)))
       place true = at
@@ -292,7 +306,7 @@ module _ (I : State → Type 0) (During : Uid → State → Type 0) (Came : Site
       let current : m.id.view ≡ (s.group m.id.group).number = eqb-true m.id.view (s.group m.id.group).number c.0 in
       let elsewhere : site_eq m.id.proc.site s.here ≡ false =
       ap (λ n. n == s.here.0) (eqb-true m.id.proc.site.0 from.0 a.0) ∙ not_false (site_eq from s.here) b.0 in
-      keeps_if I (is_received s m.id) (emit s from (frame.Ack m.id)) _ (λ has. t.emits s from (frame.Ack m.id) i tt has)
+      keeps_if I (is_received s m.id) (emit s from (frame.Ack m.id)) _ (λ has. t.emits s from (frame.Ack m.id) i tt has tt)
       (λ lacked. keeps_if I (may_take history s m.body) (want_no_more history (acknowledge history (receiving s m) from m.id) m.id) s
       (λ room. k.received (acknowledge history (receiving s m) from m.id)
       m.id (acknowledge_keeps (During m.id) (k.during m.id) (receiving s m) from m.id
@@ -303,7 +317,12 @@ module _ (I : State → Type 0) (During : Uid → State → Type 0) (Came : Site
   on_data_keeps s from m i came =
       keeps_if I (is_used history s m.id.group from m) (use_data history s from m) _ (use_data_keeps s from m i came)
       (λ _. keeps_if I (is_outdated history s m.id.group from m) (emit s from (frame.Out m.id.group (s.group m.id.group).number)) s
-      (λ _. t.emits s from (frame.Out m.id.group (s.group m.id.group).number) i refl tt) (λ _. i))
+      (λ outdated. t.emits s from (frame.Out m.id.group (s.group m.id.group).number) i refl tt
+      (below (and_parts (nat_lt m.id.view (s.group m.id.group).number) _ (and_parts (has_view (s.group m.id.group)) _ outdated).1).0,
+      from, m, came, refl)) (λ _. i))
+    where
+      below : nat_lt m.id.view (s.group m.id.group).number ≡ true → 1 ≤ (s.group m.id.group).number
+      below e = let up = ltb-true m.id.view (s.group m.id.group).number e in omega (arith, up)
 
   -- Stability
 
@@ -316,12 +335,21 @@ module _ (I : State → Type 0) (During : Uid → State → Type 0) (Came : Site
       let after : State = with_ack history s from u in
       let j : I (with_ack history s from u) = with_ack_keeps s from u i came in
       keeps_if I (is_used_ack history s u.group from u) _ s
-      (λ _. keeps_if I (nat_le u.count (upto s u)) (tell_stable history u (upto s u) after from) (tell_more history u (upto s u) after)
-      (λ _. t.emits after from (frame.Stable (record u { count = upto s u })) j tt tt)
+      (λ used. keeps_if I (nat_le u.count (upto s u)) (tell_stable history u (upto s u) after from) (tell_more history u (upto s u) after)
+      (λ low. t.emits after from (frame.Stable (record u { count = upto s u })) j tt tt
+      (least (and_parts (nat_lt 0 u.count) _ (and_parts (is_current (s.group u.group) u.view) _ used).1).0 low, from, u.count, came))
       (λ _.
       keeps_if I (nat_lt (upto s u) (upto after u)) (fold (tell_stable history u (upto after u)) after (others_of after u.group)) after
-      (λ _. keeps_fold I (tell_stable history u (upto after u)) (λ r to l.
-      t.emits r to (frame.Stable (record u { count = upto after u })) l tt tt) (others_of after u.group) after j) (λ _. j))) (λ _. i)
+      (λ up. keeps_fold I (tell_stable history u (upto after u)) (λ r to l.
+      t.emits r to (frame.Stable (record u { count = upto after u })) l tt tt (more up, from, u.count, came))
+      (others_of after u.group) after j) (λ _. j))) (λ _. i)
+    where
+      least : nat_lt 0 u.count ≡ true → nat_le u.count (upto s u) ≡ true → 1 ≤ upto s u
+      least counted low =
+          let a = ltb-true 0 u.count counted in let b = leb-true u.count (upto s u) low in omega (arith, a, b)
+
+      more : nat_lt (upto s u) (upto (with_ack history s from u) u) ≡ true → 1 ≤ upto (with_ack history s from u) u
+      more up = let a = ltb-true (upto s u) (upto (with_ack history s from u) u) up in omega (arith, a)
 
   on_stable_keeps : (s : State) (from : SiteNo) (u : Uid) → I s → Came from (frame.Stable u) → I (on_stable history s u.group from u)
   on_stable_keeps s from u i came = keeps_if I (is_current (s.group u.group) u.view && site_eq u.proc.site from) _ s
@@ -342,7 +370,7 @@ module _ (I : State → Type 0) (During : Uid → State → Type 0) (Came : Site
       answer None = k.homes s g (Asked from number what q) i came
       answer (Some full) =
           t.emits (set_home s g (apply_move (Asked from number what q) (s.home g))) from (frame.Asked g number full)
-          (k.homes s g (Asked from number what q) i came) tt tt
+          (k.homes s g (Asked from number what q) i came) tt tt (from, what, q, came)
 
   deny_keeps : (s : State) (g : GroupNo) (a : PendingRequest) → I s → I (deny history s g a)
   deny_keeps s g a i = keeps_if I (is_joining_by ((s.process a.proc.serial).standing g) a.number) _ s
@@ -392,7 +420,7 @@ module _ (I : State → Type 0) (During : Uid → State → Type 0) (Came : Site
             (not (is_pending (s.group g))) (and_parts (is_from_home history s from) _ answers).1).1,
         ap (told_tail s g) (sym here),
         ap (told_kept s g) (sym here),
-      )) (λ _. i)
+      ) tt) (λ _. i)
 
   on_wanted_keeps : (s : State) (from : SiteNo) (m : Message) → I s → Came from (frame.Forward m) →
       I (on_wanted history s m.id.group from m)
@@ -407,22 +435,43 @@ module _ (I : State → Type 0) (During : Uid → State → Type 0) (Came : Site
 
   -- The home
 
+  -- owing frames does not change the home
+  same_home : (s : State) (key : OwedKey) → (owe history s key).home ≡ s.home
+  same_home s key = go (is_owed s.owed key) (frame_for history s key)
+    where
+      go : (b : Bool) (o : Option SiteFrame) →
+          (if b then s else noting_owed (option_map_or (history.send s key.site) o s) key).home ≡ s.home
+      go true o = refl
+      go false None = refl
+      go false (Some f) = refl
+
+  -- so it owes one after another what it comes to owe
+  owe_all : {X : Type 0} (key : X → OwedKey) (home : GroupNo → Home) (xs : List X) (s : State) → I s → s.home ≡ home →
+      ((r : State) (x : X) → Contains xs x → r.home ≡ home → Owes r (key x) × Wants r (key x) × Lacks r (key x) × IsAwaited r (key x)) →
+      I (fold (λ r x. owe history r (key x)) s xs)
+  owe_all key home [] s i same each = i
+  owe_all key home (x ∷ xs) s i same each =
+      let first = each s x (contains_here [] xs x) same in
+      owe_all key home xs (owe history s (key x)) (owe_keeps I t s (key x) i first.0 first.1 first.2 first.3)
+      (same_home s (key x) ∙ same) (λ r y at. each r y (contains_more x xs y at))
+
   prepare_keeps : (s : State) (g : GroupNo) → I s → I (prepare history s g)
   prepare_keeps s g i =
-      keeps_fold I (owe_of_home history kinds.Prepare g) (λ r to j. owe_keeps I t r (home_key kinds.Prepare g to) j tt tt tt)
-      (awaited_of (s.home g).phase) s i
+      owe_all (home_key kinds.Prepare g) s.home (awaited_of (s.home g).phase) s i refl
+      (λ r to at same. (tt, tt, tt, subst (λ (h : GroupNo → Home). Contains (awaited_of (h g).phase) to) (sym same) at))
 
   announce_keeps : (s : State) (g : GroupNo) → I s → I (announce history s g)
   announce_keeps s g i =
-      keeps_fold I (owe_of_home history kinds.Install g) (λ r to j. owe_keeps I t r (home_key kinds.Install g to) j tt tt tt)
-      (waiting_of (s.home g).phase) s i
+      owe_all (home_key kinds.Install g) s.home (waiting_of (s.home g).phase) s i refl (λ r to at same. (tt, tt, tt, tt))
 
   start_keeps : (s : State) (g : GroupNo) → I s → I (start history s g)
   start_keeps s g i = keeps_if I (may_start (s.home g)) (prepare history (set_home s g (apply_move Started (s.home g))) g) s
       (λ _. prepare_keeps (set_home s g (apply_move Started (s.home g))) g (k.homes s g Started i tt)) (λ _. i)
 
   want_bodies_keeps : (s : State) (g : GroupNo) → I s → I (want_bodies history s g)
-  want_bodies_keeps s g i = keeps_fold I (want history g) (λ r w j. owe_keeps I t r (want_key g w) j tt tt tt) (wants history s g) s i
+  want_bodies_keeps s g i = owe_all (want_key g) s.home (wants history s g) s i refl
+      (λ r w at same.
+      (tt, tt, tt, subst (λ (h : GroupNo → Home). Contains (wants_in g (h g) (h g).phase) (w.0, (w.1.0, w.1.1))) (sym same) at))
 
   decide_keeps : (s : State) (g : GroupNo) → home_here ≡ true → I s → I (decide history s g)
   decide_keeps s g here i = keeps_if I (may_decide g (s.home g)) (announce history (set_home s g (apply_move Decided (s.home g))) g) s
@@ -482,7 +531,7 @@ module _ (I : State → Type 0) (During : Uid → State → Type 0) (Came : Site
   on_want_keeps : (s : State) (from : SiteNo) (u : Uid) → I s → I (on_want history s u.group from u)
   on_want_keeps s from u i = keeps_if I (site_eq from s.here && not (is_home history s)) s _ (λ _. i)
       (λ _. keeps_option I (λ m. emit s from (frame.Forward m)) (forwardable history s u.group u) s
-      (λ m is. t.emits s from (frame.Forward m) i (has (find (λ x. uid_eq x.id u) (bodies_of (s.home u.group).phase)) refl m is) tt) i)
+      (λ m is. t.emits s from (frame.Forward m) i (has (find (λ x. uid_eq x.id u) (bodies_of (s.home u.group).phase)) refl m is) tt tt) i)
     where
       has : (o : Option Message) → find (λ x. uid_eq x.id u) (bodies_of (s.home u.group).phase) ≡ o → (m : Message) →
           option_or o (message_of s u) ≡ Some m →
@@ -501,7 +550,7 @@ module _ (I : State → Type 0) (During : Uid → State → Type 0) (Came : Site
       Comes Came s g skipped n members request cut → I (install history skipped s g to n members request cut)
   install_keeps s g skipped to n members request cut i comes =
       t.emits (change_view history skipped s g n members request cut) to (frame.Installed g n)
-      (k.enters s g skipped n members request cut i comes) tt tt
+      (k.enters s g skipped n members request cut i comes) tt tt (inl (s, i, skipped, members, request, cut, comes))
 
   -- what a verdict leads to
   abbrev By : (s : State) (from : SiteNo) (g : GroupNo) (n : ℕ) (members : Membership) (request : ℕ) (cut : CountList) (tail : Tail) →
@@ -544,7 +593,7 @@ module _ (I : State → Type 0) (During : Uid → State → Type 0) (Came : Site
       again : (b : Bool) → nat_le n (s.group g).number ≡ b →
           By s from g n members request cut tail (if b then Again else if nat_lt ((s.group g).number + 1) n then Skips
           else if not (has_view (s.group g)) then Completes else if is_pending (s.group g) then Ignored else Pends)
-      again true low = t.emits s from (frame.Installed g n) i tt tt
+      again true low = t.emits s from (frame.Installed g n) i tt tt (inr (from, members, request, cut, tail, came))
       again false high = skipping (nat_lt ((s.group g).number + 1) n) refl (leb-false n (s.group g).number high)
 
   on_out_keeps : (s : State) (from : SiteNo) (g : GroupNo) (n : ℕ) → I s → Came from (frame.Out g n) → I (on_out history s g n)

@@ -3,8 +3,8 @@
 -- that what the plain moves keep (`Kept`) is kept by these too, as each of these is a plain move
 -- of which more is known. Where a rule makes several moves in turn, what holds between them is
 -- `Between` (while a site passes to a view) or `During` (while it takes a message).
-use Rattle.std.proofs.Common.{inr}
-use Rattle.std.specs.Prelude.{◌+◌, ◌++◌, ◌<◌, Bool, Contains, List, Option, Some, [], false, true, ℕ, ◌∷◌, ◌≡◌, ◌⊎◌}
+use Rattle.std.proofs.Common.{inl, inr}
+use Rattle.std.specs.Prelude.{◌+◌, ◌++◌, ◌<◌, Bool, Contains, List, Option, Some, [], false, true, ℕ, ◌∷◌, ◌≡◌, ◌≤◌, ◌⊎◌}
 use Rattle.cast_clock.specs.Times.{view_of}
 use Rattle.cast_ready.specs.Ready.{is_member, is_outside}
 use Rattle.cast_rules.specs.Effects.{delivering, next_message}
@@ -16,6 +16,7 @@ use Rattle.cast_rules.specs.Reports.{has_delivered_cut, report_in}
 use Rattle.cast_rules.specs.Resting.{places_of}
 use Rattle.cast_rules.specs.Rules.Asking.{is_home}
 use Rattle.cast_rules.specs.Rules.Keys.{id_in, message_key}
+use Rattle.cast_rules.specs.Rules.Owing.{wanted_view}
 use Rattle.cast_rules.specs.Rules.Room.{may_take}
 use Rattle.cast_rules.specs.Rules.Leaving.{close_session, end_session, tell}
 use Rattle.cast_rules.specs.Rules.Views.{change_view, no_members}
@@ -51,7 +52,7 @@ use Rattle.cast_types.specs.declared.names.SiteNo.{SiteNo}
 use Rattle.cast_types.specs.declared.names.Standing.TheVariants.{Joining}
 use Rattle.cast_types.specs.declared.names.Uid.{Uid}
 use Rattle.cast_types.specs.declared.refusal.Refusal.{Refusal}
-use Rattle.cast_view.specs.Home.{HomeMove, answer_in, bodies_of, may_decide, apply_move}
+use Rattle.cast_view.specs.Home.{Home, HomeMove, answer_in, apply_move, awaited_of, bodies_of, may_decide, wants_in}
 use Rattle.cast_view.specs.Home.HomeMove.{Asked, Brought, Decided, Installed, Reported, Started, Suspected}
 use Rattle.cast_view.specs.MemberSide.{MemberSide, has_view, is_pending, members_of, with_answer, with_request}
 use Rattle.cast_view.specs.declared.member.PendingRequest.{PendingRequest}
@@ -101,12 +102,12 @@ pub data MaySend (s : State) (g : GroupNo) (k : ℕ) (content : Body) : Type 0 w
   casts : is_order (kind_of content) ≡ false → (s.group g).frozen ≡ false → MaySend s g k content
   lists : holds s g k ≡ true → (s.group g).frozen ≡ false → content ≡ body.Order (places_of s g k) → MaySend s g k content
   hands : (place : ℕ) (to : Proc) → holds s g k ≡ true → (s.group g).frozen ≡ false → place_to_pass s g k ≡ Some place →
-      content ≡ body_handing place to → MaySend s g k content
+      content ≡ body_handing place to → is_among proc_eq to (members_of (s.group g)) ≡ true → MaySend s g k content
 
 pub sends_unfrozen : (s : State) (g : GroupNo) (k : ℕ) (content : Body) → MaySend s g k content → (s.group g).frozen ≡ false
 sends_unfrozen s g k content (casts none open_it) = open_it
 sends_unfrozen s g k content (lists held open_it is) = open_it
-sends_unfrozen s g k content (hands place to held open_it settled is) = open_it
+sends_unfrozen s g k content (hands place to held open_it settled is named_it) = open_it
 
 -- how a site comes to pass to a view: the Install that waited is completed; one comes where the site has no view, or skips a view; or it is
 -- told of a view without members here
@@ -211,6 +212,31 @@ Lacks s key = LacksOf s key key.kind
 abbrev pub IsOwed : State → OwedKey → Type 0
 IsOwed s key = (o : Owed) × Contains s.owed o × (o.key ≡ key)
 
+-- what the home comes to owe a site is a Prepare where it awaits the site, and a Want of a message that it wants from it
+abbrev pub AwaitedAt : (GroupNo → Home) → OwedKey → Side → Type 0
+AwaitedAt home key side.Site = Unit {0}
+AwaitedAt home key side.Home =
+    Contains (wants_in key.group (home key.group) (home key.group).phase) (key.site, (key.proc, key.count))
+
+abbrev pub AwaitedOf : (GroupNo → Home) → OwedKey → OwedKind → Type 0
+AwaitedOf home key kinds.Ask = Unit {0}
+AwaitedOf home key kinds.Data = Unit {0}
+AwaitedOf home key kinds.Prepare = Contains (awaited_of (home key.group).phase) key.site
+AwaitedOf home key kinds.Want = AwaitedAt home key key.side
+AwaitedOf home key kinds.Install = Unit {0}
+AwaitedOf home key kinds.Ack = Unit {0}
+
+abbrev pub IsAwaited : State → OwedKey → Type 0
+IsAwaited s key = AwaitedOf s.home key key.kind
+
+-- a frame is sent that is owed, or that comes to be
+abbrev pub IsDue : State → OwedKey → Type 0
+IsDue s key = IsOwed s key ⊎ (Wants s key × IsAwaited s key)
+
+-- a process of this site joins a group, or is a member
+abbrev pub IsInside : State → GroupNo → Proc → Type 0
+IsInside s g p = (p.site ≡ s.here) × (is_outside ((s.process p.serial).standing g) ≡ false)
+
 -- a message of another site may be received: there is room for it, or an Install waits and the home was asked for it
 pub data MayReceive (s : State) (m : Message) : Type 0 where
   fits : may_take history s m.body ≡ true → MayReceive s m
@@ -238,33 +264,81 @@ Adds s (frame.Install g view members request cut tail) =
 Adds s (frame.Installed g view) = Unit {0}
 Adds s (frame.Out g view) = Unit {0}
 
+-- where the names and numbers of a frame are from: from what is owed, from a request, or from the frame that it answers
+abbrev pub Draws : (SiteNo → SiteFrame → Type 0) → (State → Type 0) → State → SiteFrame → Type 0
+Draws Came I s (frame.Data m) = Unit {0}
+Draws Came I s (frame.Ack u) = Unit {0}
+Draws Came I s (frame.Stable u) = (1 ≤ u.count) × (from : SiteNo) × (n : ℕ) × Came from (frame.Ack (record u { count = n }))
+Draws Came I s (frame.Ask g number what p) =
+    (a : PendingRequest) × (is_group s g ≡ true) × Contains (s.group g).requests a × (a.number ≡ number) × (a.proc ≡ p)
+Draws Came I s (frame.Asked g number full) = (from : SiteNo) × (what : Change) × (p : Proc) × Came from (frame.Ask g number what p)
+Draws Came I s (frame.Prepare g view) =
+    (key : OwedKey) × (key.kind ≡ kinds.Prepare) × (key.group ≡ g) × (is_group s g ≡ true) × (view ≡ (s.home g).number) × IsDue s key
+Draws Came I s (frame.Flushed g view counts tail kept) = Unit {0}
+Draws Came I s (frame.Want u) =
+    (key : OwedKey) × (key.kind ≡ kinds.Want) × (is_group s key.group ≡ true)
+    × (u ≡ id_in (wanted_view history s key.group key.side) key) × IsDue s key
+Draws Came I s (frame.Forward m) = Unit {0}
+Draws Came I s (frame.Install g view members request cut tail) = is_group s g ≡ true
+Draws Came I s (frame.Installed g n) =
+    ((t : State) × I t × (skipped : Bool) × (members : Membership) × (request : ℕ) × (cut : CountList)
+    × Comes Came t g skipped n members request cut)
+    ⊎ ((from : SiteNo) × (members : Membership) × (request : ℕ) × (cut : CountList) × (tail : Tail)
+    × Came from (frame.Install g n members request cut tail))
+Draws Came I s (frame.Out g view) = (1 ≤ view) × (from : SiteNo) × (m : Message) × Came from (frame.Data m) × (m.id.group ≡ g)
+
+-- whatever else holds
+pub draws_less : (Came : SiteNo → SiteFrame → Type 0) (I Less : State → Type 0) → ((s : State) → I s → Less s) →
+    (s : State) (f : SiteFrame) → Draws Came I s f → Draws Came Less s f
+draws_less Came I Less less s (frame.Data m) draws = tt
+draws_less Came I Less less s (frame.Ack u) draws = tt
+draws_less Came I Less less s (frame.Stable u) draws = draws
+draws_less Came I Less less s (frame.Ask g number what p) draws = draws
+draws_less Came I Less less s (frame.Asked g number full) draws = draws
+draws_less Came I Less less s (frame.Prepare g view) draws = draws
+draws_less Came I Less less s (frame.Flushed g view counts tail kept) draws = tt
+draws_less Came I Less less s (frame.Want u) draws = draws
+draws_less Came I Less less s (frame.Forward m) draws = tt
+draws_less Came I Less less s (frame.Install g view members request cut tail) draws = draws
+draws_less Came I Less less s (frame.Installed g n) draws = elim draws [
+  | inl (t, i, skipped, members, request, cut, comes) ↦ inl (t, less t i, skipped, members, request, cut, comes)
+  | inr again ↦ inr again
+]
+draws_less Came I Less less s (frame.Out g view) draws = draws
+
+-- whatever frames come
+abbrev pub Any : SiteNo → SiteFrame → Type 0
+Any from f = Unit {0}
+
 -- what owing frames, asking the home and leaving groups is made of
-pub record KeptByOwing (I : State → Type 0) : Type 0 where
-  pub emits : (s : State) (to : SiteNo) (f : SiteFrame) → I s → Says s to f → Adds s f → I (emit s to f)
+pub record KeptByOwing (Came : SiteNo → SiteFrame → Type 0) (I : State → Type 0) : Type 0 where
+  pub emits : (s : State) (to : SiteNo) (f : SiteFrame) → I s → Says s to f → Adds s f → Draws Came I s f → I (emit s to f)
   pub books : (s : State) (moment casts : ℕ) → I s → I (record s { moment = moment; casts = casts })
-  pub owes : (s : State) (key : OwedKey) (due : ℕ) → I s → Owes s key → Wants s key → Lacks s key →
+  pub owes : (s : State) (key : OwedKey) (due : ℕ) → I s → Owes s key → Wants s key → Lacks s key → IsAwaited s key →
       I (record s { owed = with_owed s.owed key due })
   pub renews : (s : State) (key : OwedKey) (due : ℕ) → I s → Owes s key → IsOwed s key → I (record s { owed = renew s.owed key due })
   pub pays : (s : State) (test : OwedKey → Bool) → I s → I (record s { owed = paid test s.owed })
   pub releases : (s : State) (passes : Uid → Bool) → I s → I (releasing s passes)
   pub parts : (s : State) (k : ℕ) (g : GroupNo) → I s → I (outside s k g)
-  pub requests : (s : State) (g : GroupNo) (what : Change) (p : Proc) → I s → I (set_group s g (with_request (s.group g) what p))
+  pub requests : (s : State) (g : GroupNo) (what : Change) (p : Proc) → I s → IsInside s g p →
+      I (set_group s g (with_request (s.group g) what p))
 
 -- what telling programs is made of: that, and entries and sessions, each by itself
-pub record FullyKeptByTelling (I : State → Type 0) : Type 0 where
-  pub emits : (s : State) (to : SiteNo) (f : SiteFrame) → I s → Says s to f → Adds s f → I (emit s to f)
+pub record FullyKeptByTelling (Came : SiteNo → SiteFrame → Type 0) (I : State → Type 0) : Type 0 where
+  pub emits : (s : State) (to : SiteNo) (f : SiteFrame) → I s → Says s to f → Adds s f → Draws Came I s f → I (emit s to f)
   pub books : (s : State) (moment casts : ℕ) → I s → I (record s { moment = moment; casts = casts })
   pub pushes : (s : State) (k : ℕ) (p : Push) → I s → AgreesWith (s.acts k) p → I (record s { pushes = s.pushes ++ (k, p) ∷ [] })
-  pub owes : (s : State) (key : OwedKey) (due : ℕ) → I s → Owes s key → Wants s key → Lacks s key →
+  pub owes : (s : State) (key : OwedKey) (due : ℕ) → I s → Owes s key → Wants s key → Lacks s key → IsAwaited s key →
       I (record s { owed = with_owed s.owed key due })
   pub renews : (s : State) (key : OwedKey) (due : ℕ) → I s → Owes s key → IsOwed s key → I (record s { owed = renew s.owed key due })
   pub pays : (s : State) (test : OwedKey → Bool) → I s → I (record s { owed = paid test s.owed })
   pub releases : (s : State) (passes : Uid → Bool) → I s → I (releasing s passes)
   pub sets_session : (s : State) (k : ℕ) (v : Session) → I s → (is_open v ≡ true → is_open (s.session k) ≡ true) → I (set_session s k v)
   pub parts : (s : State) (k : ℕ) (g : GroupNo) → I s → I (outside s k g)
-  pub requests : (s : State) (g : GroupNo) (what : Change) (p : Proc) → I s → I (set_group s g (with_request (s.group g) what p))
+  pub requests : (s : State) (g : GroupNo) (what : Change) (p : Proc) → I s → IsInside s g p →
+      I (set_group s g (with_request (s.group g) what p))
 
-pub owing_of : (I : State → Type 0) → FullyKeptByTelling I → KeptByOwing I
+pub owing_of : {Came : SiteNo → SiteFrame → Type 0} (I : State → Type 0) → FullyKeptByTelling Came I → KeptByOwing Came I
 owing_of I k = record {
   emits = k.emits;
   books = k.books;
@@ -276,19 +350,20 @@ owing_of I k = record {
   requests = k.requests;
 }
 
--- Acks may be sent, and those that are owed be sent again, at all times
+-- Acks that are owed may be sent again, whether they are true or not
 abbrev pub AcksFreely : (State → Type 0) → Type 0
 AcksFreely I =
-    ((s : State) (to : SiteNo) (u : Uid) → I s → I (emit s to (frame.Ack u)))
+    ((s : State) (key : OwedKey) → I s → IsOwed s key → key.kind ≡ kinds.Ack → is_group s key.group ≡ true →
+    I (emit s key.site (frame.Ack (id_in (s.group key.group).number key))))
     × ((s : State) (key : OwedKey) (due : ℕ) → I s → IsOwed s key → I (record s { owed = renew s.owed key due }))
 
 -- where a site passes to a view, Between holds of the group until nothing is owed for the view before it; where it receives a message,
 -- During holds of its id until it is wanted no more. Casting says whether programs cast
 pub record FullyKept (I : State → Type 0) (Between : GroupNo → State → Type 0) (During : Uid → State → Type 0)
     (Came : SiteNo → SiteFrame → Type 0) (home_here casting : Bool) : Type 0 where
-  pub telling : FullyKeptByTelling I
-  pub between : (g : GroupNo) → FullyKeptByTelling (Between g)
-  pub during : (u : Uid) → FullyKeptByTelling (During u)
+  pub telling : FullyKeptByTelling Came I
+  pub between : (g : GroupNo) → FullyKeptByTelling Came (Between g)
+  pub during : (u : Uid) → FullyKeptByTelling Came (During u)
   pub truly : ((s : State) → I s → OwedTrue s) ⊎ AcksFreely I
   pub fixed : (s : State) → I s → is_home history s ≡ home_here
   pub opens : (s : State) → I s → I (opening_next s)
@@ -321,8 +396,8 @@ pub record FullyKept (I : State → Type 0) (Between : GroupNo → State → Typ
 -- is the end of a session with all that the process leaves
 pub record WhollyKept (I : State → Type 0) (During : Uid → State → Type 0) (Came : SiteNo → SiteFrame → Type 0)
     (home_here casting : Bool) : Type 0 where
-  pub owing : KeptByOwing I
-  pub during : (u : Uid) → KeptByOwing (During u)
+  pub owing : KeptByOwing Came I
+  pub during : (u : Uid) → KeptByOwing Came (During u)
   pub truly : ((s : State) → I s → OwedTrue s) ⊎ AcksFreely I
   pub fixed : (s : State) → I s → is_home history s ≡ home_here
   pub opens : (s : State) → I s → I (opening_next s)
@@ -357,18 +432,18 @@ pub record WhollyKept (I : State → Type 0) (During : Uid → State → Type 0)
 
 -- what is kept by the moves above is kept by these
 module _ (I : State → Type 0) (Came : SiteNo → SiteFrame → Type 0) (home_here : Bool) (k : Kept I Came home_here) where
-  full_telling : FullyKeptByTelling I
+  full_telling : FullyKeptByTelling Came I
   full_telling = record {
-    emits = λ s to f i says adds. k.telling.emits s to f i says;
+    emits = λ s to f i says adds draws. k.telling.emits s to f i says;
     books = λ s moment casts i. k.telling.books s s.quotas moment s.acks s.told s.owed casts s.pushes i;
     pushes = λ s n p i agrees. k.telling.books s s.quotas s.moment s.acks s.told s.owed s.casts (s.pushes ++ (n, p) ∷ []) i;
-    owes = λ s key due i owes wants lacks. k.telling.books s s.quotas s.moment s.acks s.told (with_owed s.owed key due) s.casts s.pushes i;
+    owes = λ s key due i owes wants lacks awaited. k.telling.books s s.quotas s.moment s.acks s.told (with_owed s.owed key due) s.casts s.pushes i;
     renews = λ s key due i owes owed. k.telling.books s s.quotas s.moment s.acks s.told (renew s.owed key due) s.casts s.pushes i;
     pays = λ s test i. k.telling.books s s.quotas s.moment s.acks s.told (paid test s.owed) s.casts s.pushes i;
     releases = k.telling.releases;
     sets_session = k.telling.sets_session;
     parts = k.telling.parts;
-    requests = k.telling.requests;
+    requests = λ s g what p i inside. k.telling.requests s g what p i;
   }
 
   pub kept_fully : FullyKept I (λ g. I) (λ u. I) Came home_here true
@@ -377,7 +452,7 @@ module _ (I : State → Type 0) (Came : SiteNo → SiteFrame → Type 0) (home_h
     between = λ g. full_telling;
     during = λ u. full_telling;
     truly = inr (
-      (λ s to u i. k.telling.emits s to (frame.Ack u) i tt),
+      (λ s key i owed is known. k.telling.emits s key.site (frame.Ack (id_in (s.group key.group).number key)) i tt),
       λ s key due i owed. k.telling.books s s.quotas s.moment s.acks s.told (renew s.owed key due) s.casts s.pushes i,
     );
     fixed = k.fixed;

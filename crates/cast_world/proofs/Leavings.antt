@@ -30,10 +30,10 @@ use Rattle.cast_view.specs.MemberSide.{first_asking, with_request}
 use Rattle.cast_view.specs.declared.member.PendingRequest.{PendingRequest}
 use Rattle.cast_world.proofs.Acts.{contains_cons}
 use Rattle.cast_world.proofs.Keeps.{keeps_fold}
-use Rattle.cast_world.proofs.Kept.{KeptByOwing}
+use Rattle.cast_world.proofs.Kept.{Any, KeptByOwing}
 use Rattle.cast_world.proofs.Laters.{set_all}
 use Rattle.cast_world.proofs.Steps.{group_among}
-use Rattle.cast_world.proofs.Telling.{leave_at_keeps, outcome, request_keeps}
+use Rattle.cast_world.proofs.Telling.{asked_keeps, leave_at_keeps, outcome}
 use Rattle.cast_message.specs.declared.client.Push.TheVariants as push
 use Rattle.cast_timer.specs.declared.key.OwedKind.TheVariants as kinds
 
@@ -146,11 +146,11 @@ abbrev OutsideOf : ℕ → List GroupNo → State → Type 0
 OutsideOf k groups s = (g : GroupNo) → Contains groups g → is_outside ((s.process k).standing g) ≡ true
 
 -- and stays so
-outside_owing : (k : ℕ) (groups : List GroupNo) → KeptByOwing (OutsideOf k groups)
+outside_owing : (k : ℕ) (groups : List GroupNo) → KeptByOwing Any (OutsideOf k groups)
 outside_owing k groups = record {
-  emits = λ t to f i says adds. i;
+  emits = λ t to f i says adds draws. i;
   books = λ t moment casts i. i;
-  owes = λ t key due i owes wants lacks. i;
+  owes = λ t key due i owes wants lacks awaited. i;
   renews = λ t key due i owes owed. i;
   pays = λ t test i. i;
   releases = λ t passes i. i;
@@ -159,7 +159,7 @@ outside_owing k groups = record {
       (λ n same g at. ap (λ x. is_outside ((t.process x).standing g)) same ∙ i g at)
       (λ same g at. still (group_eq h g) ((t.process j).standing g) (ap (λ x. is_outside ((t.process x).standing g)) same ∙ i g at))
       k refl;
-  requests = λ t g what p i. i;
+  requests = λ t g what p i inside. i;
 }
   where
     still : (b : Bool) (x : Standing) → is_outside x ≡ true → is_outside (if b then Outside else x) ≡ true
@@ -185,7 +185,7 @@ leaves_one k s g = go (is_outside ((s.process k).standing g)) refl ((s.group g).
     go true e last = e
     go false e true = here g (0, omega arith, refl)
     go false e false =
-        request_keeps (OutsideOf k (g ∷ [])) (outside_owing k (g ∷ [])) (outside s k g) g change.Leave (local s k) here g
+        asked_keeps (OutsideOf k (g ∷ [])) (outside_owing k (g ∷ [])) (outside s k g) g change.Leave (local s k) here g
         (0, omega arith, refl)
 
 leaves_groups : (k : ℕ) (groups : List GroupNo) (s : State) → OutsideOf k groups (fold (leave_each history k) s groups)

@@ -35,9 +35,9 @@ use Rattle.cast_types.specs.declared.names.Standing.TheVariants.{Joining}
 use Rattle.cast_types.specs.declared.names.Uid.{Uid}
 use Rattle.cast_world.proofs.Acts.{contains_here}
 use Rattle.cast_world.proofs.Allowed.{contains_more, ready_new}
-use Rattle.cast_world.proofs.Events.{Any, after_event_keeps, any_came, rests_keeps}
+use Rattle.cast_world.proofs.Events.{after_event_keeps, any_came, rests_keeps}
 use Rattle.cast_world.proofs.Invariants.{WasSent}
-use Rattle.cast_world.proofs.Kept.{Kept}
+use Rattle.cast_world.proofs.Kept.{Any, Kept}
 use Rattle.cast_world.proofs.Laters.{set_all, set_both}
 use Rattle.cast_world.proofs.OrderLaters.{one_message}
 use Rattle.cast_world.proofs.Orders.{Apart}

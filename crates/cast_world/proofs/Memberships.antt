@@ -12,6 +12,7 @@ use Rattle.cast_rules.specs.Effects.{delivering}
 use Rattle.cast_rules.specs.Entering.{enters, in_view, passing, putting_out}
 use Rattle.cast_rules.specs.History.{history}
 use Rattle.cast_rules.specs.Rules.Asking.{is_home}
+use Rattle.cast_rules.specs.Rules.Keys.{id_in}
 use Rattle.cast_rules.specs.Rules.Leaving.{close_session, end_session, leave_all, tell}
 use Rattle.cast_rules.specs.Rules.Rest.{tell_if, told_of}
 use Rattle.cast_rules.specs.Rules.Views.{change_view, tell_out}
@@ -39,7 +40,7 @@ use Rattle.cast_world.proofs.Allowed.{contains_more, passed}
 use Rattle.cast_world.proofs.Events.{any_happens, event_keeps_wholly, rests_keeps_wholly, sets_any}
 use Rattle.cast_world.proofs.Installs.{EachEntered, Entering, SiteEntered, entered_later, installed_later, kept_entering, named}
 use Rattle.cast_world.proofs.Keeps.{keeps_if}
-use Rattle.cast_world.proofs.Kept.{Comes, KeptByOwing, WhollyKept, kept_fully}
+use Rattle.cast_world.proofs.Kept.{Any, Comes, KeptByOwing, WhollyKept, draws_less, kept_fully}
 use Rattle.cast_world.proofs.Moves.{member_is}
 use Rattle.cast_world.proofs.News.{entries_more}
 use Rattle.cast_world.proofs.NewsRuns.{reaches}
@@ -106,16 +107,16 @@ module _ (home : SiteNo) (w : Network) (a : SiteNo) where
       ]
       go false apart there = all j e (subst (λ l. Contains l e) (append-nil (entries_for t.pushes j)) there)
 
-  owing_shown : KeptByOwing Shown
+  owing_shown : KeptByOwing Any Shown
   owing_shown = record {
-    emits = λ t to f x says adds. x;
+    emits = λ t to f x says adds draws. x;
     books = λ t moment casts x. x;
-    owes = λ t key due x owes wants lacks. x;
+    owes = λ t key due x owes wants lacks awaited. x;
     renews = λ t key due x owes owed. x;
     pays = λ t test x. x;
     releases = λ t passes x. x;
     parts = λ t k g x. x;
-    requests = λ t g what p x. x;
+    requests = λ t g what p x inside. x;
   }
 
   closes_shown : (t : State) (k : ℕ) (refusal : Refusal) → Shown t → Shown (close_session history t k refusal)
@@ -171,16 +172,16 @@ module _ (home : SiteNo) (w : Network) (a : SiteNo) where
     abbrev StillShown : State → Type 0
     StillShown u = (u.here ≡ t.here) × Shown u
 
-    owing_still : KeptByOwing StillShown
+    owing_still : KeptByOwing Any StillShown
     owing_still = record {
-      emits = λ u to f y says adds. y;
+      emits = λ u to f y says adds draws. y;
       books = λ u moment casts y. y;
-      owes = λ u key due y owes wants lacks. y;
+      owes = λ u key due y owes wants lacks awaited. y;
       renews = λ u key due y owes owed. y;
       pays = λ u test y. y;
       releases = λ u passes y. y;
       parts = λ u k h y. y;
-      requests = λ u h what p y. y;
+      requests = λ u h what p y inside. y;
     }
 
     tell_still : (u : State) (k : ℕ) (p : Push) → StillShown u → ShownBy w (local t k) p → StillShown (tell history u k p)
@@ -228,23 +229,30 @@ module _ (home : SiteNo) (w : Network) (a : SiteNo) where
   e = kept_wholly (Entering home w a) (λ g. Entering home w a) (λ u. Entering home w a) (Arrived home w a) site_home true
       (kept_fully (Entering home w a) (Arrived home w a) site_home (kept_entering home w a))
 
-  abbrev owing_now : KeptByOwing ShownNow
+  abbrev owing_now : KeptByOwing (Arrived home w a) ShownNow
   owing_now = record {
-    emits = λ t to f i says adds. (e.owing.emits t to f i.0 says adds, i.1);
+    emits = λ t to f i says adds draws. (
+      e.owing.emits t to f i.0 says adds (draws_less (Arrived home w a) ShownNow (Entering home w a) (λ u x. x.0) t f draws),
+      i.1,
+    );
     books = λ t moment casts i. (e.owing.books t moment casts i.0, i.1);
-    owes = λ t key due i owes wants lacks. (e.owing.owes t key due i.0 owes wants lacks, i.1);
+    owes = λ t key due i owes wants lacks awaited. (e.owing.owes t key due i.0 owes wants lacks awaited, i.1);
     renews = λ t key due i owes owed. (e.owing.renews t key due i.0 owes owed, i.1);
     pays = λ t test i. (e.owing.pays t test i.0, i.1);
     releases = λ t passes i. (e.owing.releases t passes i.0, i.1);
     parts = λ t k g i. (e.owing.parts t k g i.0, i.1);
-    requests = λ t g what p i. (e.owing.requests t g what p i.0, i.1);
+    requests = λ t g what p i inside. (e.owing.requests t g what p i.0 inside, i.1);
   }
 
   kept_shown : WhollyKept ShownNow (λ u. ShownNow) (Arrived home w a) site_home true
   kept_shown = record {
     owing = owing_now;
     during = λ u. owing_now;
-    truly = inr ((λ t to u i. ((kept_entering home w a).telling.emits t to (frame.Ack u) i.0 tt, i.1)), λ t key due i owed. i);
+    truly = inr (
+      (λ t key i owed is known.
+      ((kept_entering home w a).telling.emits t key.site (frame.Ack (id_in (t.group key.group).number key)) i.0 tt, i.1)),
+      λ t key due i owed. i,
+    );
     fixed = λ t i. e.fixed t i.0;
     opens = λ t i. (e.opens t i.0, said t (t.used + 1) (first_session (local t (t.used + 1))) (push.Opened (local t (t.used + 1))) i.1 tt);
     takes = λ t k most i. (e.takes t k most i.0, i.1);

@@ -44,9 +44,9 @@ use Rattle.cast_types.specs.declared.refusal.Refusal.TheVariants.{Slow}
 use Rattle.cast_view.specs.MemberSide.{is_taken_in}
 use Rattle.cast_world.proofs.Acts.{contains_cons, contains_here}
 use Rattle.cast_world.proofs.Allowed.{contains_kept, contains_more, contains_range, passed}
-use Rattle.cast_world.proofs.Events.{Any, any_came, any_happens, event_keeps_wholly, rests_keeps_wholly, sets_any}
+use Rattle.cast_world.proofs.Events.{any_came, any_happens, event_keeps_wholly, rests_keeps_wholly, sets_any}
 use Rattle.cast_world.proofs.Firsts.{apart_kept}
-use Rattle.cast_world.proofs.Kept.{KeptByOwing, WhollyKept}
+use Rattle.cast_world.proofs.Kept.{Any, KeptByOwing, WhollyKept}
 use Rattle.cast_world.proofs.Laters.{set_all, set_both}
 use Rattle.cast_world.proofs.Leavings.{closed_last, gone_last, leaves_all, left_same, why_closed}
 use Rattle.cast_world.proofs.Lists.{before, last, place}
@@ -289,16 +289,16 @@ module _ (s : State) (earlier : ℕ → List Push) where
           (put_outside g (t.process k)) f.3
           (shut_more t.used k (is_open (t.session k)) (t.process k).standing (told t k) (t.acts k) (due k) (f.3 k) g)
 
-  owing : (due : ℕ → List News) → KeptByOwing (AtStages due)
+  owing : (due : ℕ → List News) → KeptByOwing Any (AtStages due)
   owing due = record {
-    emits = λ t to f x says adds. x;
+    emits = λ t to f x says adds draws. x;
     books = λ t moment casts x. x;
-    owes = λ t key later x owes wants lacks. x;
+    owes = λ t key later x owes wants lacks awaited. x;
     renews = λ t key later x owes owed. x;
     pays = λ t test x. x;
     releases = λ t passes x. x;
     parts = λ t k g x. parted due t k g x;
-    requests = λ t g what p x. x;
+    requests = λ t g what p x inside. x;
   }
 
   -- Entries
@@ -730,7 +730,7 @@ module _ (s : State) (earlier : ℕ → List Push) where
   kept_news = record {
     owing = owing none;
     during = λ u. owing none;
-    truly = inr ((λ t to u x. x), λ t key due x owed. x);
+    truly = inr ((λ t key x owed is known. x), λ t key due x owed. x);
     fixed = λ t x. λ i. site_eq (x.0 i) (x.1 i).home;
     opens = opens_keeps;
     takes = λ t k most x. (

@@ -213,8 +213,8 @@ module _ (home : SiteNo) (w : Network) (a : SiteNo) where
           i.4,
           told_ordered home w a t i.0 i.1 i.2 i.3 i.4 i.5 g n content member held open_it is (later_sent t n m) r.0 r.1 r.2 r.3,
         )
-    sends_kept member (hands place to held open_it settled is) =
-        let r : From t i u = (flush t i).sends t g n content (begin t i) member (hands place to held open_it settled is) in (
+    sends_kept member (hands place to held open_it settled is named_it) =
+        let r : From t i u = (flush t i).sends t g n content (begin t i) member (hands place to held open_it settled is named_it) in (
           r.0,
           r.1,
           r.2,

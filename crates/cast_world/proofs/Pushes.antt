@@ -21,8 +21,8 @@ use Rattle.cast_types.specs.declared.names.SiteNo.{SiteNo}
 use Rattle.cast_world.proofs.Acts.{contains_here}
 use Rattle.cast_world.proofs.Entries.{GoesOn, agrees_later, delivery_sends_none, delivery_goes_on, part_goes_on}
 use Rattle.cast_world.proofs.Entries.{part_sends_none, passing_goes_on, passing_sends_none, sending_goes_on}
-use Rattle.cast_world.proofs.Events.{Any, any_came, any_happens, event_keeps_fully, rests_keeps_fully, sets_any}
-use Rattle.cast_world.proofs.Kept.{FullyKept, FullyKeptByTelling}
+use Rattle.cast_world.proofs.Events.{any_came, any_happens, event_keeps_fully, rests_keeps_fully, sets_any}
+use Rattle.cast_world.proofs.Kept.{Any, FullyKept, FullyKeptByTelling}
 use Rattle.cast_world.proofs.Laters.{set_all}
 use Rattle.cast_world.proofs.Lists.{sent_same}
 use Rattle.cast_world.specs.Laws.{AgreesWith, AllPushesAreActs}
@@ -73,12 +73,12 @@ module _ (s : State) where
   abbrev ToldFrom : State → Type 0
   ToldFrom t = (t.here ≡ s.here) × (t.config ≡ s.config) × Told t
 
-  told_telling : FullyKeptByTelling ToldFrom
+  told_telling : FullyKeptByTelling Any ToldFrom
   told_telling = record {
-    emits = λ t to f x says adds. x;
+    emits = λ t to f x says adds draws. x;
     books = λ t moment casts x. x;
     pushes = λ t k p x agrees. (x.0, x.1, pushed_told t k p x.2 agrees);
-    owes = λ t key due x owes wants lacks. x;
+    owes = λ t key due x owes wants lacks awaited. x;
     renews = λ t key due x owes owed. x;
     pays = λ t test x. x;
     releases = λ t lets x. x;
@@ -88,7 +88,7 @@ module _ (s : State) where
       x.1,
       goes_on_told t (outside t k g) x.2 (part_goes_on t t k g (λ j. ([], append-nil (t.acts j)))) (part_sends_none t k g),
     );
-    requests = λ t g what p x. x;
+    requests = λ t g what p x inside. x;
   }
 
   kept_told : FullyKept ToldFrom (λ g. ToldFrom) (λ u. ToldFrom) Any (is_home history s) true
@@ -96,7 +96,7 @@ module _ (s : State) where
     telling = told_telling;
     between = λ g. told_telling;
     during = λ u. told_telling;
-    truly = inr ((λ t to u x. x), λ t key due x owed. x);
+    truly = inr ((λ t key x owed is known. x), λ t key due x owed. x);
     fixed = λ t x. λ i. site_eq (x.0 i) (x.1 i).home;
     opens = λ t x. (x.0, x.1, pushed_told t (t.used + 1) (push.Opened (local t (t.used + 1))) x.2 tt);
     answers = λ t g x. x;

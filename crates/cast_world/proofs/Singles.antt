@@ -348,18 +348,18 @@ module _ (home_here : Bool) where
         (set_group_all (λ h (z : Standing). is_outside z ≡ false → Contains s.config.groups h) p.standing g Outside (x.ones k).known
         (λ e. absurd (true≢false e)))) x
 
-    telling : FullyKeptByTelling (At past spared)
+    telling : FullyKeptByTelling Typed (At past spared)
     telling = record {
-      emits = λ s to f x says adds. x;
+      emits = λ s to f x says adds draws. x;
       books = λ s moment casts x. x;
       pushes = λ s k p x agrees. x;
-      owes = λ s key due x owes wants lacks. owed_single s key due s.owed (λ y at. at) x (wanted_single s key wants lacks);
+      owes = λ s key due x owes wants lacks awaited. owed_single s key due s.owed (λ y at. at) x (wanted_single s key wants lacks);
       renews = λ s key due x owes owed. renewed_single s key due x owed;
       pays = λ s test x. paid_single s test x;
       releases = λ s lets x. fewer_single s (λ m. not (lets m.id)) x;
       sets_session = λ s k v x same. x;
       parts = λ s k g x. outside_single s k g x;
-      requests = λ s g what p x. group_single s g (with_request (s.group g) what p) refl (λ e. e) (λ e. e) (x.waits g) x;
+      requests = λ s g what p x inside. group_single s g (with_request (s.group g) what p) refl (λ e. e) (λ e. e) (x.waits g) x;
     }
 
   -- A message is received
@@ -739,7 +739,7 @@ module _ (home_here : Bool) where
     telling = telling NoGroup NoMessage;
     between = λ g. telling (λ h. g ≡ h) NoMessage;
     during = λ u. telling NoGroup (λ w. w ≡ u);
-    truly = inr ((λ s to u x. x), λ s key due x owed. renewed_single NoGroup NoMessage s key due x owed);
+    truly = inr ((λ s key x owed is known. x), λ s key due x owed. renewed_single NoGroup NoMessage s key due x owed);
     fixed = λ s x. x.homes;
     opens = λ s x. x;
     answers = λ s g x. group_single NoGroup NoMessage s g (with_answer (s.group g)) refl (λ e. e) (λ e. e) (x.waits g) x;

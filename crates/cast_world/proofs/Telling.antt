@@ -41,7 +41,8 @@ use Rattle.cast_view.specs.declared.phase.Phase.TheVariants.{Gathering, Idle, In
 use Rattle.cast_world.proofs.Allowed.{contains_kept}
 use Rattle.cast_world.proofs.Homes.{item_here, item_more}
 use Rattle.cast_world.proofs.Keeps.{found_is, keeps_fold, keeps_if}
-use Rattle.cast_world.proofs.Kept.{AcksFreely, Adds, IsOwed, KeptByOwing, Lacks, Owes, OwedTrue, OwesOf, Says, Wants, FullyKeptByTelling}
+use Rattle.cast_world.proofs.Kept.{AcksFreely, Adds, Draws, IsAwaited, IsDue, IsInside, IsOwed, KeptByOwing, Lacks}
+use Rattle.cast_world.proofs.Kept.{FullyKeptByTelling, Owes, OwedTrue, OwesOf, Says, Wants}
 use Rattle.cast_world.proofs.Kept.{owing_of}
 use Rattle.cast_message.specs.declared.site.Change.TheVariants as change
 use Rattle.cast_message.specs.declared.site.SiteFrame.TheVariants as frame
@@ -58,42 +59,46 @@ OnSome P (Some x) = P x
 
 -- The frame of a key says what is so
 
-abbrev Tells : State → SiteNo → SiteFrame → Type 0
-Tells s to f = Says s to f × Adds s f
+module _ (Came : SiteNo → SiteFrame → Type 0) (I : State → Type 0) where
+  abbrev Tells : State → SiteNo → SiteFrame → Type 0
+  Tells s to f = Says s to f × Adds s f × Draws Came I s f
 
-asks : (s : State) (to : SiteNo) (g : GroupNo) (a : List PendingRequest) → (s.group g).requests ≡ a →
-    OnSome (Tells s to) (option_map (ask_frame g) (first_asking a))
-asks s to g [] e = tt
-asks s to g (a ∷ rest) e = ((a, subst (λ as_listed. Contains as_listed a) (sym e) (0, omega arith, refl), refl), tt)
+  asks : (s : State) (to : SiteNo) (g : GroupNo) → is_group s g ≡ true → (a : List PendingRequest) → (s.group g).requests ≡ a →
+      OnSome (Tells s to) (option_map (ask_frame g) (first_asking a))
+  asks s to g known [] e = tt
+  asks s to g known (a ∷ rest) e =
+      let first : Contains (s.group g).requests a = subst (λ as_listed. Contains as_listed a) (sym e) (0, omega arith, refl) in
+      ((a, first, refl), tt, (a, known, first, refl, refl))
 
-installs_it : (s : State) (to : SiteNo) (g : GroupNo) (p : Phase) → (s.home g).phase ≡ p →
-    OnSome (Tells s to) (install_frame g (s.home g) to p)
-installs_it s to g Idle e = tt
-installs_it s to g (Gathering awaited reports bodies) e = tt
-installs_it s to g (Installing waiting d bodies) e = ((waiting, d, bodies, e, refl, refl, refl, refl), (waiting, d, bodies, e, refl))
+  installs_it : (s : State) (to : SiteNo) (g : GroupNo) → is_group s g ≡ true → (p : Phase) → (s.home g).phase ≡ p →
+      OnSome (Tells s to) (install_frame g (s.home g) to p)
+  installs_it s to g known Idle e = tt
+  installs_it s to g known (Gathering awaited reports bodies) e = tt
+  installs_it s to g known (Installing waiting d bodies) e =
+      ((waiting, d, bodies, e, refl, refl, refl, refl), (waiting, d, bodies, e, refl), known)
 
-data_says : (s : State) (to : SiteNo) (o : Option Message) → ((m : Message) → o ≡ Some m → Contains s.kept m) →
-    OnSome (Tells s to) (option_map frame.Data o)
-data_says s to None has = tt
-data_says s to (Some m) has = (has m refl, tt)
+  data_says : (s : State) (to : SiteNo) (o : Option Message) → ((m : Message) → o ≡ Some m → Contains s.kept m) →
+      OnSome (Tells s to) (option_map frame.Data o)
+  data_says s to None has = tt
+  data_says s to (Some m) has = (has m refl, tt, tt)
 
-kind_says : (s : State) (key : OwedKey) (kind : OwedKind) → OwesOf s key kind →
-    OnSome (Tells s key.site) (frame_of_kind history s key.group key kind)
-kind_says s key kinds.Ask owes = asks s key.site key.group (s.group key.group).requests refl
-kind_says s key kinds.Data owes = data_says s key.site (message_of s (id_in (s.group key.group).number key))
-    (λ m e. (found_is (λ x. uid_eq x.id (id_in (s.group key.group).number key)) s.kept m e).1)
-kind_says s key kinds.Prepare owes = (tt, tt)
-kind_says s key kinds.Want owes = (tt, tt)
-kind_says s key kinds.Install owes = installs_it s key.site key.group (s.home key.group).phase refl
-kind_says s key kinds.Ack owes = (tt, owes)
+  kind_says : (s : State) (key : OwedKey) (kind : OwedKind) → key.kind ≡ kind → is_group s key.group ≡ true → IsDue s key →
+      OwesOf s key kind → OnSome (Tells s key.site) (frame_of_kind history s key.group key kind)
+  kind_says s key kinds.Ask is known due owes = asks s key.site key.group known (s.group key.group).requests refl
+  kind_says s key kinds.Data is known due owes = data_says s key.site (message_of s (id_in (s.group key.group).number key))
+      (λ m e. (found_is (λ x. uid_eq x.id (id_in (s.group key.group).number key)) s.kept m e).1)
+  kind_says s key kinds.Prepare is known due owes = (tt, tt, (key, is, refl, known, refl, due))
+  kind_says s key kinds.Want is known due owes = (tt, tt, (key, is, known, refl, due))
+  kind_says s key kinds.Install is known due owes = installs_it s key.site key.group known (s.home key.group).phase refl
+  kind_says s key kinds.Ack is known due owes = (tt, owes, tt)
 
-pub says_for : (s : State) (key : OwedKey) → Owes s key → OnSome (Tells s key.site) (frame_for history s key)
-says_for s key owes = go (is_group s key.group)
-  where
-    go : (b : Bool) →
-        OnSome (Tells s key.site) (option_and_then (λ h. frame_of_kind history s h key key.kind) (if b then Some key.group else None))
-    go true = kind_says s key key.kind owes
-    go false = tt
+  pub says_for : (s : State) (key : OwedKey) → Owes s key → IsDue s key → OnSome (Tells s key.site) (frame_for history s key)
+  says_for s key owes due = go (is_group s key.group) refl
+    where
+      go : (b : Bool) → is_group s key.group ≡ b →
+          OnSome (Tells s key.site) (option_and_then (λ h. frame_of_kind history s h key key.kind) (if b then Some key.group else None))
+      go true known = kind_says s key key.kind refl known due owes
+      go false known = tt
 
 due_owed : (now : ℕ) (owed : List Owed) (key : OwedKey) → Contains (due_at now owed) key → (o : Owed) × Contains owed o × (o.key ≡ key)
 due_owed now [] key at = absurd (omega (arith, at.1))
@@ -140,6 +145,13 @@ lacks_sent s sent other lacks = go (frame_for history s sent)
     go None = lacks
     go (Some f) = lacks
 
+awaited_sent : (s : State) (sent other : OwedKey) → IsAwaited s other → IsAwaited (send_for history s sent) other
+awaited_sent s sent other awaited = go (frame_for history s sent)
+  where
+    go : (o : Option SiteFrame) → IsAwaited (option_map_or (history.send s sent.site) o s) other
+    go None = awaited
+    go (Some f) = awaited
+
 -- what was owed is owed after a frame was sent
 owed_sent : (s : State) (sent other : OwedKey) → IsOwed s other → IsOwed (send_for history s sent) other
 owed_sent s sent other owed = go (frame_for history s sent)
@@ -164,26 +176,26 @@ owed_renewed s key other due (o, at, is) = elim (cases_Bool (key_eq key o.key)) 
   )
 ]
 
-module _ (I : State → Type 0) (k : KeptByOwing I) where
+module _ (I : State → Type 0) {Came : SiteNo → SiteFrame → Type 0} (k : KeptByOwing Came I) where
   pub pay_keeps : (s : State) (key : OwedKey) → I s → I (paying s key)
   pay_keeps s key i = k.pays s (key_eq key) i
 
-  pub send_for_keeps : (s : State) (key : OwedKey) → I s → Owes s key → I (send_for history s key)
-  send_for_keeps s key i owes = go (frame_for history s key) (says_for s key owes)
+  pub send_for_keeps : (s : State) (key : OwedKey) → I s → Owes s key → IsDue s key → I (send_for history s key)
+  send_for_keeps s key i owes due = go (frame_for history s key) (says_for Came I s key owes due)
     where
-      go : (o : Option SiteFrame) → OnSome (Tells s key.site) o → I (option_map_or (history.send s key.site) o s)
+      go : (o : Option SiteFrame) → OnSome (Tells Came I s key.site) o → I (option_map_or (history.send s key.site) o s)
       go None says = i
-      go (Some f) says = k.emits s key.site f i says.0 says.1
+      go (Some f) says = k.emits s key.site f i says.0 says.1 says.2
 
-  pub owe_keeps : (s : State) (key : OwedKey) → I s → Owes s key → Wants s key → Lacks s key → I (owe history s key)
-  owe_keeps s key i owes wants lacks = keeps_if I (is_owed s.owed key) s (noting_owed (send_for history s key) key) (λ _. i)
-      (λ _. k.owes (send_for history s key) key (next_due (send_for history s key)) (send_for_keeps s key i owes) (owes_sent s key key owes)
-      (wants_sent s key key wants) (lacks_sent s key key lacks))
+  pub owe_keeps : (s : State) (key : OwedKey) → I s → Owes s key → Wants s key → Lacks s key → IsAwaited s key → I (owe history s key)
+  owe_keeps s key i owes wants lacks awaited = keeps_if I (is_owed s.owed key) s (noting_owed (send_for history s key) key) (λ _. i)
+      (λ _. k.owes (send_for history s key) key (next_due (send_for history s key)) (send_for_keeps s key i owes (inr (wants, awaited)))
+      (owes_sent s key key owes) (wants_sent s key key wants) (lacks_sent s key key lacks) (awaited_sent s key key awaited))
 
   resend_keeps : (s : State) (key : OwedKey) → I s → Owes s key → IsOwed s key → I (resend history s key)
   resend_keeps s key i owes owed =
-      k.renews (send_for history s key) key (next_due (send_for history s key)) (send_for_keeps s key i owes) (owes_sent s key key owes)
-      (owed_sent s key key owed)
+      k.renews (send_for history s key) key (next_due (send_for history s key)) (send_for_keeps s key i owes (inl owed))
+      (owes_sent s key key owes) (owed_sent s key key owed)
 
   owes_resent : (s : State) (sent other : OwedKey) → Owes s other → Owes (resend history s sent) other
   owes_resent s sent other owes =
@@ -204,29 +216,34 @@ module _ (I : State → Type 0) (k : KeptByOwing I) where
       (let more = owes other (suc at.0, omega (arith, at.1), at.2) in (owes_resent s key other more.0, owed_resent s key other more.1)))
 
   -- and where Acks may be sent freely
-  send_freely : AcksFreely I → (s : State) (key : OwedKey) → I s → I (send_for history s key)
-  send_freely free s key i = go (is_group s key.group) key.kind
+  send_freely : AcksFreely I → (s : State) (key : OwedKey) → I s → IsOwed s key → I (send_for history s key)
+  send_freely free s key i owed = go (is_group s key.group) refl key.kind refl
     where
-      other : (o : Option SiteFrame) → OnSome (Tells s key.site) o → I (option_map_or (history.send s key.site) o s)
+      other : (o : Option SiteFrame) → OnSome (Tells Came I s key.site) o → I (option_map_or (history.send s key.site) o s)
       other None says = i
-      other (Some f) says = k.emits s key.site f i says.0 says.1
+      other (Some f) says = k.emits s key.site f i says.0 says.1 says.2
 
-      go : (b : Bool) (kind : OwedKind) → I (option_map_or (history.send s key.site)
+      by : (kind : OwedKind) → key.kind ≡ kind → is_group s key.group ≡ true → OwesOf s key kind →
+          I (option_map_or (history.send s key.site) (frame_of_kind history s key.group key kind) s)
+      by kind is known owes = other (frame_of_kind history s key.group key kind) (kind_says Came I s key kind is known (inl owed) owes)
+
+      go : (b : Bool) → is_group s key.group ≡ b → (kind : OwedKind) → key.kind ≡ kind →
+          I (option_map_or (history.send s key.site)
           (option_and_then (λ h. frame_of_kind history s h key kind) (if b then Some key.group else None)) s)
-      go false kind = i
-      go true kinds.Ask = other (frame_of_kind history s key.group key kinds.Ask) (kind_says s key kinds.Ask tt)
-      go true kinds.Data = other (frame_of_kind history s key.group key kinds.Data) (kind_says s key kinds.Data tt)
-      go true kinds.Prepare = other (frame_of_kind history s key.group key kinds.Prepare) (kind_says s key kinds.Prepare tt)
-      go true kinds.Want = other (frame_of_kind history s key.group key kinds.Want) (kind_says s key kinds.Want tt)
-      go true kinds.Install = other (frame_of_kind history s key.group key kinds.Install) (kind_says s key kinds.Install tt)
-      go true kinds.Ack = free.0 s key.site (id_in (s.group key.group).number key) i
+      go false known kind is = i
+      go true known kinds.Ask is = by kinds.Ask is known tt
+      go true known kinds.Data is = by kinds.Data is known tt
+      go true known kinds.Prepare is = by kinds.Prepare is known tt
+      go true known kinds.Want is = by kinds.Want is known tt
+      go true known kinds.Install is = by kinds.Install is known tt
+      go true known kinds.Ack is = free.0 s key i owed is known
 
   resend_freely : AcksFreely I → (keys : List OwedKey) (s : State) → I s → ((key : OwedKey) → Contains keys key → IsOwed s key) →
       I (fold (resend history) s keys)
   resend_freely free [] s i owed = i
   resend_freely free (key ∷ keys) s i owed =
       resend_freely free keys (resend history s key)
-      (free.1 (send_for history s key) key (next_due (send_for history s key)) (send_freely free s key i)
+      (free.1 (send_for history s key) key (next_due (send_for history s key)) (send_freely free s key i (owed key (0, omega arith, refl)))
       (owed_sent s key key (owed key (0, omega arith, refl))))
       (λ other at. owed_resent s key other (owed other (suc at.0, omega (arith, at.1), at.2)))
 
@@ -247,33 +264,42 @@ module _ (I : State → Type 0) (k : KeptByOwing I) where
   pub ask_home_keeps : (s : State) (g : GroupNo) → I s → I (ask_home history s g)
   ask_home_keeps s g i =
       keeps_if I (is_empty (s.group g).requests) s (owe history s (ask_key g s.config.home)) (λ _. i)
-      (λ _. owe_keeps s (ask_key g s.config.home) i tt tt tt)
+      (λ _. owe_keeps s (ask_key g s.config.home) i tt tt tt tt)
 
-  pub request_keeps : (s : State) (g : GroupNo) (what : Change) (p : Proc) → I s → I (request history s g what p)
-  request_keeps s g what p i =
+  -- where one more request is queued, the home is asked
+  pub asked_keeps : (s : State) (g : GroupNo) (what : Change) (p : Proc) → I (set_group s g (with_request (s.group g) what p)) →
+      I (request history s g what p)
+  asked_keeps s g what p i =
       let now : State = set_group s g (with_request (s.group g) what p) in
-      keeps_if I (is_empty (s.group g).requests) (ask_home history now g) now (λ _. ask_home_keeps now g (k.requests s g what p i))
-      (λ _. k.requests s g what p i)
+      keeps_if I (is_empty (s.group g).requests) (ask_home history now g) now (λ _. ask_home_keeps now g i) (λ _. i)
 
-  pub leave_group_keeps : (s : State) (n : ℕ) (g : GroupNo) → I s → I (leave_group history s n g g)
-  leave_group_keeps s n g i =
+  pub request_keeps : (s : State) (g : GroupNo) (what : Change) (p : Proc) → I s → IsInside s g p → I (request history s g what p)
+  request_keeps s g what p i inside = asked_keeps s g what p (k.requests s g what p i inside)
+
+  -- who leaves is inside when it asks to, and outside then
+  pub leave_group_keeps : (s : State) (n : ℕ) (g : GroupNo) → I s → is_outside ((s.process n).standing g) ≡ false →
+      I (leave_group history s n g g)
+  leave_group_keeps s n g i inside =
       keeps_if I ((s.group g).asked == MAX_NUMBER) (outside s n g) (request history (outside s n g) g change.Leave (local s n))
       (λ _. k.parts s n g i)
-      (λ _. request_keeps (outside s n g) g change.Leave (local s n) (k.parts s n g i))
+      (λ _. asked_keeps (outside s n g) g change.Leave (local s n)
+      (k.parts (set_group s g (with_request (s.group g) change.Leave (local s n))) n g
+      (k.requests s g change.Leave (local s n) i (refl, inside))))
 
   pub leave_at_keeps : (s : State) (n : ℕ) (g : GroupNo) → I s → I (outcome (leave_at history s n g g))
-  leave_at_keeps s n g i = go (is_outside ((s.process n).standing g))
+  leave_at_keeps s n g i = go (is_outside ((s.process n).standing g)) refl
     where
-      go : (b : Bool) → I (outcome (if b then (s, Some NotMember) else (leave_group history s n g g, None)))
-      go true = i
-      go false = leave_group_keeps s n g i
+      go : (b : Bool) → is_outside ((s.process n).standing g) ≡ b →
+          I (outcome (if b then (s, Some NotMember) else (leave_group history s n g g, None)))
+      go true out = i
+      go false inside = leave_group_keeps s n g i inside
 
   pub leave_all_keeps : (s : State) (n : ℕ) → I s → I (leave_all history s n)
   leave_all_keeps s n i = keeps_fold I (leave_each history n) (λ t g j. leave_at_keeps t n g j) s.config.groups s i
 
 -- Sessions
 
-module _ (I : State → Type 0) (k : FullyKeptByTelling I) where
+module _ (I : State → Type 0) {Came : SiteNo → SiteFrame → Type 0} (k : FullyKeptByTelling Came I) where
   with_push_keeps : (s : State) (n : ℕ) (v : Session) (p : Push) → I s → AgreesWith (s.acts n) p → is_open (s.session n) ≡ true →
       I (with_push s n v p)
   with_push_keeps s n v p i agrees is = k.pushes (set_session s n v) n p (k.sets_session s n v i (λ _. is)) agrees

@@ -132,7 +132,7 @@ both a b = record { view = a.view; counts = join_counts a.counts b.counts }
 -- by the order of the views
 module _ (a b : Clock) (P : Clock → Type 0) (less : a.view < b.view → P b) (equal : a.view ≡ b.view → P (both a b))
     (greater : b.view < a.view → P a) where
-  by_views : P (join_clocks a b)
+  pub by_views : P (join_clocks a b)
   by_views = elim (cases_lt a.view b.view) [
     | inl lt ↦ subst (λ o. P (at_order o b (both a b) a)) (nat_cmp_is a.view b.view Less lt) (less lt)
     | inr ge ↦ elim (cases_lt b.view a.view) [

@@ -284,7 +284,7 @@ module _ (home : SiteNo) (w : Network) (a : SiteNo) where
     send_well : MaySend t g k content → TokenWell w (acts_at u) (record { site = a; serial = k }) (t.acts k) (Sent m)
     send_well (casts none open_it) is = absurd (false≢true (sym (ap is_some (cast_hands_none content none)) ∙ is))
     send_well (lists held open_it same) is = absurd (false≢true (sym (ap (λ b. is_some (new_holder b)) same) ∙ is))
-    send_well (hands place_it to held open_it settled same) is =
+    send_well (hands place_it to held open_it settled same named_it) is =
         let had =
         took_here t i k g (token_cases g (t.group g).number (local t k) (first_token (is_process (local t k) (holder_of (t.group g))))
         (t.acts k) held) in (

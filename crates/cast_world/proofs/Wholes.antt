@@ -26,7 +26,7 @@ use Rattle.cast_message.specs.declared.client.Push.TheVariants as push
 
 module _ (I : State → Type 0) (Between : GroupNo → State → Type 0) (During : Uid → State → Type 0) (Came : SiteNo → SiteFrame → Type 0)
     (home_here casting : Bool) (k : FullyKept I Between During Came home_here casting) where
-  abbrev t : FullyKeptByTelling I
+  abbrev t : FullyKeptByTelling Came I
   t = k.telling
 
   tell_of_keeps : (s : State) (n : ℕ) (m : Message) → I s → Contains (s.acts n) (Delivered m) →
@@ -46,7 +46,7 @@ module _ (I : State → Type 0) (Between : GroupNo → State → Type 0) (During
       let entered : State = passing s g skipped n members request cut in
       let out : State = fold (tell_out history g n) entered (history.put_out s g skipped members) in
       let told : State = fold (tell_view history g n members) out (local_members entered g) in
-      let b : FullyKeptByTelling (Between g) = k.between g in
+      let b : FullyKeptByTelling Came (Between g) = k.between g in
       let all : Between g (enter_and_tell history skipped s g n members request cut) =
       tell_all_keeps (push.View g n members) (Between g) b (local_members entered g) out
       (tell_all_keeps (push.Ejected g n) (Between g) b (history.put_out s g skipped members)

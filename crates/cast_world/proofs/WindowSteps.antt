@@ -192,9 +192,9 @@ module _ (home : SiteNo) (w : Network) (a : SiteNo) where
         (own home w a t i.0) refl refl refl
         (leading skip t i) (same_owed t u refl refl refl i.4)
 
-    abbrev pub window_telling : FullyKeptByTelling (WindowNow skip)
+    abbrev pub window_telling : FullyKeptByTelling (Arrived home w a) (WindowNow skip)
     window_telling = record {
-      emits = λ t to f i says adds.
+      emits = λ t to f i says adds draws.
           let u : State = emit t to f in
           keepw skip skip t u (later_same t) i ((flush home w a t i.0).telling.emits t to f (begin home w a t i.0) says) (λ k m c. inl c)
           (own home w a t i.0) (λ m c. c) (λ q z c. inl c)
@@ -209,7 +209,7 @@ module _ (home : SiteNo) (w : Network) (a : SiteNo) where
           quiet skip skip t u (later_same t) i ((flush home w a t i.0).telling.books t t.quotas t.moment t.acks t.told t.owed t.casts
           (t.pushes ++ (k, p) ∷ []) (begin home w a t i.0)) (λ n m c. inl c) (own home w a t i.0) refl refl refl
           (leading skip t i) (same_owed t u refl refl refl i.4);
-      owes = λ t key due i owes wants lacks.
+      owes = λ t key due i owes wants lacks awaited.
           let u : State = record t { owed = with_owed t.owed key due } in
           quiet skip skip t u (later_same t) i ((flush home w a t i.0).telling.books t t.quotas t.moment t.acks t.told
           (with_owed t.owed key due) t.casts t.pushes (begin home w a t i.0)) (λ k m c. inl c) (own home w a t i.0) refl refl refl
@@ -251,7 +251,7 @@ module _ (home : SiteNo) (w : Network) (a : SiteNo) where
           (outside_tells home w a t n g) (part_ordered i.0.3 i.0.4 t (own home w a t i.0) n g) refl refl refl
           (λ h k held quiet. leading skip t i h k (sym (ap is_some (token_outside t n g k h)) ∙ held) quiet)
           (same_owed t u refl refl refl i.4);
-      requests = λ t g what p i.
+      requests = λ t g what p i inside.
           group_keepw skip t g (with_request (t.group g) what p) (omega arith)
           i ((flush home w a t i.0).telling.requests t g what p (begin home w a t i.0))
           (parts_group i.0.3 i.0.4 t.here t.process t.acts t.abcasts t.group t.got (own home w a t i.0) g (with_request (t.group g) what p)
@@ -341,13 +341,13 @@ module _ (home : SiteNo) (w : Network) (a : SiteNo) where
           i.1 i.2 (λ z c. Contains-append_left t.got (m ∷ []) z c) i.3,
       sent_owed,
     )
-    sends_window member (hands place to held open_it settled is) = (
-      sends_kept home w a t g n content i.0 member (hands place to held open_it settled is),
+    sends_window member (hands place to held open_it settled is named_it) = (
+      sends_kept home w a t g n content i.0 member (hands place to held open_it settled is named_it),
       widened home w a t g n content i.0 member place to held open_it settled is i.1 i.2,
       window_hands home w a t g n content i.0 member place to held open_it settled is i.1 i.2 (later_sent t n m)
-          ((flush home w a t i.0).sends t g n content (begin home w a t i.0) member (hands place to held open_it settled is)),
+          ((flush home w a t i.0).sends t g n content (begin home w a t i.0) member (hands place to held open_it settled is named_it)),
       packets_later home w a t u (later_sent t n m)
-          i.0 ((flush home w a t i.0).sends t g n content (begin home w a t i.0) member (hands place to held open_it settled is))
+          i.0 ((flush home w a t i.0).sends t g n content (begin home w a t i.0) member (hands place to held open_it settled is named_it))
           i.1 i.2 (λ z c. Contains-append_left t.got (m ∷ []) z c) i.3,
       sent_owed,
     )

@@ -7,6 +7,7 @@ returns c =
       sent = lemma.received_frames_were_sent;
       received = lemma.spelled_frames_are_received;
       spelled = lemma.sent_frames_are_spelled;
+      wired = lemma.wired_frames_are_received;
       networks = lemma.datagrams_are_frames;
       causal = lemma.datagrams_deliver_causally;
       agree = lemma.datagrams_agree;
