@@ -86,3 +86,4 @@ pub mod Casts
 pub mod TokenPaths
 pub mod TokenRuns
 pub mod SelfDelivery
+pub mod Refused

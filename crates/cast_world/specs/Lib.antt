@@ -7,5 +7,6 @@ pub mod Laws
 pub mod Properties
 pub mod Casts
 pub mod Bounds
+pub mod Refused
 pub mod Ids
 pub mod Worlds

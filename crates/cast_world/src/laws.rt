@@ -20,6 +20,7 @@ ghost use Rattle.cast_world.specs.Properties.{AllDeliverOnce, AllDeliverOwn, All
 ghost use Rattle.cast_world.specs.Properties.{AllEnterByInstalls, AllHoldersHoldTokens};
 ghost use Rattle.cast_world.specs.Properties.{AllInstallsAgree, AllSendInView};
 ghost use Rattle.cast_world.specs.Properties.{AllTokensAreHeldOnce, AllViewsRise};
+ghost use Rattle.cast_world.specs.Refused.{AllRefusedLeave, AllRefusedReply};
 ghost use Rattle.cast_world.specs.Worlds.{AllAnswersAreLists, AllRunsAreNetworks, AllTellInOrder};
 ghost use Rattle.cast_world.specs.Worlds.{AllTellOneOrder, AllTellTheSame, AllToldOrdersAgree};
 
@@ -211,6 +212,17 @@ pub fn programs_agree()
 pub fn what_is_kept_is_bounded()
     ensures uncovered { WhatIsKeptIsBounded }
     ensures counted { AllThatIsKeptIsCounted }
+{}
+
+/// A whole step whose event is refused leaves the history of its site as it was: nothing is sent,
+/// delivered or pushed, no count and no moment changes, and nothing follows from it. So does a step
+/// whose event is a request that is refused, of an open session whose outbox has room, but for the
+/// reply: that is pushed to this session, and nothing else is. Where the outbox has no room, the
+/// session is closed in place of the reply, since its program is too slow, and its process leaves
+/// its groups.
+pub fn refused_steps_leave()
+    ensures leaves { AllRefusedLeave }
+    ensures replies { AllRefusedReply }
 {}
 
 /// What daemons tell. After any list of steps the daemons of a [`World`](crate::World), all of one

@@ -52,6 +52,10 @@
 //! - A process that passes to the next view delivered exactly the cut: `laws::passes_with_cut`. The
 //!   places before those that an Install lists are known alike at each site with a member:
 //!   `laws::starts_are_known`.
+//! - Wherever a list of steps has led, a whole step whose event is refused changes nothing, and
+//!   sends, delivers and pushes nothing. One whose request is refused leads to its reply alone,
+//!   where the session is open and its outbox has room: `laws::refused_steps_leave` (`leaves`,
+//!   `replies`).
 #![tactic(auto)]
 
 mod daemon;
