@@ -16,6 +16,7 @@ use Rattle.cast_types.proofs.Contains.{contains_here, contains_later}
 use Rattle.cast_types.proofs.Orders.{same_site, site_itself}
 use Rattle.cast_message.specs.declared.client.Push.{Push}
 use Rattle.cast_message.specs.declared.site.SiteFrame.{SiteFrame}
+use Rattle.cast_events.specs.declared.config.DomainConfig.{DomainConfig}
 use Rattle.cast_events.specs.declared.event.Event.{Event}
 use Rattle.cast_events.specs.declared.event.Event.TheVariants as event
 use Rattle.cast_frame.specs.Spelling.{spelled_site}
@@ -441,8 +442,7 @@ served_at : (sites : List SiteNo) (served : SiteNo → List DomainConfig) (d : D
     is_among site_eq s (sites_of d served sites) ≡ true → (c : DomainConfig) × HasConfig sites served d s c
 served_at sites served d s among =
     let at = site_among (sites_of d served sites) s among in
-    let found = configured_is (served s) d (passed (λ (t : SiteNo). is_configured d (served t)) sites s at) in
-    (
+    let found = configured_is (served s) d (passed (λ (t : SiteNo). is_configured d (served t)) sites s at) in (
       found.0,
       record {
         among = among_site sites s (among_kept (λ (t : SiteNo). is_configured d (served t)) sites s at);
@@ -463,8 +463,7 @@ sent_frames_are_spelled sites served events n d p reach agree numbers at =
     let sent = sent_from_one (sites_of d served sites) is.config own.0 own.1 leads
     (λ a there.
     let c = served_at sites served d a there in
-    let one = numbers a c.0 c.1.among c.1.listed in
-    (
+    let one = numbers a c.0 c.1.among c.1.listed in (
       one.0,
       subst (λ (b : DomainConfig). Each (λ (g : GroupNo). 1 ≤ g.0) b.groups) (sym (is.configs a c.0 c.1))
           (λ g in_it. All-contains (λ (h : GroupNo). 1 ≤ h.0) c.0.groups g
