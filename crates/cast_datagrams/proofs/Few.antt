@@ -65,11 +65,14 @@ module _ (s : State) where
     telling = few_telling;
     between = λ g. few_telling;
     during = λ u. few_telling;
-    truly = inr ((λ t key x owed is known. (
-      x.0,
-      x.1,
-      sends_one_more t key.site (frame.Ack (id_in (t.group key.group).number key)) x.2 tt,
-    )), λ t key due x owed. x);
+    truly = inr (
+      (λ t key x owed is known. (
+        x.0,
+        x.1,
+        sends_one_more t key.site (frame.Ack (id_in (t.group key.group).number key)) x.2 tt,
+      )),
+      λ t key due x owed. x,
+    );
     fixed = λ t x. λ i. site_eq (x.0 i) (x.1 i).home;
     opens = λ t x. x;
     answers = λ t g x. x;

@@ -7,13 +7,13 @@ use Rattle.std.specs.FinMap.Entries.{find, put}
 use Rattle.std.specs.List.{cons_option, enumerate_from, filter_map, flat_map, fold, range_with_len}
 use Rattle.std.specs.Option.{option_map, option_map_or}
 use Rattle.std.specs.Ordering.{eq_by_cmp}
-use Rattle.std.specs.Prelude.{◌+◌, ◌++◌, Bool, Contains, List, None, Option, Some, [], cond, drop, false, filter, if◌then◌else◌, is_some, length}
-use Rattle.std.specs.Prelude.{map, max, nat_lt, not, refl, suc, take, true, unwrap_or, zero, ℕ, ◌∷◌, ◌≡◌, ◌≤◌, ◌<◌, ◌⊎◌}
+use Rattle.std.specs.Prelude.{◌+◌, Bool, Contains, List, None, Option, Some, [], cond, drop, false, filter, if◌then◌else◌, is_some, length}
+use Rattle.std.specs.Prelude.{map, max, nat_lt, not, refl, suc, take, true, unwrap_or, zero, ℕ, ◌∷◌, ◌≡◌, ◌≤◌, ◌⊎◌}
 use Rattle.cast_clock.specs.Times.{clock_of, count_in, entering, first_clock, join, join_clocks, join_counts, view_of, with_bump}
 use Rattle.cast_flush.specs.Decisions.{end_of, ids_from, longest, no_stretch, order_from, unplaced_entries}
 use Rattle.cast_flush.specs.Reports.{Reports, all_kept, has_body, is_needed, keeper_of, needed_entries, want_of, wanting, wants_of}
 use Rattle.cast_flush.specs.declared.report.Report.{Report}
-use Rattle.cast_message.specs.KeptIds.{KeptList, Marked}
+use Rattle.cast_message.specs.KeptIds.{Marked}
 use Rattle.cast_message.specs.Membership.{Membership}
 use Rattle.cast_message.specs.Tail.{Tail}
 use Rattle.cast_message.specs.declared.message.Body.{Body}
@@ -21,10 +21,10 @@ use Rattle.cast_message.specs.declared.message.Body.TheVariants as body
 use Rattle.cast_message.specs.declared.message.Message.{Message}
 use Rattle.cast_message.specs.declared.site.SiteFrame.{SiteFrame}
 use Rattle.cast_message.specs.declared.site.SiteFrame.TheVariants as frame
-use Rattle.cast_order.specs.Order.{Facts, known_order, tail_start}
+use Rattle.cast_order.specs.Order.{tail_start}
 use Rattle.cast_ready.specs.Ready.{covered_entries, first_of}
 use Rattle.cast_rules.specs.Order.{abcasts_delivered, facts_in, holder_here, is_of_view, order_told, told_by, unlisted_ids}
-use Rattle.cast_rules.specs.Reports.{is_unplaced, kept_in, kept_list, report_in, tail_of, unlisted_here, whole_order}
+use Rattle.cast_rules.specs.Reports.{is_unplaced, kept_in, kept_list, report_in, unlisted_here, whole_order}
 use Rattle.cast_rules.specs.State.{State}
 use Rattle.cast_types.proofs.Contains.{contains_here, contains_later}
 use Rattle.cast_types.proofs.Orders.{group_exact, proc_exact}
@@ -38,12 +38,12 @@ use Rattle.cast_types.specs.declared.names.GroupNo.{GroupNo}
 use Rattle.cast_types.specs.declared.names.Proc.{Proc}
 use Rattle.cast_types.specs.declared.names.SiteNo.{SiteNo}
 use Rattle.cast_types.specs.declared.names.Uid.{Uid}
-use Rattle.cast_view.specs.MemberSide.{counts_by, greatest_of, members_of}
+use Rattle.cast_view.specs.MemberSide.{counts_by, members_of}
 use Rattle.cast_world.proofs.Allowed.{passed, taken_of}
 use Rattle.cast_world.proofs.Homes.{among_kept, set_had}
 use Rattle.cast_world.proofs.Lists.{contains_split}
 use Rattle.cast_world.proofs.Prefixes.{in_flat, known_places}
-use Rattle.cast_world.proofs.Times.{bumped_count, by_views, unwrapped}
+use Rattle.cast_world.proofs.Times.{by_views, unwrapped}
 use Rattle.cast_datagrams.proofs.Lists.{came_of}
 
 abbrev pub Each : {X : Type 0} → (X → Type 0) → List X → Type 0
@@ -150,7 +150,8 @@ dropped_of zero xs x at = at
 dropped_of (suc n) [] x at = at
 dropped_of (suc n) (y ∷ xs) x at = contains_later x y xs (dropped_of n xs x at)
 
-picked_of : {X Y : Type 0} (f : X → Option Y) (xs : List X) (y : Y) → Contains (filter_map f xs) y → (x : X) × Contains xs x × (f x ≡ Some y)
+picked_of : {X Y : Type 0} (f : X → Option Y) (xs : List X) (y : Y) → Contains (filter_map f xs) y →
+    (x : X) × Contains xs x × (f x ≡ Some y)
 picked_of f [] y at = absurd (omega (arith, at.1))
 picked_of {X} {Y} f (x ∷ xs) y at = go (f x) refl at (picked_of f xs y)
   where
@@ -286,7 +287,8 @@ whole_from_one s g got all e at = elim (Contains-append_cases (order_told s g) (
 pub counts_from_one : (count : Proc → ℕ) (procs : List Proc) → Each ProcFromOne procs → Each EntryFromOne (counts_by count procs)
 counts_from_one count procs each e at =
     let up = ltb-true 0 e.1 (passed (λ (x : Entry). nat_lt 0 x.1) (map (λ p. (p, count p)) procs) e at) in
-    let from = came_of (λ (p : Proc). (p, count p)) procs e (among_kept (λ (x : Entry). nat_lt 0 x.1) (map (λ p. (p, count p)) procs) e at) in
+    let from = came_of (λ (p : Proc). (p, count p)) procs e
+    (among_kept (λ (x : Entry). nat_lt 0 x.1) (map (λ p. (p, count p)) procs) e at) in
     record { proc = subst (λ (x : Entry). ProcFromOne x.0) from.2 (each from.0 from.1); count = omega (arith, up) }
 
 kept_from_one : (kept : List Message) (order : List Entry) → Each MessageFromOne kept → Each MarkedFromOne (kept_list kept order)
@@ -294,7 +296,8 @@ kept_from_one kept order each k at =
     let named_ids : List Entry = set_of entry_cmp (map (λ (m : Message). entry_of m.id) kept) in
     let mark = came_of (λ (e : Entry). (e, is_unplaced kept order e)) named_ids k
     (taken_of MAX_KEPT (map (λ (e : Entry). (e, is_unplaced kept order e)) named_ids) k at) in
-    let m = came_of (λ (m : Message). entry_of m.id) kept mark.0 (set_had entry_cmp (map (λ (m : Message). entry_of m.id) kept) mark.0 mark.1) in
+    let m = came_of (λ (m : Message). entry_of m.id) kept mark.0
+    (set_had entry_cmp (map (λ (m : Message). entry_of m.id) kept) mark.0 mark.1) in
     subst MarkedFromOne mark.2 (subst EntryFromOne m.2 (id_entry m.0.id (each m.0 m.1).id))
 
 pub report_from_one : (s : State) (g : GroupNo) → Each ProcFromOne (members_of (s.group g)) → Each MessageFromOne s.got →
@@ -332,15 +335,18 @@ pub decided_from_one : (cut : CountList) (reports : Reports) → AllReported rep
 decided_from_one cut reports each e at =
     let placed : List Entry = filter (is_within cut) (longest reports).ids in
     let loose : List Entry = filter (is_within cut) (unplaced_entries reports) in
-    elim (Contains-append_cases placed (take MAX_PLACED (apart_from entry_eq loose placed)) e (taken_of MAX_ORDER (ids_from cut reports) e at)) [
+    elim (Contains-append_cases placed (take MAX_PLACED (apart_from entry_eq loose placed)) e
+    (taken_of MAX_ORDER (ids_from cut reports) e at)) [
       | inl old ↦ longest_from_one reports each e (among_kept (is_within cut) (longest reports).ids e old)
       | inr new ↦ unplaced_from_one reports each e (among_kept (is_within cut) (unplaced_entries reports) e
-          (among_kept (λ (z : Entry). not (is_among entry_eq z placed)) loose e (taken_of MAX_PLACED (apart_from entry_eq loose placed) e new)))
+          (among_kept (λ (z : Entry). not (is_among entry_eq z placed)) loose e
+          (taken_of MAX_PLACED (apart_from entry_eq loose placed) e new)))
     ]
 
 -- a message that the home wants is one that some site reported
 pub wanted_from_one : (g : GroupNo) (view : ℕ) (cut : CountList) (reports : Reports) (bodies : List Message) → AllReported reports →
-    (s : SiteNo) (e : Entry) → Contains (wants_of g view cut reports bodies) (s, e) → EntryFromOne e × ((t : SiteNo) × (r : Report) × Contains reports (t, r))
+    (s : SiteNo) (e : Entry) → Contains (wants_of g view cut reports bodies) (s, e) →
+    EntryFromOne e × ((t : SiteNo) × (r : Report) × Contains reports (t, r))
 wanted_from_one g view cut reports bodies each s e at =
     let w = picked_of (want_of reports) (take MAX_PLACED (wanting g view cut reports bodies)) (s, e) at in
     let is : w.0 ≡ e = named_it w.0 (keeper_of reports w.0) w.2 in

@@ -6,14 +6,13 @@ use Rattle.std.proofs.lemmas.List.Elements.{Contains-append_cases, Contains-push
 use Rattle.std.specs.FinMap.Entries.{put}
 use Rattle.std.specs.List.{list_any}
 use Rattle.std.specs.Prelude.{◌&&◌, ◌||◌, ◌+◌, ◌++◌, ◌==◌, Bool, Contains, List, None, Option, Some, [], false, filter, if◌then◌else◌}
-use Rattle.std.specs.Prelude.{is_some, map, not, refl, true, unwrap_or, ℕ, ◌∷◌, ◌≡◌, ◌≤◌, ◌⊎◌}
-use Rattle.cast_clock.specs.Times.{entering, join, view_of, with_bump}
+use Rattle.std.specs.Prelude.{is_some, map, not, refl, true, unwrap_or, ℕ, ◌∷◌, ◌≡◌, ◌≤◌}
+use Rattle.cast_clock.specs.Times.{entering, join, view_of}
 use Rattle.cast_events.specs.declared.config.DomainConfig.{DomainConfig}
 use Rattle.cast_events.specs.declared.event.Event.{Event}
 use Rattle.cast_events.specs.declared.event.Taken.{Taken}
 use Rattle.cast_events.specs.Session.{Session, first_session, is_open}
-use Rattle.cast_flush.specs.Decisions.{order_from}
-use Rattle.cast_flush.specs.Reports.{Reports, cut_from, greatest_count, is_complete, wants_of}
+use Rattle.cast_flush.specs.Reports.{cut_from, greatest_count, is_complete, wants_of}
 use Rattle.cast_flush.specs.declared.report.Report.{Report}
 use Rattle.cast_message.specs.Bodies.{kind_of}
 use Rattle.cast_message.specs.Membership.{Membership}
@@ -30,10 +29,7 @@ use Rattle.cast_rules.specs.Effects.{next_message}
 use Rattle.cast_rules.specs.Entering.{enters, in_view, is_put_out, passing, put_outside, putting_out}
 use Rattle.cast_rules.specs.History.{history}
 use Rattle.cast_rules.specs.Order.{unlisted_ids}
-use Rattle.cast_rules.specs.Reports.{report_in}
-use Rattle.cast_rules.specs.Resting.{places_of}
 use Rattle.cast_rules.specs.Rules.Asking.{is_home}
-use Rattle.cast_rules.specs.Rules.Commands.{body_handing}
 use Rattle.cast_rules.specs.Rules.Keys.{id_in, message_key}
 use Rattle.cast_rules.specs.Rules.Owing.{wanted_view}
 use Rattle.cast_rules.specs.Run.{IsStep, after_event, before_event}
@@ -49,8 +45,8 @@ use Rattle.cast_timer.specs.declared.key.Side.TheVariants as side
 use Rattle.cast_types.proofs.Contains.{contains_later}
 use Rattle.cast_types.proofs.Orders.{same_uid}
 use Rattle.cast_types.specs.Counts.{CountList}
-use Rattle.cast_types.specs.Names.{Entry, entry_eq, entry_of, group_eq, is_atomic, is_order, proc_cmp, proc_eq, site_cmp, site_eq, uid_eq}
-use Rattle.cast_types.specs.Sets.{is_among, set_at, set_of, with_item, with_items, without}
+use Rattle.cast_types.specs.Names.{entry_eq, group_eq, is_atomic, is_order, proc_cmp, proc_eq, site_cmp, site_eq, uid_eq}
+use Rattle.cast_types.specs.Sets.{is_among, set_at, with_item, with_items, without}
 use Rattle.cast_types.specs.declared.limits.TheConstants.{MAX_PLACED}
 use Rattle.cast_types.specs.declared.names.GroupNo.{GroupNo}
 use Rattle.cast_types.specs.declared.names.Proc.{Proc}
@@ -61,7 +57,8 @@ use Rattle.cast_types.specs.declared.names.Uid.{Uid}
 use Rattle.cast_view.specs.Home.{Home, HomeMove, after_ask, after_body, after_installed, after_report, after_start, after_suspicion}
 use Rattle.cast_view.specs.Home.{after_request, apply_move, awaited_of, bodies_of, changed_by, decide_view, decided_list, decided_phase}
 use Rattle.cast_view.specs.Home.{decision_of, installing, is_next, marked_leaving}
-use Rattle.cast_view.specs.Home.{is_refused, is_suspected, may_start, phase_with_body, phase_with_report, phase_without, sites_to_await, stays}
+use Rattle.cast_view.specs.Home.{is_refused, is_suspected, may_start, phase_with_body, phase_with_report, phase_without}
+use Rattle.cast_view.specs.Home.{sites_to_await, stays}
 use Rattle.cast_view.specs.Home.{takes_installed, takes_report, wants_in}
 use Rattle.cast_view.specs.Home.HomeMove.{Asked, Brought, Decided, Installed, Reported, Started, Suspected}
 use Rattle.cast_view.specs.MemberSide.{MemberSide, frozen_side, has_view, is_taken_in, members_of, with_answer, with_pending, with_request}
@@ -75,8 +72,9 @@ use Rattle.cast_view.specs.declared.phase.Phase.TheVariants.{Gathering, Idle, In
 use Rattle.cast_world.proofs.ClosingDecides.{installing_is}
 use Rattle.cast_world.proofs.Events.{HasCome, any_happens, event_keeps_fully, rests_keeps_fully, sets_any}
 use Rattle.cast_world.proofs.FlushSites.{proc_among}
-use Rattle.cast_world.proofs.Homes.{HomeFollows, among_kept, brought_follows, idle_not, item_was, left_follows, reported_follows, reports_of}
-use Rattle.cast_world.proofs.Homes.{request_follows, set_had, site_among, started_follows, suspicion_follows}
+use Rattle.cast_world.proofs.Homes.{HomeFollows, among_kept, brought_follows, idle_not, item_was, left_follows}
+use Rattle.cast_world.proofs.Homes.{reported_follows, reports_of}
+use Rattle.cast_world.proofs.Homes.{request_follows, set_had, started_follows, suspicion_follows}
 use Rattle.cast_world.proofs.Kept.{Adds, Comes, Draws, FullyKept, FullyKeptByTelling, IsDue, IsOwed, MayMove, MaySend, OwesOf, Says}
 use Rattle.cast_world.proofs.Kept.{AwaitedAt, AwaitedOf, WantsAt, WantsOf, casts, completes, ends, hands, installs, lists, skips}
 use Rattle.cast_world.proofs.Laters.{set_all, set_group_all}
@@ -87,7 +85,7 @@ use Rattle.cast_world.proofs.Ones.{set_here}
 use Rattle.cast_world.proofs.Steps.{group_among}
 use Rattle.cast_world.proofs.Times.{below_join, below_view, bumped_count, bumped_view, entered_view, other_view}
 use Rattle.cast_datagrams.proofs.FromOne.{AllReported, BodyFromOne, ClockFromOne, Each, EntryFromOne, FrameFromOne, MarkedFromOne}
-use Rattle.cast_datagrams.proofs.FromOne.{MessageFromOne, NumberFromOne, ProcFromOne, ReportFromOne, UidFromOne, counts_from_one, covered_from_one}
+use Rattle.cast_datagrams.proofs.FromOne.{MessageFromOne, NumberFromOne, ProcFromOne, UidFromOne, counts_from_one, covered_from_one}
 use Rattle.cast_datagrams.proofs.FromOne.{decided_from_one, dropped_of, report_from_one, times_bumped, times_entered, times_joined}
 use Rattle.cast_datagrams.proofs.FromOne.{unlisted_from_one, wanted_from_one}
 use Rattle.cast_datagrams.proofs.Lists.{came_of}
@@ -345,7 +343,8 @@ asked_phase h s number what p =
     (by_choice (SamePhase h) (site_eq p.site s && not (is_refused h s what p)) (changed_by h what p) h (changed what) refl) refl
   where
     marks : SamePhase h (marked_leaving h p)
-    marks = by_choice (SamePhase h) (is_among proc_eq p h.members.list) (record h { leavings = with_item proc_cmp p h.leavings }) h refl refl
+    marks =
+        by_choice (SamePhase h) (is_among proc_eq p h.members.list) (record h { leavings = with_item proc_cmp p h.leavings }) h refl refl
 
     changed : (c : Change) → SamePhase h (changed_by h c p)
     changed change.Join = marks
@@ -498,8 +497,8 @@ module _ (group : GroupNo → MemberSide) (home : GroupNo → Home) (groups : (g
   covered_want (Some p) is e =
       let waits = (groups key.group).pending p is in
       let among =
-      (and_parts ((group key.group).number == (group key.group).number) (is_among entry_eq (key.proc, key.count) (covered_entries p.cut)) e).1 in
-      (
+      (and_parts ((group key.group).number == (group key.group).number)
+      (is_among entry_eq (key.proc, key.count) (covered_entries p.cut)) e).1 in (
         covered_from_one p.cut waits.cut (key.proc, key.count) (among_entry (covered_entries p.cut) (key.proc, key.count) among),
         waits.number,
       )
@@ -516,9 +515,11 @@ module _ (group : GroupNo → MemberSide) (home : GroupNo → Home) (groups : (g
           reports bodies else []) (key.site, (key.proc, key.count)) → Parts side.Home
       go true there =
           let found = wanted_from_one key.group (home key.group).number (cut_from (home key.group).members.list reports) reports bodies all
-          key.site (key.proc, key.count) there in
-          (found.0, (homes key.group).numbered found.1.0 found.1.1
-          (subst (λ z. Contains (reports_of z) (found.1.0, found.1.1)) (sym is) found.1.2))
+          key.site (key.proc, key.count) there in (
+            found.0,
+            (homes key.group).numbered found.1.0 found.1.1
+                (subst (λ z. Contains (reports_of z) (found.1.0, found.1.1)) (sym is) found.1.2),
+          )
       go false there = absurd (omega (arith, there.1))
   home_want (Installing waiting d bodies) is at = absurd (omega (arith, at.1))
 
@@ -663,7 +664,8 @@ home_grows (Asked from number what p) h one =
     (by_choice (λ z. 1 ≤ z.number) (site_eq p.site from && not (is_refused h from what p)) (changed_by h what p) h (changed what) one) one
   where
     marks : 1 ≤ (marked_leaving h p).number
-    marks = by_choice (λ z. 1 ≤ z.number) (is_among proc_eq p h.members.list) (record h { leavings = with_item proc_cmp p h.leavings }) h one one
+    marks =
+        by_choice (λ z. 1 ≤ z.number) (is_among proc_eq p h.members.list) (record h { leavings = with_item proc_cmp p h.leavings }) h one one
 
     changed : (c : Change) → 1 ≤ (changed_by h c p).number
     changed change.Join = marks
@@ -711,10 +713,12 @@ module _ (s : State) (here : 1 ≤ s.here.0) (named : Each (λ (g : GroupNo). 1 
     kind_apart key kind is apart acked = absurd (apart (ap kind_rank (sym is ∙ acked)))
 
     acked_from : (key : OwedKey) → is_group t key.group ≡ true → AckFromOne t.group key → UidFromOne (id_in (t.group key.group).number key)
-    acked_from key known one = record { group = known_from key.group known; view = one.view; proc = one.entry.proc; count = one.entry.count }
+    acked_from key known one =
+        record { group = known_from key.group known; view = one.view; proc = one.entry.proc; count = one.entry.count }
 
     -- an Ack that comes to be owed is of a message that was received
-    received_key : (key : OwedKey) (kind : OwedKind) → OwesOf t key kind → kind ≡ kinds.Ack → UidFromOne (id_in (t.group key.group).number key)
+    received_key : (key : OwedKey) (kind : OwedKind) → OwesOf t key kind → kind ≡ kinds.Ack →
+        UidFromOne (id_in (t.group key.group).number key)
     received_key key kinds.Ask owes is = absurd (let apart = ap kind_rank is in omega (arith, apart))
     received_key key kinds.Data owes is = absurd (let apart = ap kind_rank is in omega (arith, apart))
     received_key key kinds.Prepare owes is = absurd (let apart = ap kind_rank is in omega (arith, apart))
@@ -730,8 +734,7 @@ module _ (s : State) (here : 1 ≤ s.here.0) (named : Each (λ (g : GroupNo). 1 
     enters_from : (g : GroupNo) (skipped : Bool) (n : ℕ) (members : Membership) (request : ℕ) (cut : CountList) →
         Comes Came t g skipped n members request cut → NumberFromOne g n × Each ProcFromOne members.list
     enters_from g skipped n members request cut (completes p e all no_skip n_is members_is request_is cut_is) =
-        let waits = (x.groups g).pending p e in
-        (
+        let waits = (x.groups g).pending p e in (
           record { group = (x.groups g).known waits.number; number = omega (arith, n_is) },
           subst (λ (m : Membership). Each ProcFromOne m.list) (sym members_is) waits.members,
         )
@@ -804,10 +807,15 @@ module _ (s : State) (here : 1 ≤ s.here.0) (named : Each (λ (g : GroupNo). 1 
       record { group = subst (λ (h : GroupNo). 1 ≤ h.0) group_is came.id.group; number = up }
 
   sends_one_more : (t : State) (to : SiteNo) (f : SiteFrame) → From t → FrameFromOne f → From (emit t to f)
-  sends_one_more t to f i one = (i.0, i.1, i.2, λ o g at. elim (Contains-push_cases t.frames (to, f) (o, g) at) [
-    | inl old ↦ i.3 o g old
-    | inr same ↦ subst (λ (y : SiteNo × SiteFrame). FrameFromOne y.1) same one
-  ])
+  sends_one_more t to f i one = (
+    i.0,
+    i.1,
+    i.2,
+    λ o g at. elim (Contains-push_cases t.frames (to, f) (o, g) at) [
+      | inl old ↦ i.3 o g old
+      | inr same ↦ subst (λ (y : SiteNo × SiteFrame). FrameFromOne y.1) same one
+    ],
+  )
 
   -- Telling
 
@@ -835,8 +843,12 @@ module _ (s : State) (here : 1 ≤ s.here.0) (named : Each (λ (g : GroupNo). 1 
     emits = λ t to f i says adds draws. sends_one_more t to f i (frame_from t to f i says adds draws);
     books = λ t moment count i. i;
     pushes = λ t k p i agrees. i;
-    owes = λ t key due i owes wants lacks awaited.
-        (i.0, i.1, one_owed t t.owed key due i.2 i.2.debts (due_from t i key (received_key t i key key.kind owes) (inr (wants, awaited))), i.3);
+    owes = λ t key due i owes wants lacks awaited. (
+      i.0,
+      i.1,
+      one_owed t t.owed key due i.2 i.2.debts (due_from t i key (received_key t i key key.kind owes) (inr (wants, awaited))),
+      i.3,
+    );
     renews = λ t key due i owes owed. (
       i.0,
       i.1,
@@ -910,19 +922,19 @@ module _ (s : State) (here : 1 ≤ s.here.0) (named : Each (λ (g : GroupNo). 1 
       let m : Message = next_message t g k content in
       let one = message_from t g k content i member may in
       let p = i.2.processes k in
-      let now : ℕ → Process = set_at (λ a b. a == b) t.process k (record (t.process k) { time = m.times }) in
-      (
+      let now : ℕ → Process = set_at (λ a b. a == b) t.process k (record (t.process k) { time = m.times }) in (
         i.0,
         i.1,
         with_messages t.session now t.group t.home t.got t.kept t.abcasts t.owed
-            (set_process_from t.session t.process t.group t.home t.got t.kept t.abcasts t.owed i.2 k (record (t.process k) { time = m.times })
-            record {
+            (set_process_from t.session t.process t.group t.home t.got t.kept t.abcasts t.owed i.2 k
+            (record (t.process k) { time = m.times }) record {
               times = one.times;
               inside = p.inside;
               member = λ h e.
                   let old = p.member h e in
                   (subst (λ v. 1 ≤ v) (sym (bumped_view (t.process k).time g (local t k) h)) old.0, old.1);
-            }) (t.got ++ m ∷ []) (t.kept ++ m ∷ []) t.abcasts (one_more t.got m i.2.received one) (one_more t.kept m i.2.stored one) i.2.placed,
+            }) (t.got ++ m ∷ []) (t.kept ++ m ∷ []) t.abcasts (one_more t.got m i.2.received one)
+            (one_more t.kept m i.2.stored one) i.2.placed,
         i.3,
       )
 
@@ -941,8 +953,7 @@ module _ (s : State) (here : 1 ≤ s.here.0) (named : Each (λ (g : GroupNo). 1 
       let then_it : Process = record (t.process k) {
         time = join (t.process k).time m.times;
         delivered = (t.process k).delivered ++ m.id ∷ [];
-      } in
-      (
+      } in (
         i.0,
         i.1,
         with_messages t.session (set_at (λ a b. a == b) t.process k then_it) t.group t.home t.got t.kept t.abcasts t.owed
@@ -984,8 +995,7 @@ module _ (s : State) (here : 1 ≤ s.here.0) (named : Each (λ (g : GroupNo). 1 
       set_group_from t.session left.process t.group t.home t.got t.kept t.abcasts t.owed out g v (λ one. facts.0.number)
       (viewing_from_one g (t.group g) t.here n members (i.2.groups g) facts.0.group facts.0.number facts.1) in
       let now : State = set_group left g v in
-      let entered_all : ℕ → Process = λ k. if enters now g members request k then in_view g n (left.process k) else left.process k in
-      (
+      let entered_all : ℕ → Process = λ k. if enters now g members request k then in_view g n (left.process k) else left.process k in (
         i.0,
         i.1,
         with_processes t.session left.process (set_at group_eq t.group g v) t.home t.got t.kept t.abcasts t.owed viewing entered_all
@@ -1005,7 +1015,8 @@ module _ (s : State) (here : 1 ≤ s.here.0) (named : Each (λ (g : GroupNo). 1 
           entered k p (set_at group_eq t.group g (with_view t.here n members (t.group g))) one g n numbers.group numbers.number
           (one.inside g (taken_inside request (p.standing g)
           (and_parts (is_taken_in request (p.standing g)) (is_among proc_eq (local t k) members.list) e).0))
-          (subst (λ (z : MemberSide). 1 ≤ z.number) (sym (set_here t.group g (with_view t.here n members (t.group g)) g refl)) numbers.number)
+          (subst (λ (z : MemberSide). 1 ≤ z.number) (sym (set_here t.group g (with_view t.here n members (t.group g)) g refl))
+          numbers.number)
 
   kept_from : FullyKept From (λ g. From) (λ u. From) Came (is_home history s) true
   kept_from = record {
@@ -1014,7 +1025,7 @@ module _ (s : State) (here : 1 ≤ s.here.0) (named : Each (λ (g : GroupNo). 1 
     during = λ u. from_telling;
     truly = inr (
       (λ t key i owed is known. sends_one_more t key.site (frame.Ack (id_in (t.group key.group).number key)) i
-      (acked_from t i key known (subst (OwedFromOne t.group t.home key) is (owed_from t i key owed)))),
+          (acked_from t i key known (subst (OwedFromOne t.group t.home key) is (owed_from t i key owed)))),
       λ t key due i owed. (
         i.0,
         i.1,
@@ -1047,7 +1058,8 @@ module _ (s : State) (here : 1 ≤ s.here.0) (named : Each (λ (g : GroupNo). 1 
           (record (t.process k) {
             standing = set_at group_eq (t.process k).standing g (Joining ((t.group g).asked + 1) (view_of (t.process k).time g));
           })
-          (joined k (t.process k) t.group (i.2.processes k) g ((t.group g).asked + 1) (view_of (t.process k).time g) (i.2.sessions k open_it)),
+          (joined k (t.process k) t.group (i.2.processes k) g ((t.group g).asked + 1) (view_of (t.process k).time g)
+          (i.2.sessions k open_it)),
       i.3,
     );
     sends = λ t g k content i member may room open_it asked_for. sent_from t g k content i member may;
@@ -1104,8 +1116,7 @@ pub record RestFromOne (t : State) : Type 0 where
 pub step_from_one : (s : State) (e : Event) (answer : Taken) (t : State) → RestFromOne s → HasCome Came e → IsStep s e answer t →
     RestFromOne t × SentFromOne t.frames
 step_from_one s e answer t rest came is =
-    let one : From s rest.here rest.named t = step_sends s rest.here rest.named e rest.sound came answer t is in
-    (
+    let one : From s rest.here rest.named t = step_sends s rest.here rest.named e rest.sound came answer t is in (
       record {
         here = subst (λ (z : SiteNo). 1 ≤ z.0) (sym one.0) rest.here;
         named = subst (λ (c : DomainConfig). Each (λ (g : GroupNo). 1 ≤ g.0) c.groups) (sym one.1) rest.named;

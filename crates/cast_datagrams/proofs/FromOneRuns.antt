@@ -1,22 +1,19 @@
 -- The numbers of every frame that was sent count from 1, where those of the configurations do.
-use Rattle.std.proofs.Common.{ap, arith, inl, inr, subst, sym, ◌∙◌}
-use Rattle.std.proofs.lemmas.Bool.{and_parts, eq-eqb, false≢true}
+use Rattle.std.proofs.Common.{ap, arith, inl, inr, subst, sym}
+use Rattle.std.proofs.lemmas.Bool.{and_parts, false≢true}
 use Rattle.std.proofs.lemmas.List.Elements.{Contains-append_cases}
-use Rattle.std.specs.Prelude.{◌&&◌, ◌++◌, Bool, Contains, List, None, Option, Some, [], false, if◌then◌else◌, is_some, map, refl}
+use Rattle.std.specs.Prelude.{◌&&◌, Bool, Contains, List, None, Option, Some, [], false, if◌then◌else◌, is_some, refl}
 use Rattle.std.specs.Prelude.{slice_get, suc, true, unwrap_or, zero, ℕ, ◌∷◌, ◌≡◌, ◌≤◌}
 use Rattle.cast_events.specs.declared.config.DomainConfig.{DomainConfig}
 use Rattle.cast_events.specs.declared.event.Event.{Event}
 use Rattle.cast_events.specs.declared.event.Event.TheVariants as event
-use Rattle.cast_message.specs.declared.site.SiteFrame.{SiteFrame}
-use Rattle.cast_rules.specs.State.{State}
-use Rattle.cast_types.proofs.Orders.{same_site}
 use Rattle.cast_types.specs.Names.{site_eq}
-use Rattle.cast_types.specs.Sets.{is_among, set_at}
+use Rattle.cast_types.specs.Sets.{is_among}
 use Rattle.cast_types.specs.declared.names.DomainNo.{DomainNo}
 use Rattle.cast_types.specs.declared.names.GroupNo.{GroupNo}
 use Rattle.cast_types.specs.declared.names.SiteNo.{SiteNo}
 use Rattle.cast_world.proofs.Events.{HasCome}
-use Rattle.cast_world.specs.Network.{Becomes, Happens, Leads, Network, event_at, event_of, hand_frame, is_local, names, start}
+use Rattle.cast_world.specs.Network.{Becomes, Happens, Leads, Network, event_at, hand_frame, is_local, names, start}
 use Rattle.cast_world.specs.declared.step.Happening.{Happening}
 use Rattle.cast_world.specs.declared.step.Happening.TheVariants as happen
 use Rattle.cast_world.specs.declared.step.Packet.{Packet}

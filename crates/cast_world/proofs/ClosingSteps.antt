@@ -259,7 +259,8 @@ module _ (home : SiteNo) (w : Network) (a : SiteNo) where
             decision = x.decision;
             sent = x.sent;
           });
-      requests = λ t g what p i inside. group_closing t g (with_request (t.group g) what p) (omega arith) i (n.requests t g what p i.0 inside)
+      requests = λ t g what p i inside. group_closing t g (with_request (t.group g) what p) (omega arith) i
+          (n.requests t g what p i.0 inside)
           ((flush home w a t i.0.0).telling.requests t g what p (begin home w a t i.0.0)).3 refl refl refl refl (λ e. e) refl;
     }
 
@@ -413,7 +414,8 @@ module _ (home : SiteNo) (w : Network) (a : SiteNo) where
         let j : WindowNow home w a no_key sent_now =
         sends_window home w a t g k content i.0 member (hands place to held open_it settled is named_it) in
         closing_keep home w a no_key no_key t sent_now (later_sent t k m)
-        i j ((flush home w a t i.0.0).sends t g k content (begin home w a t i.0.0) member (hands place to held open_it settled is named_it)).3
+        i j ((flush home w a t i.0.0).sends t g k content (begin home w a t i.0.0) member
+        (hands place to held open_it settled is named_it)).3
         (widened_up home w a t g k content i.0.0 member place to held open_it settled is i.0.1 i.0.2)
         (λ h v. ([], append-nil (i.0.0.3 h v)))
         (λ h v. elim (hand_cases home w a t i.0.0.0 i.0.0.1 i.0.0.2 i.0.0.3 i.0.0.4 i.0.0.5 g k content place to member held open_it

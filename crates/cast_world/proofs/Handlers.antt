@@ -26,8 +26,8 @@ use Rattle.cast_rules.specs.Rules.Data.{acknowledge, is_outdated, is_used, is_we
 use Rattle.cast_rules.specs.Rules.Flushes.{flushed_frame, is_wanted_here, on_prepare, on_wanted}
 use Rattle.cast_rules.specs.Rules.Frames.{on_site_frame, group_of, on_frame}
 use Rattle.cast_rules.specs.Rules.Home.{announce, decide, drop_want, drop_wants, forwardable, is_of_home, lead}
-use Rattle.cast_rules.specs.Rules.Home.{lead_group, on_flushed, on_forward, on_installed, on_want, owe_of_home}
-use Rattle.cast_rules.specs.Rules.Home.{prepare, start, suspect, suspect_in, want, want_bodies, want_eq, wants}
+use Rattle.cast_rules.specs.Rules.Home.{lead_group, on_flushed, on_forward, on_installed, on_want}
+use Rattle.cast_rules.specs.Rules.Home.{prepare, start, suspect, suspect_in, want_bodies, want_eq, wants}
 use Rattle.cast_rules.specs.Rules.Keys.{ask_key, home_key, message_key, want_key}
 use Rattle.cast_rules.specs.Rules.Leaving.{Attempt, close_session, leave_at}
 use Rattle.cast_rules.specs.Rules.Owing.{frame_for, owe, send_for}
@@ -317,9 +317,13 @@ module _ (I : State → Type 0) (During : Uid → State → Type 0) (Came : Site
   on_data_keeps s from m i came =
       keeps_if I (is_used history s m.id.group from m) (use_data history s from m) _ (use_data_keeps s from m i came)
       (λ _. keeps_if I (is_outdated history s m.id.group from m) (emit s from (frame.Out m.id.group (s.group m.id.group).number)) s
-      (λ outdated. t.emits s from (frame.Out m.id.group (s.group m.id.group).number) i refl tt
-      (below (and_parts (nat_lt m.id.view (s.group m.id.group).number) _ (and_parts (has_view (s.group m.id.group)) _ outdated).1).0,
-      from, m, came, refl)) (λ _. i))
+      (λ outdated. t.emits s from (frame.Out m.id.group (s.group m.id.group).number) i refl tt (
+        below (and_parts (nat_lt m.id.view (s.group m.id.group).number) _ (and_parts (has_view (s.group m.id.group)) _ outdated).1).0,
+        from,
+        m,
+        came,
+        refl,
+      )) (λ _. i))
     where
       below : nat_lt m.id.view (s.group m.id.group).number ≡ true → 1 ≤ (s.group m.id.group).number
       below e = let up = ltb-true m.id.view (s.group m.id.group).number e in omega (arith, up)

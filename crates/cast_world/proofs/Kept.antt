@@ -437,7 +437,8 @@ module _ (I : State → Type 0) (Came : SiteNo → SiteFrame → Type 0) (home_h
     emits = λ s to f i says adds draws. k.telling.emits s to f i says;
     books = λ s moment casts i. k.telling.books s s.quotas moment s.acks s.told s.owed casts s.pushes i;
     pushes = λ s n p i agrees. k.telling.books s s.quotas s.moment s.acks s.told s.owed s.casts (s.pushes ++ (n, p) ∷ []) i;
-    owes = λ s key due i owes wants lacks awaited. k.telling.books s s.quotas s.moment s.acks s.told (with_owed s.owed key due) s.casts s.pushes i;
+    owes = λ s key due i owes wants lacks awaited.
+        k.telling.books s s.quotas s.moment s.acks s.told (with_owed s.owed key due) s.casts s.pushes i;
     renews = λ s key due i owes owed. k.telling.books s s.quotas s.moment s.acks s.told (renew s.owed key due) s.casts s.pushes i;
     pays = λ s test i. k.telling.books s s.quotas s.moment s.acks s.told (paid test s.owed) s.casts s.pushes i;
     releases = k.telling.releases;

@@ -250,7 +250,7 @@ module _ (home : SiteNo) (w : Network) (a : SiteNo) where
     during = λ u. owing_now;
     truly = inr (
       (λ t key i owed is known.
-      ((kept_entering home w a).telling.emits t key.site (frame.Ack (id_in (t.group key.group).number key)) i.0 tt, i.1)),
+          ((kept_entering home w a).telling.emits t key.site (frame.Ack (id_in (t.group key.group).number key)) i.0 tt, i.1)),
       λ t key due i owed. i,
     );
     fixed = λ t i. e.fixed t i.0;
