@@ -159,7 +159,8 @@ is_turn None d shared e false is right = (
       delay = refl;
       acks = refl;
       orders = refl;
-      homes = subst (All has_first_home) (sym (refilled d.groups (map with_first_home d.groups.items) (eqb-true _ _ right))) (all_dropped d.groups.items);
+      homes = subst (All has_first_home)
+          (sym (refilled d.groups (map with_first_home d.groups.items) (eqb-true _ _ right))) (all_dropped d.groups.items);
     };
     outs = refl;
     leaves = part_given shared (number_of d) 0 no_part (λ k not_given. refl);
@@ -202,7 +203,8 @@ is_answered way table e q i d stand right =
     record {
       applied =
           subst (λ o. IsAppliedTo o m.answer e table.domains new.domains (lent_of table no_outs) (lent_of new m.outs)) (sym stand.named)
-          (subst (λ o. IsAppliedAt o m.answer e table.domains new.domains (lent_of table no_outs) (lent_of new m.outs)) (sym stand.placed) at);
+          (subst (λ o. IsAppliedAt o m.answer e table.domains new.domains (lent_of table no_outs) (lent_of new m.outs)) (sym stand.placed)
+          at);
       unchanged = unchanged (is_halted d) way d table new table.shared e m.outs;
       halted =
           subst (λ o. NotesHaltsOf o m.answer table.domains new.domains [] m.outs.halted) (sym stand.named)
@@ -285,7 +287,8 @@ module _ (n : DaemonNetwork) (s : SiteNo) (way : Option ℕ) (e : Event) where
   takes_place q None named placed fine = absurd (false≢true fine)
   takes_place q (Some i) named placed fine = takes_domain q i (slice_get (domains_of (n.at s)) i) named placed refl fine
 
-  takes_named : (o : Option DomainNo) → domain_of e ≡ o → is_fine_named n s way e o ≡ true → TakesEvent n s (Some e) (moved_named n s way e o)
+  takes_named : (o : Option DomainNo) → domain_of e ≡ o → is_fine_named n s way e o ≡ true →
+      TakesEvent n s (Some e) (moved_named n s way e o)
   takes_named None named fine = absurd (false≢true fine)
   takes_named (Some q) named fine = takes_place q (place_named q (domains_of (n.at s))) named refl fine
 

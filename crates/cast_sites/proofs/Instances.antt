@@ -1,4 +1,4 @@
--- The laws at the run of `Runs`: what they say there of the network that each domain is, which the run does not show.
+-- The laws at the run of `Schedules`: what they say there of the network that each domain is, which the run does not show.
 -- A law cannot come to say less without one of these failing.
 use Rattle.std.proofs.Common.{◌≡◌, zero, suc, Bool, true, false, List, [], ◌∷◌, ◌++◌, Some, refl, sym, ap, subst, ◌∙◌, arith, inl, inr, map}
 use Rattle.std.specs.Prelude.{◌&&◌, ◌||◌, Contains, unwrap_or}
@@ -34,7 +34,7 @@ use Rattle.cast_world.proofs.Schedules.{group, proc, site, uid}
 use Rattle.cast_sites.specs.Daemons.{DaemonNetwork, TakesSteps}
 use Rattle.cast_sites.specs.Laws.{AgreeOnHomeOf, AreToldLawfully, IsNetworkOf, RunsAt, pushed_in}
 use Rattle.cast_sites.proofs.Domains.{domains_are_told, domains_go_on}
-use Rattle.cast_sites.proofs.Runs.{cast, domain, end, ended, met, reaches, served, sites, told_1_2}
+use Rattle.cast_sites.proofs.Schedules.{cast, domain, end, ended, met, reaches, served, sites, told_1_2}
 
 home_of : (s : SiteNo) (b : DomainConfig) → Contains (served s) b → b.home ≡ site b.domain.0
 home_of s b (zero, lt, at) = subst (λ (c : DomainConfig). c.home ≡ site c.domain.0) at refl

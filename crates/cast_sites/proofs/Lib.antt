@@ -9,5 +9,5 @@ pub mod Shelves
 pub mod Steps
 pub mod Computed
 pub mod Memory
-pub mod Runs
+pub mod Schedules
 pub mod Instances

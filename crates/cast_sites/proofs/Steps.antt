@@ -190,7 +190,8 @@ module _ (r : Records) where
 
   order_still : (i k : ℕ) (may : Bool) (o : Option Placement) (raise : Bool) → (may && (is_some o && raise)) ≡ false →
       (if may
-      then option_map_or (λ places. if raise then let_go records resting_records (send_places records resting_records r i k places) else r) o r
+      then option_map_or (λ places.
+      if raise then let_go records resting_records (send_places records resting_records r i k places) else r) o r
       else r) ≡ r
   order_still i k false o raise none = refl
   order_still i k true None raise none = refl
