@@ -5,3 +5,9 @@ pub mod Networks
 pub mod Starts
 pub mod Homes
 pub mod Domains
+pub mod Shelves
+pub mod Steps
+pub mod Computed
+pub mod Memory
+pub mod Schedules
+pub mod Instances

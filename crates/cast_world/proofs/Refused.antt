@@ -3,9 +3,7 @@ use Rattle.std.proofs.Common.{◌≡◌, ℕ, Bool, true, false, not, List, [], 
 use Rattle.std.specs.Prelude.{filter, if◌then◌else◌}
 use Rattle.std.specs.List.{list_all}
 use Rattle.std.proofs.lemmas.Bool.{and_parts, false≢true}
-use Rattle.cast_types.specs.declared.names.DomainNo.{DomainNo}
 use Rattle.cast_types.specs.declared.names.SiteNo.{SiteNo}
-use Rattle.cast_types.specs.declared.refusal.Refusal.{Refusal}
 use Rattle.cast_types.specs.declared.refusal.Refusal.TheVariants.{NotOpen, Slow}
 use Rattle.cast_types.specs.Names.{site_eq}
 use Rattle.cast_message.specs.declared.client.Push.{Push}
@@ -17,15 +15,12 @@ use Rattle.cast_events.specs.Session.{is_open}
 use Rattle.cast_events.specs.declared.config.DomainConfig.{DomainConfig}
 use Rattle.cast_events.specs.declared.event.Event.{Event}
 use Rattle.cast_events.specs.declared.event.Event.TheVariants as event
-use Rattle.cast_events.specs.declared.event.Taken.{Taken}
 use Rattle.cast_events.specs.declared.event.Taken.TheVariants.{Nothing, Refused}
-use Rattle.cast_view.specs.declared.member.Pending.{Pending}
 use Rattle.cast_rules.specs.AtRest.{IsAtRest}
 use Rattle.cast_rules.specs.History.{history}
-use Rattle.cast_rules.specs.Refusing.{attempt}
 use Rattle.cast_rules.specs.Rest.{RestsAt, is_free, let_go}
 use Rattle.cast_rules.specs.Rules.Leaving.{close_session, tell}
-use Rattle.cast_rules.specs.Run.{IsStep, before_event}
+use Rattle.cast_rules.specs.Run.{before_event}
 use Rattle.cast_rules.specs.State.{State, is_filled, opening, pushing}
 use Rattle.cast_rules.specs.Step.{act_of_event}
 use Rattle.cast_rules.proofs.Quiet.{rest_is_quiet}

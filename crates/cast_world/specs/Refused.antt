@@ -1,7 +1,7 @@
 -- What a whole step changes whose event is refused, or whose command is.
 -- A step is the event and all that follows from it: messages let go, deliveries, set-order
 -- messages, flushes, until nothing changes.
-use Rattle.std.specs.Prelude.{◌≡◌, ◌++◌, ℕ, true, false, List, [], ◌∷◌, Some}
+use Rattle.std.specs.Prelude.{◌≡◌, ℕ, true, false, List, [], ◌∷◌, Some}
 use Rattle.cast_types.specs.declared.names.DomainNo.{DomainNo}
 use Rattle.cast_types.specs.declared.names.SiteNo.{SiteNo}
 use Rattle.cast_types.specs.declared.refusal.Refusal.{Refusal}
