@@ -9,7 +9,8 @@
 //!   from that site, alone or in a bundle: `laws::datagrams_are_frames` (`sent`). Daemons that take
 //!   in such frames and their own events alone come only to what steps of a network of frames lead
 //!   to (`networks`), so that the laws hold of each domain: its deliveries are causal (`causal`),
-//!   its views agree (`agree`), and its programs are told so (`told`).
+//!   its views agree (`agree`), and its programs are told so (`told`). Of the frames of its steps a
+//!   daemon may hold some back, leave some out, and give its wire some again.
 //! - Of what a wire is given for a frame that has a spelling, the site reads that frame
 //!   (`received`). Each frame that was sent has a spelling, where the numbers of sites, domains and
 //!   groups count from 1 in the configurations (`spelled`). So nothing that such a daemon sends is
