@@ -67,7 +67,8 @@ IsWired own frames datagrams =
     ⊎ ((most : ℕ) × IsPacked most (datagrams_of own frames) datagrams)
 
 -- frames that a site sent, in this event or before it
-abbrev pub WereSent : List (DomainNo × Packet) → SiteNo → List (DomainNo × SiteNo × SiteFrame) → Type 0
+abbrev pub WereSent
+    : List (DomainNo × Packet) → SiteNo → List (DomainNo × SiteNo × SiteFrame) → Type 0
 WereSent sent own frames =
     (f : DomainNo × SiteNo × SiteFrame) → Contains frames f
     → Contains sent (f.0, record { from = own; to = f.1; frame = f.2 })
