@@ -665,7 +665,8 @@ home_grows (Asked from number what p) h one =
   where
     marks : 1 ≤ (marked_leaving h p).number
     marks =
-        by_choice (λ z. 1 ≤ z.number) (is_among proc_eq p h.members.list) (record h { leavings = with_item proc_cmp p h.leavings }) h one one
+        by_choice (λ z. 1 ≤ z.number) (is_among proc_eq p h.members.list) (record h { leavings = with_item proc_cmp p h.leavings }) h
+        one one
 
     changed : (c : Change) → 1 ≤ (changed_by h c p).number
     changed change.Join = marks
