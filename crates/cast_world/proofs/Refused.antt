@@ -7,7 +7,6 @@ use Rattle.cast_types.specs.declared.names.SiteNo.{SiteNo}
 use Rattle.cast_types.specs.declared.refusal.Refusal.TheVariants.{NotOpen, Slow}
 use Rattle.cast_types.specs.Names.{site_eq}
 use Rattle.cast_message.specs.declared.client.Push.{Push}
-use Rattle.cast_message.specs.declared.client.Request.{Request}
 use Rattle.cast_message.specs.declared.client.Command.TheVariants as command
 use Rattle.cast_message.specs.declared.message.Message.{Message}
 use Rattle.cast_message.specs.Replies.{reply_to}
