@@ -5,6 +5,13 @@
 //! domain first (`Lanes`), so that a tenant with many programs has one place at the lock. A
 //! `Trimmer` keeps the trace short. `serve` makes a `LockedTable` and runs the threads. Promised:
 //! every call is safe.
+//!
+//! # What is proved
+//!
+//! - Behind the lock a job is done with the kept table as `Kept::complete` says. Then the trace may
+//!   be trimmed, and nothing else changes: `complete` of `table.rt` (`number`, `done`, `parts`),
+//!   `Trimmer::{trim, cut_many, let_go, served}`.
+//! - At the end the count of the threads is how many events the table took: `LockedTable::end`.
 #![tactic(auto)]
 
 mod daemon;

@@ -1,7 +1,7 @@
 //! The table behind its lock.
 ghost use Rattle.std.specs.Prelude.{◌≡◌, ◌<◌, IfSome};
 ghost use Rattle.cast_pool.specs.Kept.{events_of};
-ghost use Rattle.cast_pool.specs.Served.{IsCompleted};
+ghost use Rattle.cast_daemon.specs.Trimming.{CompletesHere};
 
 use crate::lanes::Lanes;
 use crate::share::{CountShare, SpareCount};
@@ -47,7 +47,8 @@ fn complete<L: Ledger, R: Wait>(
 ) -> Done
     requires { 0 < mine.old.parts }
     ensures number { result.number ≡ job.number }
-    ensures done { IsCompleted job.task may_trim result.outcome mine.old.taken mine.new.taken }
+    ensures done { CompletesHere job.task may_trim result.outcome kept.old kept.new mine.old.taken
+        mine.new.taken }
     ensures parts { mine.new.parts ≡ mine.old.parts }
 {
     let len = payload_len(&job);

@@ -1,5 +1,8 @@
 //! When events leave the trace: when there are many, when their payloads are many bytes, and when a
 //! domain was halted.
+ghost use Rattle.cast_pool.specs.Served.{IsTrimmed};
+ghost use Rattle.cast_daemon.specs.Trimming.{MayTrim};
+
 use cast_events::Event;
 use cast_message::{Body, Command, Request, SiteFrame};
 use cast_pool::{Done, Job, Kept, Task};
@@ -42,7 +45,9 @@ pub fn payload_len(job: &Job) -> u64 {
 }
 
 // Cuts the events off the trace, and gives them to the tape.
-fn cut<L: Ledger, R: Wait>(rt: &R, tape: &Tape, kept: &mut Kept<L>) {
+fn cut<L: Ledger, R: Wait>(rt: &R, tape: &Tape, kept: &mut Kept<L>)
+    ensures { IsTrimmed kept.old kept.new }
+{
     let events = kept.events();
     let entries = kept.cut(tape.room(rt));
     if !entries.is_empty() {
@@ -66,7 +71,9 @@ impl<'a> Trimmer<'a> {
     }
 
     /// Has no event stay in the trace.
-    pub fn trim<L: Ledger, R: Wait>(&self, rt: &R, kept: &mut Kept<L>) {
+    pub fn trim<L: Ledger, R: Wait>(&self, rt: &R, kept: &mut Kept<L>)
+        ensures { IsTrimmed kept.old kept.new }
+    {
         match self.tape {
             Some(tape) => cut(rt, tape, kept),
             None => kept.trim(),
@@ -75,14 +82,18 @@ impl<'a> Trimmer<'a> {
     }
 
     /// Cuts the events off the trace, if they are recorded and there are many.
-    pub fn cut_many<L: Ledger, R: Wait>(&self, rt: &R, kept: &mut Kept<L>) {
+    pub fn cut_many<L: Ledger, R: Wait>(&self, rt: &R, kept: &mut Kept<L>)
+        ensures { MayTrim kept.old kept.new }
+    {
         if self.tape.is_some() && kept.trace_len() >= CUT {
             self.trim(rt, kept);
         }
     }
 
     /// Lets go of what a domain kept that a job halted, if events may be lost.
-    pub fn let_go<L: Ledger>(&self, kept: &mut Kept<L>, done: &Done) {
+    pub fn let_go<L: Ledger>(&self, kept: &mut Kept<L>, done: &Done)
+        ensures { MayTrim kept.old kept.new }
+    {
         if self.may_lose() {
             kept.let_go(done);
         }
@@ -90,7 +101,9 @@ impl<'a> Trimmer<'a> {
 
     /// After a job with so many bytes of payload: no event stays in the trace if there are many, or
     /// many bytes of payloads.
-    pub fn served<L: Ledger, R: Wait>(&self, rt: &R, kept: &mut Kept<L>, len: u64) {
+    pub fn served<L: Ledger, R: Wait>(&self, rt: &R, kept: &mut Kept<L>, len: u64)
+        ensures { MayTrim kept.old kept.new }
+    {
         self.cut_many(rt, kept);
         let held = self.held.load(Ordering::SeqCst).saturating_add(len);
         self.held.store(held, Ordering::SeqCst);
