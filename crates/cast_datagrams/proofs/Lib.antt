@@ -7,4 +7,5 @@ pub mod FromOneMoves
 pub mod FromOneRuns
 pub mod Spelled
 pub mod Datagrams
+pub mod Runs
 pub mod Seals
