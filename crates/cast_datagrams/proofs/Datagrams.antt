@@ -19,6 +19,7 @@ use Rattle.cast_message.specs.declared.site.SiteFrame.{SiteFrame}
 use Rattle.cast_events.specs.declared.config.DomainConfig.{DomainConfig}
 use Rattle.cast_events.specs.declared.event.Event.{Event}
 use Rattle.cast_events.specs.declared.event.Event.TheVariants as event
+use Rattle.cast_frame.specs.Spelled.{IsSpelled}
 use Rattle.cast_frame.specs.Spelling.{spelled_site}
 use Rattle.cast_frame.proofs.Sizes.{spelled_is_read}
 use Rattle.cast_link.specs.Bundles.{BeginsAsBundle, IsUnpacked}
@@ -39,12 +40,12 @@ use Rattle.cast_world.specs.declared.step.Happening.TheVariants.{Local, Sent}
 use Rattle.cast_world.specs.declared.step.Packet.{Packet}
 use Rattle.cast_world.specs.declared.step.Step.{Step}
 use Rattle.cast_sites.specs.Daemons.{DaemonNetwork, TakesEvent, TakesStep, TakesSteps, event_coming, event_taken, hand_tagged}
-use Rattle.cast_sites.specs.Daemons.{in_domain, move_daemon}
+use Rattle.cast_sites.specs.Daemons.{DaemonsReach, in_domain, move_daemon}
 use Rattle.cast_table.specs.declared.table.Table.{Table}
 use Rattle.cast_table.specs.Tables.{domain_eq}
 use Rattle.cast_trust.specs.Laws.{Carries}
 use Rattle.cast_world.proofs.NewsRuns.{tells_lead}
-use Rattle.cast_sites.specs.Laws.{AreToldLawfully, HasConfig, HoldsOfDomains, pushed_in, sites_of}
+use Rattle.cast_sites.specs.Laws.{AgreeOnHomeOf, AreToldLawfully, HasConfig, HoldsOfDomains, pushed_in, sites_of}
 use Rattle.cast_table.proofs.Parts.{same_domain}
 use Rattle.cast_table.specs.Owns.{is_configured}
 use Rattle.cast_sites.proofs.Domains.{domains_agree, domains_are_networks, domains_are_told, domains_deliver_causally}
@@ -53,7 +54,7 @@ use Rattle.cast_datagrams.specs.Datagrams.{opened_wires}
 use Rattle.cast_events.specs.declared.config.DomainConfig.{DomainConfig}
 use Rattle.cast_datagrams.specs.Laws.{DatagramsAgree, DatagramsAreFrames, DatagramsAreTold, DatagramsDeliverCausally, HoldsOverDatagrams}
 use Rattle.cast_datagrams.specs.Laws.{ReceivedFramesWereSent, SentFramesAreSpelled, SpelledFramesAreReceived}
-use Rattle.cast_datagrams.specs.Laws.{WiredFramesAreReceived}
+use Rattle.cast_datagrams.specs.Laws.{AreNumberedFromOne, WiredFramesAreReceived}
 use Rattle.cast_datagrams.specs.Typed.{FitsSent, FitsType, IsByte, IsShort}
 use Rattle.cast_datagrams.proofs.Apart.{spellings_of_types_differ}
 use Rattle.cast_datagrams.proofs.Few.{few_in_every}

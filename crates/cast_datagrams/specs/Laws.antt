@@ -124,7 +124,7 @@ FramesAreDatagrams =
     DaemonsReach sites served steps n →
     AllByRecursion (λ s. IsShort s.0) sites → AreNumberedFromOne sites served →
     ((d : DomainNo) (p : Packet) → Contains n.sent (d, p) →
-        FitsSent (d, p.to, p.frame) × AgreeOnHomeOf sites served d) →
+    FitsSent (d, p.to, p.frame) × AgreeOnHomeOf sites served d) →
     (events : List (SiteNo × Event)) × (m : DatagramNetwork)
     × DatagramsReach sites served events m × (m.daemons ≡ n)
 
