@@ -8,4 +8,6 @@ pub mod FromOneRuns
 pub mod Spelled
 pub mod Datagrams
 pub mod Runs
+pub mod Fits
+pub mod Instances
 pub mod Seals
