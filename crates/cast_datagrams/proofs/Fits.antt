@@ -22,8 +22,8 @@ use Rattle.cast_message.specs.Membership.{Membership, is_members}
 use Rattle.cast_message.specs.Tail.{Tail, is_tail}
 use Rattle.cast_message.specs.Placement.{Placement, is_placement}
 use Rattle.cast_message.specs.KeptIds.{KeptList, Marked, is_kept}
-use Rattle.cast_datagrams.specs.Typed.{FitCounts, FitKept, FitMembers, FitPlaces, FitTimes, FitsBody, FitsClock, FitsEntry, FitsMarked}
-use Rattle.cast_datagrams.specs.Typed.{FitsMessage, FitsNewHolder, FitsProc, FitsSent, FitsTail, FitsType, FitsUid, IsByte, IsShort, IsWord}
+use Rattle.cast_datagrams.specs.Typed.{FitCounts, FitKept, FitMembers, FitPlaces, FitsBody, FitsClock, FitsEntry, FitsMarked}
+use Rattle.cast_datagrams.specs.Typed.{FitsMessage, FitsNewHolder, FitsProc, FitsSent, FitsTail, FitsType, FitsUid, IsShort, IsWord}
 
 -- what a test says of each item
 pub all_pass : {X : Type 0} (P : X → Type 0) (test : X → Bool) → ((x : X) → test x ≡ true → P x) → (xs : List X) →

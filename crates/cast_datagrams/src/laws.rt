@@ -25,8 +25,8 @@ pub fn spellings_of_types_differ()
 /// configurations. So what a wire is given for frames is read, each by its site: nothing that such
 /// a daemon sends is refused as bad.
 ///
-/// Each run over frames is one over datagrams, which comes to the same daemons, if all that was sent
-/// are values of their types, the sites agree on homes, and numbers count from 1 in the
+/// Each run over frames is one over datagrams, which comes to the same daemons, if all that was
+/// sent are values of their types, the sites agree on homes, and numbers count from 1 in the
 /// configurations. So nothing is said of nothing.
 pub fn datagrams_are_frames()
     ensures sent { ReceivedFramesWereSent }
