@@ -19,6 +19,7 @@ use Rattle.cast_message.specs.declared.site.SiteFrame.{SiteFrame}
 use Rattle.cast_events.specs.declared.config.DomainConfig.{DomainConfig}
 use Rattle.cast_events.specs.declared.event.Event.{Event}
 use Rattle.cast_events.specs.declared.event.Event.TheVariants as event
+use Rattle.cast_frame.specs.Spelled.{IsSpelled}
 use Rattle.cast_frame.specs.Spelling.{spelled_site}
 use Rattle.cast_frame.proofs.Sizes.{spelled_is_read}
 use Rattle.cast_link.specs.Bundles.{BeginsAsBundle, IsUnpacked}
@@ -39,12 +40,12 @@ use Rattle.cast_world.specs.declared.step.Happening.TheVariants.{Local, Sent}
 use Rattle.cast_world.specs.declared.step.Packet.{Packet}
 use Rattle.cast_world.specs.declared.step.Step.{Step}
 use Rattle.cast_sites.specs.Daemons.{DaemonNetwork, TakesEvent, TakesStep, TakesSteps, event_coming, event_taken, hand_tagged}
-use Rattle.cast_sites.specs.Daemons.{in_domain, move_daemon}
+use Rattle.cast_sites.specs.Daemons.{DaemonsReach, in_domain, move_daemon}
 use Rattle.cast_table.specs.declared.table.Table.{Table}
 use Rattle.cast_table.specs.Tables.{domain_eq}
 use Rattle.cast_trust.specs.Laws.{Carries}
 use Rattle.cast_world.proofs.NewsRuns.{tells_lead}
-use Rattle.cast_sites.specs.Laws.{AreToldLawfully, HasConfig, HoldsOfDomains, pushed_in, sites_of}
+use Rattle.cast_sites.specs.Laws.{AgreeOnHomeOf, AreToldLawfully, HasConfig, HoldsOfDomains, pushed_in, sites_of}
 use Rattle.cast_table.proofs.Parts.{same_domain}
 use Rattle.cast_table.specs.Owns.{is_configured}
 use Rattle.cast_sites.proofs.Domains.{domains_agree, domains_are_networks, domains_are_told, domains_deliver_causally}
@@ -53,7 +54,7 @@ use Rattle.cast_datagrams.specs.Datagrams.{opened_wires}
 use Rattle.cast_events.specs.declared.config.DomainConfig.{DomainConfig}
 use Rattle.cast_datagrams.specs.Laws.{DatagramsAgree, DatagramsAreFrames, DatagramsAreTold, DatagramsDeliverCausally, HoldsOverDatagrams}
 use Rattle.cast_datagrams.specs.Laws.{ReceivedFramesWereSent, SentFramesAreSpelled, SpelledFramesAreReceived}
-use Rattle.cast_datagrams.specs.Laws.{WiredFramesAreReceived}
+use Rattle.cast_datagrams.specs.Laws.{AreNumberedFromOne, WiredFramesAreReceived}
 use Rattle.cast_datagrams.specs.Typed.{FitsSent, FitsType, IsByte, IsShort}
 use Rattle.cast_datagrams.proofs.Apart.{spellings_of_types_differ}
 use Rattle.cast_datagrams.proofs.Few.{few_in_every}
@@ -465,15 +466,16 @@ served_at sites served d s among =
       },
     )
 
-pub sent_frames_are_spelled : SentFramesAreSpelled
-sent_frames_are_spelled sites served events n d p reach agree numbers at =
-    let run = run_of sites served events n reach in
-    let fits = run.typed d p at in
-    let own =
-    domains_are_networks sites served run.steps n.daemons d (record { tables = reach.tables; new = reach.new; takes = run.takes }) agree in
+-- a frame that steps sent has a spelling, if it is a value of its type
+pub spelled_by_steps : (sites : List SiteNo) (served : SiteNo → List DomainConfig) (steps : List Step) (n : DaemonNetwork) (d : DomainNo)
+    (p : Packet) → DaemonsReach sites served steps n → AllByRecursion (λ (s : SiteNo). IsShort s.0) sites →
+    AgreeOnHomeOf sites served d → AreNumberedFromOne sites served → Contains n.sent (d, p) → IsByte d.0 → FitsType p.frame →
+    IsSpelled d p.from p.frame
+spelled_by_steps sites served steps n d p reach short agree numbers at byte fits =
+    let own = domains_are_networks sites served steps n d reach agree in
     let is = own.2 in
-    let leads = tells_lead own.0 (start (sites_of d served sites) is.config) own.1 (pushed_in d n.daemons) is.reaches.tells in
-    let among : Contains own.1.sent p = subst (λ (l : List Packet). Contains l p) (sym is.sent) (in_own d p n.daemons.sent at) in
+    let leads = tells_lead own.0 (start (sites_of d served sites) is.config) own.1 (pushed_in d n) is.reaches.tells in
+    let among : Contains own.1.sent p = subst (λ (l : List Packet). Contains l p) (sym is.sent) (in_own d p n.sent at) in
     let sent = sent_from_one (sites_of d served sites) is.config own.0 own.1 leads
     (λ a there.
     let c = served_at sites served d a there in
@@ -485,9 +487,16 @@ sent_frames_are_spelled sites served events n d p reach agree numbers at =
     )) p among in
     let home = served_at sites served d p.from sent.0 in
     let one = numbers p.from home.0 home.1.among home.1.listed in
-    is_spelled d p.from p.frame fits.domain fits.from fits.frame
+    is_spelled d p.from p.frame byte (site_fits sites p.from short home.1.among) fits
     (few_in_every (sites_of d served sites) is.config own.0 own.1 leads p among)
     (subst (λ (e : DomainNo). 1 ≤ e.0) home.1.number one.1) one.0 sent.1
+
+pub sent_frames_are_spelled : SentFramesAreSpelled
+sent_frames_are_spelled sites served events n d p reach agree numbers at =
+    let run = run_of sites served events n reach in
+    let fits = run.typed d p at in
+    spelled_by_steps sites served run.steps n.daemons d p (record { tables = reach.tables; new = reach.new; takes = run.takes })
+    reach.numbers agree numbers at fits.domain fits.frame
 
 pub wired_frames_are_received : WiredFramesAreReceived
 wired_frames_are_received sites served events n m s e answers f reach agree numbers at =

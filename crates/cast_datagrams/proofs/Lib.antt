@@ -7,4 +7,7 @@ pub mod FromOneMoves
 pub mod FromOneRuns
 pub mod Spelled
 pub mod Datagrams
+pub mod Runs
+pub mod Fits
+pub mod Instances
 pub mod Seals

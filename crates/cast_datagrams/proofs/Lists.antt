@@ -36,6 +36,11 @@ stays test (y ∷ xs) x (suc k, lt, is) passes =
       | inr there ↦ rw there later
     ]
 
+-- what holds of each item holds of all
+pub all_of_each : {X : Type 0} (P : X → Type 0) (xs : List X) → ((x : X) → Contains xs x → P x) → AllByRecursion P xs
+all_of_each P [] each = tt
+all_of_each P (x ∷ xs) each = (each x (contains_here x xs), all_of_each P xs (λ y at. each y (contains_later y x xs at)))
+
 -- what holds of the first items and of the next one holds of these
 pub one_more : {X : Type 0} (P : X → Type 0) (xs : List X) (i : ℕ) (x : X) → i < length xs → x ≡ get_or xs i x →
     AllByRecursion P (take i xs) → P x → AllByRecursion P (take (i + 1) xs)

@@ -27,7 +27,7 @@ use Rattle.cast_sites.specs.Daemons.{DaemonNetwork, DaemonsReach, event_coming, 
 use Rattle.cast_sites.specs.Laws.{AgreeOnHomeOf, AreToldLawfully, IsNetworkOf, pushed_in}
 use Rattle.cast_datagrams.specs.Datagrams.{DatagramNetwork, DatagramsReach}
 use Rattle.cast_datagrams.specs.Datagrams.{Answers, IsReceived, IsWired}
-use Rattle.cast_datagrams.specs.Typed.{FitsType, IsByte, IsShort}
+use Rattle.cast_datagrams.specs.Typed.{FitsSent, FitsType, IsByte, IsShort}
 
 -- frames that differ are spelled differently, if they are values of their types
 abbrev pub SpellingsOfTypesDiffer : Type 0
@@ -112,6 +112,21 @@ WiredFramesAreReceived =
     DatagramsReach sites served events m → AgreeOnHomeOf sites served f.0 →
     AreNumberedFromOne sites served → Contains answers.wired f →
     IsReceived answers.datagrams f.1 (event.Frame f.0 s f.2)
+
+-- Runs
+
+-- each run over frames is one over datagrams, if all that was sent are values of their types. So no
+-- law of such runs is one of nothing
+abbrev pub FramesAreDatagrams : Type 0
+FramesAreDatagrams =
+    (sites : List SiteNo) (served : SiteNo → List DomainConfig) (steps : List Step)
+    (n : DaemonNetwork) →
+    DaemonsReach sites served steps n →
+    AllByRecursion (λ s. IsShort s.0) sites → AreNumberedFromOne sites served →
+    ((d : DomainNo) (p : Packet) → Contains n.sent (d, p) →
+    FitsSent (d, p.to, p.frame) × AgreeOnHomeOf sites served d) →
+    (events : List (SiteNo × Event)) × (m : DatagramNetwork)
+    × DatagramsReach sites served events m × (m.daemons ≡ n)
 
 -- Seals
 

@@ -1,5 +1,6 @@
 ghost use Rattle.cast_datagrams.specs.Laws.{DatagramsAgree, DatagramsAreFrames, DatagramsAreTold};
-ghost use Rattle.cast_datagrams.specs.Laws.{DatagramsDeliverCausally, ReceivedFramesWereSent};
+ghost use Rattle.cast_datagrams.specs.Laws.{DatagramsDeliverCausally, FramesAreDatagrams};
+ghost use Rattle.cast_datagrams.specs.Laws.{ReceivedFramesWereSent};
 ghost use Rattle.cast_datagrams.specs.Laws.{SendersSealWhatIsSpelled, SentFramesAreSpelled};
 ghost use Rattle.cast_datagrams.specs.Laws.{SpelledFramesAreReceived};
 ghost use Rattle.cast_datagrams.specs.Laws.{SpellingsOfTypesDiffer, WiredFramesAreReceived};
@@ -23,6 +24,10 @@ pub fn spellings_of_types_differ()
 /// that was sent has one, where the numbers of sites, domains and groups count from 1 in the
 /// configurations. So what a wire is given for frames is read, each by its site: nothing that such
 /// a daemon sends is refused as bad.
+///
+/// Each run over frames is one over datagrams, which comes to the same daemons, if all that was
+/// sent are values of their types, the sites agree on homes, and numbers count from 1 in the
+/// configurations. So nothing is said of nothing.
 pub fn datagrams_are_frames()
     ensures sent { ReceivedFramesWereSent }
     ensures networks { DatagramsAreFrames }
@@ -32,6 +37,7 @@ pub fn datagrams_are_frames()
     ensures received { SpelledFramesAreReceived }
     ensures spelled { SentFramesAreSpelled }
     ensures wired { WiredFramesAreReceived }
+    ensures back { FramesAreDatagrams }
 {}
 
 /// Where the keys of two sites seal nothing but frames that the one sent to the other, each network

@@ -15,6 +15,8 @@
 //!   (`received`). Each frame that was sent has a spelling, where the numbers of sites, domains and
 //!   groups count from 1 in the configurations (`spelled`). So nothing that such a daemon sends is
 //!   refused as bad: of what its wire is given, each site reads what was sent to it (`wired`).
+//! - Each run over frames is one over datagrams, if all that was sent are values of their types, so
+//!   nothing is said of nothing: `laws::datagrams_are_frames` (`back`).
 //! - Where the keys of two sites seal nothing but frames that the one sent to the other,
 //!   `cast_trust` needs no other premise on the network of any domain:
 //!   `laws::senders_seal_what_is_spelled`.

@@ -1,4 +1,5 @@
 use Rattle.cast_datagrams.proofs.Datagrams as lemma
+use Rattle.cast_datagrams.proofs.Runs.{frames_are_datagrams}
 use Rattle.cast_datagrams.proofs.laws.datagrams_are_frames.Goals as goal
 
 pub returns : goal.returns
@@ -12,4 +13,5 @@ returns c =
       causal = lemma.datagrams_deliver_causally;
       agree = lemma.datagrams_agree;
       told = lemma.datagrams_are_told;
+      back = frames_are_datagrams;
     }
