@@ -1,8 +1,8 @@
 //! Records: which of their lines are replayed.
 //!
-//! A record is a script in files. A part of it has the configuration of the first file and the first
-//! events, up to a number of them, and not past a place where events are missing; of one domain, or
-//! of all.
+//! A record is a script in files. A part of it has the configuration of the first file and the
+//! first events, up to a number of them, and none past a place where events are missing; of one
+//! domain, or of all.
 //!
 //! # What is proved
 //!

@@ -3,8 +3,8 @@ ghost use Rattle.std.specs.Prelude.{◌≡◌, ◌<◌, ◌≤◌, ◌==◌, byt
 ghost use Rattle.std.specs.List.{after_first, before_first, list_all, position, position_or_len};
 ghost use Rattle.std.specs.Fmt.{decimal};
 ghost use Rattle.cast_record.specs.Lines.{fifth_byte, first_word, is_comment};
-ghost use Rattle.cast_record.specs.Lines.{is_digit, is_domain, is_event, is_for, is_for_all, is_gap};
-ghost use Rattle.cast_record.specs.Lines.{is_gap_rest, is_head, is_space, names, second_word};
+ghost use Rattle.cast_record.specs.Lines.{is_digit, is_domain, is_event, is_for, is_for_all};
+ghost use Rattle.cast_record.specs.Lines.{is_gap, is_gap_rest, is_head, is_space, names, second_word};
 
 use cast_types::DomainNo;
 use itoa::Buffer;
