@@ -4,7 +4,8 @@ ghost use Rattle.std.specs.List.{after_first, before_first, list_all, position, 
 ghost use Rattle.std.specs.Fmt.{decimal};
 ghost use Rattle.cast_record.specs.Lines.{fifth_byte, first_word, is_comment};
 ghost use Rattle.cast_record.specs.Lines.{is_digit, is_domain, is_event, is_for, is_for_all};
-ghost use Rattle.cast_record.specs.Lines.{is_gap, is_gap_rest, is_head, is_space, names, second_word};
+ghost use Rattle.cast_record.specs.Lines.{is_gap, is_gap_rest, is_head, is_space, names};
+ghost use Rattle.cast_record.specs.Lines.{second_word};
 
 use cast_types::DomainNo;
 use itoa::Buffer;
