@@ -1,7 +1,7 @@
 //! The replay of a script: from the bytes of its file to the text of its log and the exit status.
 //!
-//! A record is replayed as the script that its files are (`replay_part`); which lines these are is
-//! not promised.
+//! A record is replayed as the script that its files are (`replay_part`), of which `cast_record`
+//! joins the lines.
 //!
 //! # What is proved
 //!
@@ -16,6 +16,7 @@ mod record;
 mod run;
 
 pub use cast_isolation::{Unwatched, Watch};
+pub use cast_record::Part;
 pub use meter::{Meter, is_on_terminal};
-pub use record::{Part, replay_part};
+pub use record::replay_part;
 pub use run::{RunFault, complain, no_memory, printed_log, replay_file, replay_read, run_script};

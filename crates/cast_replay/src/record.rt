@@ -2,160 +2,12 @@
 use crate::meter::Meter;
 use crate::run::{replay_file, replay_read, say_gap};
 use cast_device::{Watched, tell};
-use cast_types::{DomainNo, NoMemory};
+use cast_record::{Joined, Part};
+use cast_types::NoMemory;
 use std::alloc::Global;
 use std::io::Write;
 use std::rt::{Clock, Files};
 use std::{fs, io};
-
-/// What of a record is replayed.
-#[derive(Clone, Copy, Debug, PartialEq, Eq)]
-pub struct Part {
-    /// The first events, so many of them at most.
-    pub until: u64,
-    /// Those of one domain, with the ticks; of all domains if none is named.
-    pub domain: Option<DomainNo>,
-}
-
-impl Part {
-    /// All events.
-    pub const WHOLE: Part = Part {
-        until: u64::MAX,
-        domain: None,
-    };
-}
-
-// The lines of a record that are replayed.
-#[derive(Drop)]
-struct Joined {
-    text: Vec<u8>,
-    part: Part,
-    // How many events stand before the next line, of all domains.
-    events: u64,
-    // There is a domain in it.
-    has_domain: bool,
-    // Nothing more is replayed.
-    is_over: bool,
-    // Events are missing behind the text.
-    has_gap: bool,
-}
-
-// Where the number of its domain stands in the line of a frame.
-const FRAME: usize = "frame 4344010a".len();
-
-// The number of the domain that the line of a frame names.
-fn domain_of_frame(line: &[u8]) -> Option<u8> {
-    let digits = line.get(FRAME..FRAME + 2)?;
-    let digits = str::from_utf8(digits).ok()?;
-    u8::from_str_radix(digits, 16).ok()
-}
-
-// The second word of a line as a number.
-fn number_of(line: &[u8]) -> Option<u8> {
-    let word = line.split(|byte| *byte == b' ').nth(1)?;
-    let word = str::from_utf8(word).ok()?;
-    word.parse().ok()
-}
-
-// Whether a line is of the configuration.
-fn is_head(line: &[u8]) -> bool {
-    line.starts_with(b"site ".as_slice()) || line.starts_with(b"domain ".as_slice())
-}
-
-// Whether a line says that events are missing, as in `# gap 12 events`.
-fn is_gap(line: &[u8]) -> bool {
-    match line.strip_prefix(b"# gap ".as_slice()) {
-        Some(rest) => match rest.strip_suffix(b" events".as_slice()) {
-            Some(number) => number.iter().all(|byte| byte.is_ascii_digit()),
-            None => false,
-        },
-        None => false,
-    }
-}
-
-// Whether a line says nothing to a replay.
-fn is_comment(line: &[u8]) -> bool {
-    line.is_empty() || line.starts_with(b"#".as_slice())
-}
-
-// Whether a line that is no comment is for the site or for all domains, or names this domain.
-fn concerns(line: &[u8], domain: DomainNo) -> bool {
-    if line.starts_with(b"site ".as_slice()) || line.starts_with(b"tick ".as_slice()) {
-        return true;
-    }
-    let named = if line.starts_with(b"frame ".as_slice()) {
-        domain_of_frame(line)
-    } else {
-        number_of(line)
-    };
-    named == Some(domain.0)
-}
-
-impl Joined {
-    // No lines yet.
-    fn new(alloc: Global, part: Part) -> Self {
-        Joined {
-            text: Vec::new(alloc),
-            part,
-            events: 0,
-            has_domain: false,
-            is_over: false,
-            has_gap: false,
-        }
-    }
-
-    // Whether a line is of the part. The lines of the configuration are those of the first file.
-    fn takes(&mut self, line: &[u8], is_first: bool) -> bool {
-        if self.is_over || (is_head(line) && !is_first) {
-            return false;
-        }
-        if is_gap(line) {
-            self.has_gap = true;
-            self.is_over = true;
-        }
-        if is_comment(line) {
-            return false;
-        }
-        if !is_head(line) {
-            if self.events >= self.part.until {
-                self.is_over = true;
-                return false;
-            }
-            self.events = self.events.saturating_add(1);
-        }
-        match self.part.domain {
-            Some(domain) => concerns(line, domain),
-            None => true,
-        }
-    }
-
-    // Adds a line where it is of the part. An empty line stands for one that is not, so that lines
-    // keep their numbers in the first file.
-    fn add(&mut self, line: &[u8], is_first: bool) -> Result<(), NoMemory> {
-        if self.takes(line, is_first) {
-            self.has_domain = self.has_domain || line.starts_with(b"domain ".as_slice());
-            self.text.extend_from_slice(line)?;
-        }
-        self.text.push(b'\n')?;
-        Ok(())
-    }
-
-    // Adds the lines of a file. What stands behind the last line feed of a file of a folder was cut
-    // off as it was written, and is left out.
-    fn add_file(&mut self, bytes: &[u8], is_first: bool, is_whole: bool) -> Result<(), NoMemory> {
-        let mut last: Option<&[u8]> = None;
-        for line in bytes.split(|byte| *byte == b'\n') {
-            if let Some(before) = last {
-                self.add(before, is_first)?;
-            }
-            last = Some(line);
-        }
-        match last {
-            Some(line) if is_whole => self.add(line, is_first),
-            _ => Ok(()),
-        }
-    }
-}
 
 // The name of a file of a record in a folder.
 fn name_of(alloc: Global, site: &str, number: usize) -> Result<String, NoMemory> {
@@ -210,7 +62,7 @@ fn join_folder<R: Files + Clock + AllocGlobal + Clone + Drop, T: Write>(
         let bytes = fs::read(rt, path.as_str())?;
         meter.read(bytes.len());
         joined.add_file(bytes.as_slice(), number == 1, false)?;
-        if joined.is_over {
+        if joined.progress.is_over {
             break;
         }
     }
@@ -270,8 +122,8 @@ pub fn replay_part<R: Files + Clock + AllocGlobal + Clone + Drop, O: Write, E: W
         }
         Ok(joined) => {
             let status = replay_read(rt.alloc(), name, Ok(joined.text), meter, out, err);
-            if joined.has_gap {
-                say_gap(joined.events, err);
+            if joined.progress.has_gap {
+                say_gap(joined.progress.events, err);
             }
             status
         }

@@ -1,0 +1,6 @@
+mod Places
+mod Progresses
+mod Joins
+mod Files
+mod Selections
+mod Apart
