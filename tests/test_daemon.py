@@ -303,10 +303,10 @@ class Sockets(DaemonCase):
 class Floods(DaemonCase):
     """What bench/tenants measures, at one flood."""
 
-    PROGRAMS, SECONDS, TRIES = 16, 3.0, 3
+    PROGRAMS, SECONDS, TRIES = 16, 3.0, 5
 
     def test_a_tenant_with_many_programs_has_one_place_at_the_table(self):
-        flooded = {"number": 1, "socket": "1.sock", "held": 1_024, "outbox": 4_096}
+        flooded = {"number": 1, "socket": "1.sock", "sessions": 64, "held": 1_024, "outbox": 4_096}
         self.serving(self.setup_of(1, flooded, {"number": 2, "socket": "2.sock"}))
         self.flood = compiled(self.folder, "flood", "flood.c", "../clients/c/castd.c")
         other = Program(f"{self.setup.site_folder(1)}/2.sock")
