@@ -16,7 +16,6 @@ from harness import (
     PATIENCE,
     PORT,
     Case,
-    Failed,
     Setup,
     castd,
     change_plan,
@@ -31,8 +30,9 @@ from harness import (
 SILENCE = 2.0
 # How long in a test in which no site is to be put out, however slow the machine is.
 LONG_SILENCE = 10.0
-# So many casts a program says in a row while keys change.
-BURST = 20
+# So many casts a program says in a row while keys change. In all they are fewer than may follow one that is kept, so that none waits
+# for the pace, however slow the machine is.
+BURST = 3
 INCARNATION, NEXT_INCARNATION = "0123456789abcdef", "fedcba9876543210"
 NUMBER, NONE = "0011223344556677", "-"
 
@@ -155,6 +155,18 @@ class Sites(Case):
 
     def suspected(self) -> str:
         return self.keepers[1].ask("suspected")
+
+    def delivered(self) -> dict[int, int]:
+        """How many casts the program of each site was pushed so far: a thread of each counts them until its session is over."""
+        counts = dict.fromkeys(self.numbers, 0)
+
+        def read_on(site: int) -> None:
+            for push in self.programs[site]:
+                counts[site] += isinstance(push, castd.Deliver)
+
+        for site in self.numbers:
+            threading.Thread(target=read_on, args=(site,), daemon=True).start()
+        return counts
 
     def lose(self, site: int) -> None:
         """The keeper of a site is killed, and its daemon with it."""
@@ -326,31 +338,18 @@ class Sealing(Sites):
 
     def test_keys_change_while_programs_cast(self):
         self.start(3, sealed=(1, 2, 3), silence=LONG_SILENCE)
-        delivered = dict.fromkeys(self.numbers, 0)
-
-        def have_heard(count: int) -> bool:
-            """Whether all programs were pushed so many casts. What they have to send goes out meanwhile."""
-            for site, program in self.programs.items():
-                try:
-                    while push := program.read(0.01):
-                        delivered[site] += isinstance(push, castd.Deliver)
-                except castd.Ended as ended:
-                    raise Failed(f"the session at site {site} is over; put out: {self.suspected() or 'none'}") from ended
-            return set(delivered.values()) == {count}
-
-        count = 0
+        delivered, count = self.delivered(), 0
         for numbers in ((1, 2), (2, 1), (2,)):
             for changed in self.numbers:
                 for program in self.programs.values():
                     for _ in range(BURST):
                         program.send(castd.Cast(1, castd.CAUSAL, b"x"))
                 count += BURST * len(self.programs)
-                have_heard(count)
                 keys_of(self.setup, changed, *numbers)
                 self.assertEqual(self.keepers[changed].castctl("keys"), (0, "ok\n"))
             for watch in self.watches.values():
                 watch.wait_for_lines(".keys: taken")
-        wait_until(lambda: have_heard(count), "each cast is delivered everywhere")
+            wait_until(lambda: set(delivered.values()) == {count}, "each cast is delivered everywhere")
         for keeper in self.keepers.values():
             self.assertIn("undecoded 0", keeper.ask("datagrams"))
         self.assertEqual(self.suspected(), "")
@@ -361,8 +360,7 @@ class Sealing(Sites):
             told = f"keys: {path}: not a plain file that only its user can use\n"
             self.assertEqual(self.keepers[1].castctl("keys"), (1, told))
             self.programs[1].cast(1, b"y", PATIENCE)
-            for program in self.programs.values():
-                wait_for_push(program, lambda push: isinstance(push, castd.Deliver))
+            wait_until(lambda: set(delivered.values()) == {count + 1}, "the cast is delivered everywhere")
             self.assertIn("undecoded 0", self.keepers[1].ask("datagrams"))
 
     def test_keys_that_are_missing_are_named(self):
