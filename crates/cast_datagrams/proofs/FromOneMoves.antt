@@ -6,7 +6,7 @@ use Rattle.std.proofs.lemmas.List.Elements.{Contains-append_cases, Contains-push
 use Rattle.std.specs.FinMap.Entries.{put}
 use Rattle.std.specs.List.{list_any}
 use Rattle.std.specs.Prelude.{◌&&◌, ◌||◌, ◌+◌, ◌++◌, ◌==◌, Bool, Contains, List, None, Option, Some, [], false, filter, if◌then◌else◌}
-use Rattle.std.specs.Prelude.{is_some, map, not, refl, true, unwrap_or, ℕ, ◌∷◌, ◌≡◌, ◌≤◌}
+use Rattle.std.specs.Prelude.{map, not, refl, true, unwrap_or, ℕ, ◌∷◌, ◌≡◌, ◌≤◌}
 use Rattle.cast_clock.specs.Times.{entering, join, view_of}
 use Rattle.cast_events.specs.declared.config.DomainConfig.{DomainConfig}
 use Rattle.cast_events.specs.declared.event.Event.{Event}
@@ -35,6 +35,7 @@ use Rattle.cast_rules.specs.Rules.Owing.{wanted_view}
 use Rattle.cast_rules.specs.Run.{IsStep, after_event, before_event}
 use Rattle.cast_rules.specs.State.{State, abcasts_with, emit, is_ended, is_group, local, noting_sent, receiving, releasing}
 use Rattle.cast_rules.specs.State.{opening, releasing_ended, set_group, with_delivery}
+use Rattle.cast_table.proofs.Places.{none_some}
 use Rattle.cast_timer.specs.Owed.{is_of_view, key_eq, kind_rank, owed_cmp, paid, with_owed}
 use Rattle.cast_timer.specs.declared.key.Owed.{Owed}
 use Rattle.cast_timer.specs.declared.key.OwedKey.{OwedKey}
@@ -1127,9 +1128,6 @@ step_from_one s e answer t rest came is =
     )
 
 -- before the first event
-none_some : {X : Type 0} (x : X) → ◌≡◌ {A = Option X} None (Some x) → ⊥
-none_some x e = false≢true (ap is_some e)
-
 pub opening_from_one : (here : SiteNo) (config : DomainConfig) → 1 ≤ here.0 → Each (λ (g : GroupNo). 1 ≤ g.0) config.groups →
     RestFromOne (opening here config)
 opening_from_one here config up named = record {

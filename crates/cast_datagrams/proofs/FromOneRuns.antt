@@ -3,7 +3,7 @@ use Rattle.std.proofs.Common.{ap, arith, inl, inr, subst, sym}
 use Rattle.std.proofs.lemmas.Bool.{and_parts, false≢true}
 use Rattle.std.proofs.lemmas.List.Elements.{Contains-append_cases}
 use Rattle.std.specs.Prelude.{◌&&◌, Bool, Contains, List, None, Option, Some, [], false, if◌then◌else◌, is_some, refl}
-use Rattle.std.specs.Prelude.{slice_get, suc, true, unwrap_or, zero, ℕ, ◌∷◌, ◌≡◌, ◌≤◌}
+use Rattle.std.specs.Prelude.{slice_get, true, ◌∷◌, ◌≡◌, ◌≤◌}
 use Rattle.cast_events.specs.declared.config.DomainConfig.{DomainConfig}
 use Rattle.cast_events.specs.declared.event.Event.{Event}
 use Rattle.cast_events.specs.declared.event.Event.TheVariants as event
@@ -13,6 +13,7 @@ use Rattle.cast_types.specs.declared.names.DomainNo.{DomainNo}
 use Rattle.cast_types.specs.declared.names.GroupNo.{GroupNo}
 use Rattle.cast_types.specs.declared.names.SiteNo.{SiteNo}
 use Rattle.cast_world.proofs.Events.{HasCome}
+use Rattle.cast_world.proofs.Runs.{got_there, some_is}
 use Rattle.cast_world.specs.Network.{Becomes, Happens, Leads, Network, event_at, hand_frame, is_local, names, start}
 use Rattle.cast_world.specs.declared.step.Happening.{Happening}
 use Rattle.cast_world.specs.declared.step.Happening.TheVariants as happen
@@ -37,14 +38,6 @@ local_comes (event.Quota d name value) is = tt
 local_comes (event.Take d n most) is = tt
 local_comes (event.Tick t) is = tt
 
-some_is : (e made : Event) → Some e ≡ Some made → e ≡ made
-some_is e made is = ap (λ (o : Option Event). unwrap_or o e) is
-
-found_at : (ps : List Packet) (k : ℕ) (p : Packet) → slice_get ps k ≡ Some p → Contains ps p
-found_at [] k p is = absurd (false≢true (ap is_some is))
-found_at (q ∷ ps) zero p is = (0, omega arith, ap (λ (o : Option Packet). unwrap_or o q) is)
-found_at (q ∷ ps) (suc k) p is = let later = found_at ps k p is in (suc later.0, omega (arith, later.1), later.2)
-
 handed_comes : (w : Network) (d : DomainNo) (a : SiteNo) (o : Option Packet) → ((p : Packet) → o ≡ Some p → FrameFromOne p.frame) →
     (made : Event) → hand_frame d a o ≡ Some made → HasCome Came made
 handed_comes w d a None all made is = absurd (false≢true (ap is_some is))
@@ -62,7 +55,7 @@ event_comes w a all (happen.Local e) made is = go (is_local e && names (w.at a).
     go true both_are same = subst (HasCome Came) (some_is e made same) (local_comes e (and_parts (is_local e) _ both_are).0)
     go false both_are same = absurd (false≢true (ap is_some same))
 event_comes w a all (happen.Sent k) made is =
-    handed_comes w (w.at a).config.domain a (slice_get w.sent k) (λ p e. all p (found_at w.sent k p e)) made is
+    handed_comes w (w.at a).config.domain a (slice_get w.sent k) (λ p e. all p (got_there w.sent k p e)) made is
 
 -- Every run
 
