@@ -20,8 +20,6 @@ enum Row {
     Casts(u16, u16),
     // It casts in a group, to be delivered in one order by all.
     Abcasts(u16, u16),
-    // It hands the token of a group over to the first program of another site.
-    Passes(u16, u16, u16),
     // A site, the first, is told that another may be lost.
     Suspects(u16, u16),
     // A frame comes to a site.
@@ -69,17 +67,6 @@ fn casts(site: u16, group: u16, kind: CastKind) -> Step {
     )
 }
 
-fn passes(site: u16, group: u16, to: u16) -> Step {
-    asks(
-        site,
-        Request::Pass {
-            tag: 9,
-            group: GroupNo(group),
-            to: process(to),
-        },
-    )
-}
-
 fn comes(site: u16, number: usize) -> Step {
     Step {
         site: SiteNo(site),
@@ -108,7 +95,6 @@ fn add(steps: &mut Vec<Step>, sites: &[u16], row: Row) -> Result<(), NoMemory> {
         Row::Joins(site, group) => joins(site, group),
         Row::Casts(site, group) => casts(site, group, CastKind::Causal),
         Row::Abcasts(site, group) => casts(site, group, CastKind::Atomic),
-        Row::Passes(site, group, to) => passes(site, group, to),
         Row::Suspects(site, lost) => local(site, Event::Suspect(DOMAIN, SiteNo(lost))),
         Row::Comes(site, number) => comes(site, number),
         Row::Come(from, to) => return add_frames(steps, sites, from, to),
@@ -250,213 +236,38 @@ fn a_message_waits_for_one_of_another_group(rt: HostRuntime) -> Result<(), Fail>
     )
 }
 
-// All are in one view. 3.1 casts, which reaches site 2 alone, and once more, which reaches site 1
-// alone, and is suspected: the first belongs to the view that ends, and the second does not, at
-// both sites that pass to the next view.
+// 2.1 holds the order of the view of all three. 1.1 and 3.1 cast; both casts come to site 2, that
+// of 3.1 first, and 2.1 tells their order by its two messages, which reach site 3 alone. Then the
+// holder is lost. 1.1, which knew nothing of the order and had its own cast first, delivers both in
+// that order, as 3.1 does. The holder's second message was delivered at no site that reports.
 #[test]
-fn a_view_ends_with_what_some_site_received_in_order(rt: HostRuntime) -> Result<(), Fail> {
+fn a_lost_holder_leaves_its_order(rt: HostRuntime) -> Result<(), Fail> {
     leads(
         rt.alloc(),
         &[1, 2, 3],
         &[1],
         &[
-            Row::Opens(1),
-            Row::Joins(1, 1),
-            Row::Come(0, 4),
             Row::Opens(2),
             Row::Joins(2, 1),
+            Row::Come(0, 4),
+            Row::Opens(1),
+            Row::Joins(1, 1),
             Row::Come(4, 12),
             Row::Opens(3),
             Row::Joins(3, 1),
             Row::Come(12, 24),
-            Row::Casts(3, 1),
-            Row::Casts(3, 1),
-            Row::Comes(2, 25),
-            Row::Comes(1, 26),
-            Row::Suspects(1, 3),
-            Row::Come(28, 42),
+            Row::Abcasts(1, 1),
+            Row::Abcasts(3, 1),
+            Row::Comes(2, 27),
+            Row::Comes(2, 24),
+            Row::Comes(3, 30),
+            Row::Comes(3, 33),
+            Row::Suspects(1, 2),
+            Row::Come(36, 60),
         ],
-        &[(1, &[(1, 3, 3, 1)]), (2, &[(1, 3, 3, 1)])],
-    )
-}
-
-// 3.1 asks to join group 1, and 1.1 is in the new view before 3.1 is told. 1.1 casts in group 1 and
-// then in group 2, and the second cast comes first.
-#[test]
-fn a_joining_process_waits_for_the_view_that_it_will_enter(rt: HostRuntime) -> Result<(), Fail> {
-    leads(
-        rt.alloc(),
-        &[1, 3],
-        &[1, 2],
-        &[
-            Row::Opens(1),
-            Row::Joins(1, 1),
-            Row::Come(0, 4),
-            Row::Joins(1, 2),
-            Row::Come(4, 8),
-            Row::Opens(3),
-            Row::Joins(3, 2),
-            Row::Come(8, 16),
-            Row::Joins(3, 1),
-            Row::Comes(1, 16),
-            Row::Comes(1, 18),
-            Row::Comes(1, 19),
-            Row::Comes(1, 20),
-            Row::Casts(1, 1),
-            Row::Casts(1, 2),
-            Row::Comes(3, 24),
-            Row::Comes(3, 23),
-            Row::Comes(3, 21),
-            Row::Comes(3, 23),
-        ],
-        &[(3, &[(1, 2, 1, 1), (2, 2, 1, 1)])],
-    )
-}
-
-// 2.1 holds the order of the view of all three. 1.1 and 3.1 cast; both casts come to site 2, that
-// of 3.1 first, and 2.1 tells their order by its two messages, which reach site 3 alone.
-const HOLDER_TELLS: [Row; 15] = [
-    Row::Opens(2),
-    Row::Joins(2, 1),
-    Row::Come(0, 4),
-    Row::Opens(1),
-    Row::Joins(1, 1),
-    Row::Come(4, 12),
-    Row::Opens(3),
-    Row::Joins(3, 1),
-    Row::Come(12, 24),
-    Row::Abcasts(1, 1),
-    Row::Abcasts(3, 1),
-    Row::Comes(2, 27),
-    Row::Comes(2, 24),
-    Row::Comes(3, 30),
-    Row::Comes(3, 33),
-];
-
-// What each member has delivered is a prefix of what the holder has: none, one, and both.
-#[test]
-fn members_deliver_the_first_of_the_order(rt: HostRuntime) -> Result<(), Fail> {
-    leads(
-        rt.alloc(),
-        &[1, 2, 3],
-        &[1],
-        &HOLDER_TELLS,
-        &[
-            (1, &[]),
-            (2, &[(1, 3, 3, 1), (1, 3, 2, 1), (1, 3, 1, 1), (1, 3, 2, 2)]),
-            (3, &[(1, 3, 3, 1), (1, 3, 2, 1)]),
-        ],
-    )
-}
-
-fn holder_is_lost(alloc: Global) -> Result<Vec<Row>, NoMemory> {
-    let mut rows = HOLDER_TELLS.to_vec(alloc)?;
-    rows.push(Row::Suspects(1, 2))?;
-    rows.push(Row::Come(36, 60))?;
-    Ok(rows)
-}
-
-// Then the holder is lost. 1.1, which knew nothing of the order and had its own cast first,
-// delivers both in that order, as 3.1 does. The holder's second message was delivered at no site
-// that reports.
-#[test]
-fn a_lost_holder_leaves_its_order(rt: HostRuntime) -> Result<(), Fail> {
-    let rows = holder_is_lost(rt.alloc())?;
-    leads(
-        rt.alloc(),
-        &[1, 2, 3],
-        &[1],
-        &rows,
         &[
             (1, &[(1, 3, 3, 1), (1, 3, 1, 1), (1, 3, 2, 1)]),
             (3, &[(1, 3, 3, 1), (1, 3, 2, 1), (1, 3, 1, 1)]),
-        ],
-    )
-}
-
-// 1.1 and 2.1 are in one view. 1.1 hands the token over and casts, and its cast has no place before
-// 2.1 gives it one.
-#[test]
-fn who_handed_the_token_over_waits_for_the_order(rt: HostRuntime) -> Result<(), Fail> {
-    leads(
-        rt.alloc(),
-        &[1, 2],
-        &[1],
-        &[
-            Row::Opens(1),
-            Row::Joins(1, 1),
-            Row::Come(0, 4),
-            Row::Opens(2),
-            Row::Joins(2, 1),
-            Row::Come(4, 12),
-            Row::Passes(1, 1, 2),
-            Row::Abcasts(1, 1),
-            Row::Comes(2, 12),
-            Row::Comes(2, 13),
-            Row::Comes(1, 16),
-        ],
-        &[
-            (1, &[(1, 2, 1, 1), (1, 2, 1, 2), (1, 2, 2, 1)]),
-            (2, &[(1, 2, 1, 1), (1, 2, 1, 2), (1, 2, 2, 1)]),
-        ],
-    )
-}
-
-// 2.1 delivers the hand-over, and orders its own cast at once.
-#[test]
-fn who_takes_the_token_over_orders_its_own_cast(rt: HostRuntime) -> Result<(), Fail> {
-    leads(
-        rt.alloc(),
-        &[1, 2],
-        &[1],
-        &[
-            Row::Opens(1),
-            Row::Joins(1, 1),
-            Row::Come(0, 4),
-            Row::Opens(2),
-            Row::Joins(2, 1),
-            Row::Come(4, 12),
-            Row::Passes(2, 1, 1),
-            Row::Passes(1, 1, 2),
-            Row::Comes(2, 12),
-            Row::Abcasts(2, 1),
-        ],
-        &[
-            (1, &[(1, 2, 1, 1)]),
-            (2, &[(1, 2, 1, 1), (1, 2, 2, 1), (1, 2, 2, 2)]),
-        ],
-    )
-}
-
-// 1.1 hands the token over to 2.1, which casts and sets the place of its cast. Site 1 receives the
-// cast alone, and the flush of the view brings the place: both that pass to the next view delivered
-// the same.
-#[test]
-fn a_flush_brings_the_order_of_who_took_the_token_over(rt: HostRuntime) -> Result<(), Fail> {
-    leads(
-        rt.alloc(),
-        &[1, 2, 3],
-        &[1],
-        &[
-            Row::Opens(1),
-            Row::Joins(1, 1),
-            Row::Come(0, 4),
-            Row::Opens(2),
-            Row::Joins(2, 1),
-            Row::Come(4, 12),
-            Row::Opens(3),
-            Row::Joins(3, 1),
-            Row::Come(12, 24),
-            Row::Passes(1, 1, 2),
-            Row::Comes(2, 24),
-            Row::Abcasts(2, 1),
-            Row::Comes(1, 27),
-            Row::Suspects(1, 3),
-            Row::Come(32, 60),
-        ],
-        &[
-            (1, &[(1, 3, 1, 1), (1, 3, 2, 1), (1, 3, 2, 2)]),
-            (2, &[(1, 3, 1, 1), (1, 3, 2, 1), (1, 3, 2, 2)]),
         ],
     )
 }
