@@ -10,7 +10,7 @@ import socket
 import subprocess
 import time
 
-from harness import PATIENCE, TOOLS, Case, Client, castctl, castd, wait_for_push
+from harness import PATIENCE, PROGRAM, TOOLS, Case, Client, castctl, castd, wait_for_push
 
 DEBIAN_PYTHON = "/usr/bin/python3"
 
@@ -98,10 +98,114 @@ class Statuses(Case):
             self.assertEqual((ran.returncode, ran.stderr), (0, ""))
             self.assertIn(f"usage: {name} ", ran.stdout)
 
+    def test_tools_have_the_version_of_the_daemon(self):
+        version = subprocess.run([PROGRAM, "--version"], capture_output=True, text=True).stdout.split()[1]
+        for name in ("castctl", "castd-conf", "castd-keeper", "castd-watch"):
+            with self.subTest(name):
+                ran = subprocess.run([str(TOOLS / name), "--version"], capture_output=True, text=True)
+                self.assertEqual((ran.returncode, ran.stdout), (0, f"{name} {version}\n"))
+
     def test_help_tells_the_statuses(self):
         ran = castctl("--help")
         self.assertEqual(ran.returncode, 0)
-        self.assertIn("the keeper cannot be reached", ran.stdout)
+        self.assertIn("a keeper cannot be reached", ran.stdout)
+
+
+class Values(Case):
+    """What castctl prints with --json."""
+
+    def values(self, *words: str) -> tuple[int, object]:
+        """The exit status, and what is printed."""
+        ran = castctl("--json", *words)
+        return ran.returncode, json.loads(ran.stdout)
+
+    def test_they_have_names(self):
+        setup = self.setup_of()
+        answers = {
+            "domains": ["domain 1 running", "domain 7 halted"],
+            "show 1": ["domain 1 sessions 2 held 3 casts 4 moment 5"],
+            "groups 1": [
+                "group 1 view 0 none",
+                "group 2 view 9 holder 1.2 members 1.2 2.1 open",
+                "group 3 view 1 holder 2.1 members 2.1 frozen",
+            ],
+            "trace": ["events 6 kept 7"],
+            "datagrams": [DATAGRAMS],
+            "record": ["record running waiting 9 lost 0"],
+            "keys": ["keys: no file"],
+        }
+        keeper = self.stand_in(setup, answers=answers)
+        for line, expected in (
+            ("domains", [{"domain": 1, "running": True}, {"domain": 7, "running": False}]),
+            ("show 1", [{"domain": 1, "sessions": 2, "held": 3, "casts": 4, "moment": 5}]),
+            (
+                "groups 1",
+                [
+                    {"group": 1, "view": 0, "holder": None, "members": [], "frozen": False},
+                    {"group": 2, "view": 9, "holder": "1.2", "members": ["1.2", "2.1"], "frozen": False},
+                    {"group": 3, "view": 1, "holder": "2.1", "members": ["2.1"], "frozen": True},
+                ],
+            ),
+            ("trace", [{"events": 6, "kept": 7}]),
+            ("datagrams", [{"sent": 5, "received": 6, "lost": 7, "undecoded": 8}]),
+            ("record", [{"record": "running", "waiting": 9, "lost": 0}]),
+        ):
+            with self.subTest(line):
+                told = self.values("--socket", keeper.control, line)
+                self.assertEqual(told, (0, {"done": True, "answer": expected}))
+        refused = {"done": False, "answer": [{"line": "keys: no file"}]}
+        self.assertEqual(self.values("--socket", keeper.control, "keys"), (1, refused))
+
+    def test_lines_of_another_form_stay_lines(self):
+        lines = ["group x view 1 none", "group 1", "domain 1 running fast", "record", "suspected 1", "events", "fine"]
+        keeper = self.stand_in(self.setup_of(), answers={"domains": lines})
+        told = self.values("--socket", keeper.control, "domains")
+        self.assertEqual(told, (0, {"done": True, "answer": [{"line": line} for line in lines]}))
+
+
+class All(Case):
+    """castctl --all: each site that runs on this host."""
+
+    def all(self, setup, *words: str):
+        return castctl("--all", setup.config, "--socket", f"{setup.folder}/site-{{site}}/control", *words)
+
+    def test_each_site_that_runs_is_asked(self):
+        setup = self.setup_of(3)
+        for site in (1, 3):
+            self.stand_in(setup, site, answers={"show 1": [f"domain 1 sessions {site}"], "record": ["record off"]})
+        ran = self.all(setup, "show", "1")
+        expected = (0, "1: domain 1 sessions 1\n3: domain 1 sessions 3\n", "")
+        self.assertEqual((ran.returncode, ran.stdout, ran.stderr), expected)
+        ran = self.all(setup, "--json", "record")
+        answer = {"done": True, "answer": [{"record": "off"}]}
+        self.assertEqual(json.loads(ran.stdout), [{"site": 1, **answer}, {"site": 3, **answer}])
+
+    def test_the_worst_is_the_status(self):
+        setup = self.setup_of(3)
+        self.stand_in(setup, 1, answers={"show 1": ["no domain"]})
+        killed = self.stand_in(setup, 2)
+        killed.process.kill()
+        killed.process.wait()
+        ran = self.all(setup, "show", "1")
+        path = setup.control(2)
+        self.assertEqual((ran.returncode, ran.stdout), (3, "1: no domain\n"))
+        self.assertEqual(ran.stderr, f"castctl: {path}: Connection refused\n")
+        ran = self.all(setup, "--json", "show", "1")
+        self.assertEqual(json.loads(ran.stdout)[1], {"site": 2, "problem": f"{path}: Connection refused"})
+        os.unlink(path)
+        ran = self.all(setup, "show", "1")
+        self.assertEqual((ran.returncode, ran.stderr), (1, ""))
+
+    def test_where_none_runs_it_says_so(self):
+        setup = self.setup_of(2)
+        ran = self.all(setup, "domains")
+        self.assertEqual((ran.returncode, ran.stdout), (3, ""))
+        self.assertIn(f"no site runs on this host: there is no {setup.folder}/site-{{site}}/control", ran.stderr)
+        ran = castctl("--all", f"{setup.folder}/none", "domains")
+        self.assertEqual((ran.returncode, ran.stdout), (6, ""))
+        self.assertIn("No such file", ran.stderr)
+        ran = castctl("--all", setup.config, "--socket", "/tmp/control", "domains")
+        self.assertEqual((ran.returncode, ran.stdout), (2, ""))
 
 
 class Metrics(Case):

@@ -9,7 +9,7 @@ import sys
 import textwrap
 from collections.abc import Coroutine
 
-from castd_tools import control
+from castd_tools import VERSION, control
 from castd_tools.configuration import MOST_SITE_NUMBER, Configuration, ConfigurationError, read
 from castd_tools.statuses import CONFIGURATION
 
@@ -37,6 +37,7 @@ class Tool:
             epilog=f"exit status:\n{told}",
             formatter_class=argparse.RawDescriptionHelpFormatter,
         )
+        self.parser.add_argument("--version", action="version", version=f"{name} {VERSION}", help="print the version and end")
 
     def complain(self, *lines: str) -> None:
         for line in lines:

@@ -41,8 +41,9 @@ class NoKeeper(ControlError):
     """The keeper cannot be reached, or ends before it has answered."""
 
 
-def path_of(site: int) -> str:
-    """Where the keeper of a site has its control socket, if it is told no other place."""
+def path_of(site: int | str) -> str:
+    """Where the keeper of a site has its control socket, if it is told no other place. In place of the number may
+    stand what is put in for it later."""
     return f"/run/castd-{site}/control"
 
 
@@ -82,12 +83,6 @@ class LineBuffer:
 def is_refusal(answer: list[str]) -> bool:
     """Whether an answer says that something was not done, or is not well."""
     return any(line.startswith(_REFUSALS) for line in answer)
-
-
-def named_numbers(line: str) -> dict[str, int]:
-    """The numbers of a line such as `events 12 kept 3`, by the words before them."""
-    words = line.split(" ")
-    return {name: int(word) for name, word in zip(words, words[1:]) if word.isascii() and word.isdigit()}
 
 
 async def ask(path: str, line: str, seconds: float) -> list[str]:

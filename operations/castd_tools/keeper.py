@@ -12,6 +12,7 @@ import time
 from collections.abc import Iterator
 
 from castd_tools import control, daemon, keys, metrics, numbers, spare_ports, unix_sockets
+from castd_tools.answers import domains_of
 from castd_tools.command_line import Failure, SiteTool, stop_signals
 from castd_tools.configuration import Configuration, Domain
 from castd_tools.console import OK, STOP, Console, Unanswered
@@ -277,7 +278,7 @@ class Keeper:
         except (TimeoutError, Unanswered):
             return [f"{control.UNHEALTHY}the daemon does not answer within {_HEALTH_SECONDS:g} s"]
         reasons = [line for line in domains if control.is_refusal([line])]
-        reasons += [f"domain {domain} is halted" for domain, runs in metrics.domains_of(domains).items() if not runs]
+        reasons += [f"domain {domain} is halted" for domain, runs in domains_of(domains).items() if not runs]
         reasons += [
             f"site {self._site} was put out of domain {domain}, whose programs are no longer served here"
             for domain in sorted(self._standing.retired)

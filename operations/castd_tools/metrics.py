@@ -2,9 +2,9 @@
 
 from __future__ import annotations
 
-from collections.abc import Awaitable, Callable, Iterable
+from collections.abc import Awaitable, Callable
 
-from castd_tools.control import named_numbers
+from castd_tools.answers import Group, domains_of, groups_of, named_numbers
 from castd_tools.daemon import Usage
 
 GAUGE = "gauge"
@@ -90,19 +90,14 @@ async def add_answers(exposition: Exposition, ask: Ask, quota: Callable[[int, st
         exposition.add("castd_sessions_quota", quota(domain, "sessions"), domain=domain)
         exposition.add("castd_held_messages_quota", quota(domain, "held"), domain=domain)
         exposition.add_named(_only(await ask(f"show {domain}")), _SHOW, domain=domain)
-        for line in await ask(f"groups {domain}"):
-            _add_group(exposition, domain, line)
+        for group in groups_of(await ask(f"groups {domain}")):
+            _add_group(exposition, domain, group)
 
 
 def add_usage(exposition: Exposition, usage: Usage) -> None:
     exposition.add("castd_uptime_seconds", round(usage.uptime_seconds, 2))
     exposition.add("castd_resident_memory_bytes", usage.resident_bytes)
     exposition.add("castd_open_descriptors", usage.open_descriptors)
-
-
-def domains_of(answer: Iterable[str]) -> dict[int, bool]:
-    """Whether each domain runs, by the answer to `domains`."""
-    return {named_numbers(line)["domain"]: line.endswith(" running") for line in answer if line.startswith("domain ")}
 
 
 def _add_record(exposition: Exposition, line: str) -> None:
@@ -113,16 +108,11 @@ def _add_record(exposition: Exposition, line: str) -> None:
     exposition.add_named(line, _RECORD)
 
 
-def _add_group(exposition: Exposition, domain: int, line: str) -> None:
-    """Adds a group by its line: `group G view V holder P members P P open`, or `frozen`; or `group G view V none`."""
-    if not line.startswith("group "):
-        return
-    numbers = named_numbers(line)
-    labels = {"domain": domain, "group": numbers["group"]}
-    _, _, members = line.partition(" members ")
-    exposition.add("castd_group_view", numbers["view"], **labels)
-    exposition.add("castd_group_members", members.count("."), **labels)
-    exposition.add("castd_group_frozen", int(line.endswith(" frozen")), **labels)
+def _add_group(exposition: Exposition, domain: int, group: Group) -> None:
+    labels = {"domain": domain, "group": group.number}
+    exposition.add("castd_group_view", group.view, **labels)
+    exposition.add("castd_group_members", len(group.members), **labels)
+    exposition.add("castd_group_frozen", int(group.is_frozen), **labels)
 
 
 def _only(answer: list[str]) -> str:

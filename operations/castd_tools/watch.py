@@ -10,7 +10,8 @@ import secrets
 import sys
 import time
 
-from castd_tools import control, keys, metrics
+from castd_tools import control, keys
+from castd_tools.answers import domains_of
 from castd_tools.beat import USUAL_PORT_OFFSET, Beat
 from castd_tools.beat_socket import open_socket
 from castd_tools.belief import Belief, SealedBelief
@@ -215,7 +216,7 @@ class Watch:
         for domain, site in put_out:
             if domain in self._suspicions:
                 self._suspicions[domain].suspected.add(site)
-        running = frozenset(domain for domain, runs in metrics.domains_of(domains).items() if runs)
+        running = frozenset(domain for domain, runs in domains_of(domains).items() if runs)
         return running - self._put_out, put_out
 
     def _hear(self, heard: Beat) -> None:
