@@ -37,6 +37,15 @@ class Installed(InstalledCase):
         for page in ("castd.1", "castd.conf.5", *(f"{tool}.1" for tool in TOOLS)):
             self.assertTrue(os.path.isfile(f"{self.prefix}/share/man/man{page[-1]}/{page}"), page)
 
+    def test_shells_find_the_completion_of_each_command(self):
+        share = f"{self.prefix}/share"
+        for name in ("castd", *TOOLS):
+            script = f'source "$1" && complete -p {name}'
+            ran = run("bash", "-c", script, "bash", f"{share}/bash-completion/completions/{name}")
+            self.assertEqual((ran.stdout, ran.stderr), (f"complete -o filenames -F _castd {name}\n", ""))
+        zsh = pathlib.Path(f"{share}/zsh/site-functions/_castd").read_text()
+        self.assertIn(f"\nsource {share}/bash-completion/completions/castd\n", zsh)
+
     def test_a_c_program_is_built_by_pkg_config(self):
         need(self, "pkg-config")
         environment = {**os.environ, "PKG_CONFIG_PATH": f"{self.prefix}/lib/pkgconfig"}
