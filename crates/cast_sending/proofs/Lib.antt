@@ -5,3 +5,5 @@ pub mod Passing
 pub mod Quietness
 pub mod Parts
 pub mod Early
+pub mod Known
+pub mod HeldBack

@@ -8,3 +8,5 @@ pub mod Flights
 pub mod Marks
 pub mod Acks
 pub mod Heard
+pub mod Dues
+pub mod HeldBack

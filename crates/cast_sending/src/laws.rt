@@ -1,4 +1,5 @@
 ghost use Rattle.cast_sending.specs.Quiet.{SilentSitesAreSentFew};
+ghost use Rattle.cast_sending.specs.HeldBack.{SevenAreHeldBackAtMost};
 ghost use Rattle.cast_sending.specs.Laws.{NothingIsMadeUp, OthersGoOn, StablesAreCovered};
 
 /// Over each list of moves from an empty machine on, in which nothing is lost, each Stable that
@@ -15,4 +16,11 @@ pub fn what_comes_goes_on()
 /// at most two pass from one tick to the next.
 pub fn silent_sites_are_sent_few()
     ensures { SilentSitesAreSentFew }
+{}
+
+/// Of eight times in a row that the rules send a message, it goes to the wire once at least. This
+/// holds whatever happens between them: messages are acknowledged, all are forgotten, or memory is
+/// short.
+pub fn none_is_held_back_for_ever()
+    ensures { SevenAreHeldBackAtMost }
 {}
