@@ -9,15 +9,23 @@
 //!   be greater: `window_of` (`window`). Long casts have the window that finds room in the sockets:
 //!   `window_for` (`window`).
 //! - What a site may keep, and the windows of all sites with a set-order message for each of their
-//!   casts, are together what it has room for: `room_beside`.
+//!   casts, are together what it has room for: `room_beside`. A site is crowded after an event
+//!   exactly if the event received a message, and from the oldest one that the site keeps on it
+//!   received more than there is room for: `is_crowded`.
 //! - A cast has to wait exactly where as many casts of the site follow the oldest message as its
-//!   window has. It waits until fewer do: `Casts::awaited` (`some`, `none`). Only the earliest cast
-//!   is ever forgotten, and only where more are remembered than may be: `Casts::note` (`noted`,
-//!   `refused`).
+//!   window has. It waits until fewer do: `Casts::awaited` (`some`, `none`), `may_go_on`. Only the
+//!   earliest cast is ever forgotten, and only where more are remembered than may be: `Casts::note`
+//!   (`noted`, `refused`).
+//! - How many casts may be on their way follows the time that acknowledgements take: which are
+//!   late, when one makes the window less or greater, and by how much: `Speed::hear`. The window is
+//!   4 at least and 65,536 at most: `Speed::window` (`least`, `most`). Of two windows the lower one
+//!   counts, and at least 1: `least_window`.
 #![tactic(auto)]
 
 mod casts;
+mod speed;
 mod window;
 
-pub use casts::Casts;
-pub use window::{room_beside, window_for, window_of};
+pub use casts::{Casts, may_go_on};
+pub use speed::Speed;
+pub use window::{is_crowded, least_window, room_beside, window_for, window_of};
