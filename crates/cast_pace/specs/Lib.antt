@@ -1,3 +1,4 @@
 pub mod Windows
 pub mod Following
 pub mod Speeds
+pub mod Lasting

@@ -7,7 +7,7 @@
 //! What it takes at least is known for each site, since sites may be near and far. Beside a far
 //! site casts may queue for longer at a near one, too: as many are on their way as the far one
 //! needs, and they go to both at once.
-ghost use Rattle.std.specs.Prelude.{◌≡◌, ◌≤◌, true};
+ghost use Rattle.std.specs.Prelude.{◌≡◌, ◌≤◌, ◌-◌, ◌*◌, ◌^◌, max, min, true};
 ghost use Rattle.cast_pace.specs.Speeds.{heard, heard_in_time, heard_late, is_late};
 ghost use Rattle.cast_pace.specs.Speeds.{longest_least, may_grow, new_flow, no_least, slowest_with};
 
@@ -135,6 +135,15 @@ impl Speed {
         ensures most { result ≤ 65536 }
     {
         self.window
+    }
+
+    /// How many may be on their way where a program wrote so many commands at once: twice as many,
+    /// if these are more than the window. One that writes many wants many to be on their way.
+    pub fn allowed(&self, at_once: usize) -> u32
+        ensures { result ≡ min (max self.now.window (2 * at_once)) (2 ^ 32 - 1) }
+    {
+        let allowed = self.window().max(at_once.saturating_mul(2));
+        u32::try_from(allowed).unwrap_or(u32::MAX)
     }
 
     /// Notes that a cast has to wait since so many are on their way.

@@ -138,10 +138,7 @@ impl Pace {
     // How many casts may be on their way, where a program wrote so many commands at once.
     fn allowed<R: Wait>(&self, rt: &R, at_once: usize) -> u32 {
         match &self.speed {
-            Some(speed) => {
-                let allowed = speed.lock(rt).window().max(at_once.saturating_mul(2));
-                u32::try_from(allowed).unwrap_or(u32::MAX)
-            }
+            Some(speed) => speed.lock(rt).allowed(at_once),
             None => u32::MAX,
         }
     }
