@@ -2,3 +2,4 @@ pub mod Windows
 pub mod Following
 pub mod Speeds
 pub mod Lasting
+pub mod Changes

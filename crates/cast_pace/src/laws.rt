@@ -1,10 +1,18 @@
 ghost use Rattle.cast_pace.specs.Following.{WhoGoesOnHasRoom};
 ghost use Rattle.cast_pace.specs.Lasting.{LongestIsOfTheLast};
+ghost use Rattle.cast_pace.specs.Changes.{AsManyComeBetween, AsManyComeFirst};
 
 /// Over all acknowledgements, the time that the slowest site takes at least is the longest among
 /// those that came last: all of them, or more than 4,096 and no more than 8,192.
 pub fn longest_is_of_the_last()
     ensures { LongestIsOfTheLast }
+{}
+
+/// Over all that happens, the window becomes less only once for as many acknowledgements as it has.
+/// At least so many come before, and since the time before that it became less.
+pub fn less_once_for_as_many()
+    ensures first { AsManyComeFirst }
+    ensures between { AsManyComeBetween }
 {}
 
 /// Where a cast waits for the key that `Casts::awaited` answered, and may go on, fewer casts follow
