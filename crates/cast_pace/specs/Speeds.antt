@@ -18,11 +18,11 @@ slowest_with slowest least =
 abbrev pub longest_least : Slowest → ℕ
 longest_least slowest = max slowest.now slowest.before
 
--- what is known of the casts of a domain that are on their way:
--- for how many microseconds they may queue; how many may be on their way, their window; how long
+-- for how many microseconds casts may queue; how many may be on their way, the window; how long
 -- sites take at least; that an acknowledgement was late; that a cast had to wait since the window
 -- grew; how many acknowledgements came since the window became less, counted up to 65,536; and how
--- many in time, each while a cast had waited, since the window grew and since the last late one
+-- many came in time, where a cast had to wait before them, since the window grew and since the last
+-- late one
 pub record Flow : Type 0 where
   pub delay : ℕ
   pub window : ℕ
@@ -44,8 +44,8 @@ new_flow delay =
       in_time = 0;
     }
 
--- an acknowledgement is late that took longer than its site takes at least, by more than half of
--- what the slowest site takes at least and the time for which casts may queue
+-- an acknowledgement is late if it took longer than the sum of what its site takes at least, half of
+-- what the slowest site takes at least, and the time for which casts may queue
 abbrev pub is_late : Flow → ℕ → ℕ → Bool
 is_late flow micros least = nat_lt (longest_least flow.slowest / 2 + flow.delay) (micros - least)
 
