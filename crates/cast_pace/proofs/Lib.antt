@@ -1,2 +1,4 @@
 pub mod Rising
 pub mod Fitting
+pub mod Spans
+pub mod Changes

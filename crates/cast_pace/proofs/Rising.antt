@@ -1,12 +1,12 @@
 -- Of rising keys, how many are above another.
-use Rattle.std.proofs.Common.{◌≡◌, ℕ, zero, suc, ◌+◌, ◌-◌, ◌<◌, ◌≤◌, Bool, true, false, cond}
+use Rattle.std.proofs.Common.{◌≡◌, ℕ, zero, suc, ◌+◌, ◌-◌, ◌<◌, ◌≤◌, Bool, true, false, cond, Some, None}
 use Rattle.std.proofs.Common.{List, [], ◌∷◌, ◌++◌, drop, length, get_or, refl, ap, sym, subst, inl, inr, arith}
 use Rattle.std.specs.Prelude.{nat_lt, filter}
 use Rattle.std.specs.List.{list_all}
-use Rattle.std.proofs.lemmas.Bool.{cases_lt, and_from, and_parts, ltb-true, le-ltb, lt-ltb}
+use Rattle.std.proofs.lemmas.Bool.{cases_lt, and_from, and_parts, leb-true, ltb-true, le-ltb, lt-ltb}
 use Rattle.cast_index.specs.Rises.{all_below}
 use Rattle.cast_index.proofs.Rises.{above_at, parts_of, rises_push}
-use Rattle.cast_pace.specs.Following.{KeysRise, following}
+use Rattle.cast_pace.specs.Following.{KeysRise, WhoGoesOnHasRoom, following}
 
 -- one more, where it is above the key, and where it is not
 more : (key x : ℕ) (casts : List ℕ) → key < x → following key (x ∷ casts) ≡ suc (following key casts)
@@ -86,3 +86,21 @@ pushed_rise key old seen new false up same below is = subst KeysRise (sym is) up
 pub rest_rise : (casts : List ℕ) → KeysRise casts → KeysRise (drop 1 casts)
 rest_rise [] up = refl
 rest_rise (x ∷ casts) up = (parts_of (λ k. k) x casts up).1
+
+-- no more follow a later message
+fewer_follow_later : (key later : ℕ) (casts : List ℕ) → key ≤ later → following later casts ≤ following key casts
+fewer_follow_later key later [] le = omega arith
+fewer_follow_later key later (x ∷ casts) le =
+    let rest = fewer_follow_later key later casts le in
+    elim (cases_lt later x) [
+      | inl lt ↦ omega (arith, more later x casts lt, more key x casts (omega (arith, lt, le)), rest)
+      | inr not_later ↦ elim (cases_lt key x) [
+        | inl lt ↦ omega (arith, no_more later x casts not_later, more key x casts lt, rest)
+        | inr not_key ↦ omega (arith, no_more later x casts not_later, no_more key x casts not_key, rest)
+      ]
+    ]
+
+pub who_goes_on_has_room : WhoGoesOnHasRoom
+who_goes_on_has_room casts window awaited None few goes_on = tt
+who_goes_on_has_room casts window awaited (Some oldest) few goes_on =
+    omega (arith, few, fewer_follow_later awaited oldest casts (leb-true awaited oldest goes_on))

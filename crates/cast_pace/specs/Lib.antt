@@ -1,2 +1,5 @@
 pub mod Windows
 pub mod Following
+pub mod Speeds
+pub mod Lasting
+pub mod Changes

@@ -1,5 +1,6 @@
 -- How many casts may follow the oldest message that a site keeps.
-use Rattle.std.specs.Prelude.{◌≡◌, ◌⊎◌, ℕ, ◌+◌, ◌-◌, ◌*◌, ◌<◌, ◌≤◌}
+use Rattle.std.specs.Prelude.{◌≡◌, ◌⊎◌, ℕ, ◌+◌, ◌-◌, ◌*◌, ◌<◌, ◌≤◌, ◌&&◌, Bool, false, nat_lt}
+use Rattle.std.specs.Prelude.{Option, Some, None}
 
 -- so many of each of these sites take at most half of the room that one has, of which a part is
 -- left; and one more of each would take it all
@@ -29,3 +30,9 @@ pub record IsRoomBeside (held sites room : ℕ) : Type 0 where
   pub window : ℕ
   pub is : IsWindow held sites window
   pub left : room ≡ held - 2 * (sites * (window + 1))
+
+-- an event received a message, so that the next one has a higher key; and from the oldest one on
+-- that is kept, more were received than there is room for
+abbrev pub is_crowded : ℕ → ℕ → Option ℕ → ℕ → Bool
+is_crowded before after None room = false
+is_crowded before after (Some oldest) room = nat_lt before after && nat_lt room (after - oldest)

@@ -1,7 +1,7 @@
 ghost use Rattle.std.specs.Prelude.{◌≡◌, ◌+◌, ◌<◌, ◌≤◌, ◌++◌, [], ◌∷◌, Contains, length, true};
 ghost use Rattle.std.specs.Prelude.{false, IfSome, IfNone};
 ghost use Rattle.cast_index.specs.Rises.{all_below};
-ghost use Rattle.cast_pace.specs.Following.{KeysRise, Remembers, following};
+ghost use Rattle.cast_pace.specs.Following.{KeysRise, Remembers, following, may_go_on};
 
 use std::alloc::Global;
 use std::marker::Model;
@@ -97,5 +97,18 @@ impl Casts {
         ensures none { IfNone result (following oldest self.now < window) }
     {
         awaited_in(&self.latest, oldest, window)
+    }
+}
+
+/// Whether casts wait that may go on: until no message is kept any more that is older than the one
+/// under the key `awaited`, as `Casts::awaited` says. `None` where none waits. The oldest message
+/// that is kept has the key `oldest`; `None` where none is kept.
+pub fn may_go_on(awaited: Option<u64>, oldest: Option<u64>) -> bool
+    ensures { result ≡ may_go_on awaited oldest }
+{
+    match (awaited, oldest) {
+        (Some(awaited), Some(oldest)) => awaited <= oldest,
+        (Some(_), None) => true,
+        (None, _) => false,
     }
 }

@@ -11,7 +11,6 @@ mod desk;
 mod pace;
 mod record;
 mod shared;
-mod speed;
 mod table;
 mod udp;
 
@@ -19,6 +18,5 @@ pub use desk::{Desk, Opened, Opening, Purpose};
 pub use pace::{Pace, Patience, Wakings, Wanted};
 pub use record::{CUT, Record, Tape, run_recorder};
 pub use shared::{Shared, Traffic, Turnstile};
-pub use speed::Speed;
 pub use table::{Came, Instruction, Reply, Served, SharedTable};
 pub use udp::Udp;

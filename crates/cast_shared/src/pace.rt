@@ -11,9 +11,10 @@
 //! `Speed` says how many.
 ghost use Rattle.std.specs.Prelude.{◌<◌};
 
-use crate::speed::Speed;
 use cast_events::{Backlog, DomainConfig};
-use cast_pace::{Casts, room_beside, window_for, window_of};
+use cast_pace::{
+    Casts, Speed, is_crowded, least_window, may_go_on, room_beside, window_for, window_of,
+};
 use cast_sending::Took;
 use cast_types::DomainNo;
 use std::alloc::Global;
@@ -62,6 +63,14 @@ impl Patience {
             Ok(elapsed) => all.saturating_sub(elapsed),
             Err(_) => Duration::ZERO,
         }
+    }
+}
+
+// The key of the oldest message that a domain keeps. None where none is kept.
+fn oldest_of(backlog: Backlog) -> Option<u64> {
+    match backlog.oldest {
+        Some(oldest) => Some(oldest.0 as u64),
+        None => None,
     }
 }
 
@@ -122,17 +131,14 @@ impl Pace {
     /// Notes how long an acknowledgement took.
     pub fn hear<R: Wait>(&self, rt: &R, took: Took) {
         if let Some(speed) = &self.speed {
-            speed.lock(rt).hear(took);
+            speed.lock(rt).hear(took.micros, took.least);
         }
     }
 
     // How many casts may be on their way, where a program wrote so many commands at once.
     fn allowed<R: Wait>(&self, rt: &R, at_once: usize) -> u32 {
         match &self.speed {
-            Some(speed) => {
-                let allowed = speed.lock(rt).window().max(at_once.saturating_mul(2));
-                u32::try_from(allowed).unwrap_or(u32::MAX)
-            }
+            Some(speed) => speed.lock(rt).allowed(at_once),
             None => u32::MAX,
         }
     }
@@ -153,9 +159,9 @@ impl Pace {
     /// Whether a cast has to wait, where the domain is so far behind: then how often the readers
     /// were woken before.
     pub fn must_wait<R: Wait>(&self, rt: &R, backlog: Backlog, wanted: Wanted) -> Option<Wakings> {
-        let oldest = backlog.oldest?.0 as u64;
+        let oldest = oldest_of(backlog)?;
         let allowed = self.allowed(rt, wanted.at_once);
-        let window = self.window(backlog.limit, wanted.len).min(allowed).max(1);
+        let window = least_window(self.window(backlog.limit, wanted.len), allowed);
         let waits = self.waits.lock(rt);
         if waits.is_over {
             return None;
@@ -177,31 +183,31 @@ impl Pace {
         let _ = self.waits.lock(rt).latest.note(key, most);
     }
 
+    // Readers wait until the oldest message that is kept has this key. None if none waits.
+    fn awaited(&self) -> Option<u64> {
+        match self.awaited.load(Ordering::SeqCst) {
+            NONE => None,
+            key => Some(key),
+        }
+    }
+
     /// Whether readers wait.
     pub fn is_awaited(&self) -> bool {
-        self.awaited.load(Ordering::SeqCst) != NONE
+        self.awaited().is_some()
     }
 
     /// Whether readers wait, and may go on, where the domain is so far behind.
     pub fn is_due(&self, backlog: Backlog) -> bool {
-        let awaited = self.awaited.load(Ordering::SeqCst);
-        match backlog.oldest {
-            Some(oldest) => awaited != NONE && oldest.0 as u64 >= awaited,
-            None => awaited != NONE,
-        }
+        may_go_on(self.awaited(), oldest_of(backlog))
     }
 
     /// Whether an event received a message, so that the domain keeps more than there is room for
     /// beside what all sites may cast on. The domain was so far behind before it, and is so far
     /// after it.
     pub fn is_crowded(&self, before: Backlog, after: Backlog) -> bool {
-        let room = room_beside(after.limit, self.sites) as usize;
-        match after.oldest {
-            Some(oldest) => {
-                after.next.0 > before.next.0 && after.next.0.saturating_sub(oldest.0) > room
-            }
-            None => false,
-        }
+        let room = room_beside(after.limit, self.sites);
+        let next = after.next.0 as u64;
+        is_crowded(before.next.0 as u64, next, oldest_of(after), room)
     }
 
     /// Wakes the readers that wait.
