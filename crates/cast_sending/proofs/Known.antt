@@ -66,7 +66,7 @@ known_stays dues id some = by (nat_le 4096 (length dues)) (due_of dues id) (ap i
 pub few_stay : (dues : Dues) (id : Uid) → length dues < 4096 → kept_beside dues id ≡ dues
 few_stay dues id few = ap (λ (b : Bool). cond (b && is_none (due_of dues id)) [] dues) (lt-leb 4096 (length dues) few)
 
-kept_same : (dues : Dues) (id : Uid) → due_of (kept_beside dues id) id ≡ due_of dues id
+pub kept_same : (dues : Dues) (id : Uid) → due_of (kept_beside dues id) id ≡ due_of dues id
 kept_same dues id = by (nat_le 4096 (length dues)) (due_of dues id) refl
   where
     by : (many : Bool) (due : Option Due) → due_of dues id ≡ due → due_of (cond (many && is_none due) [] dues) id ≡ due_of dues id

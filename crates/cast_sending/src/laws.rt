@@ -1,5 +1,5 @@
 ghost use Rattle.cast_sending.specs.Quiet.{SilentSitesAreSentFew};
-ghost use Rattle.cast_sending.specs.HeldBack.{SevenAreHeldBackAtMost};
+ghost use Rattle.cast_sending.specs.HeldBack.{KnownIsWhatHappened, SevenAreHeldBackAtMost};
 ghost use Rattle.cast_sending.specs.Laws.{NothingIsMadeUp, OthersGoOn, StablesAreCovered};
 
 /// Over each list of moves from an empty machine on, in which nothing is lost, each Stable that
@@ -20,7 +20,9 @@ pub fn silent_sites_are_sent_few()
 
 /// Of eight times in a row that the rules send a message, it goes to the wire once at least. This
 /// holds whatever happens between them: messages are acknowledged, all are forgotten, or memory is
-/// short.
+/// short. What is known of a message is when it went to the wire last, and how often the rules sent
+/// it in vain since then.
 pub fn none_is_held_back_for_ever()
-    ensures { SevenAreHeldBackAtMost }
+    ensures seven { SevenAreHeldBackAtMost }
+    ensures known { KnownIsWhatHappened }
 {}

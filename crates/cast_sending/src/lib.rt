@@ -29,12 +29,13 @@
 //!   again, and a tick sends eight at most: `Flight::{note, enter, acknowledge, tick}`.
 //! - A message that the rules send, and of which nothing is known, goes to the wire. One that is
 //!   known goes once the rules sent it `2^n` times since it went last, and `2^n` times the ticks
-//!   went by after which it is late. Here `n` is how often it went again, three at most. The eighth
-//!   time it goes in any case. Of other messages stays known what was. At most 4,096 are known:
-//!   with one more, all before are forgotten. One that finds no memory stays unknown:
+//!   went by after which it is late. Each time it goes again, `n` grows by one, up to three. The
+//!   eighth time it goes in any case. What is known of other messages stays. At most 4,096 are
+//!   known: with one more, all before are forgotten. One that finds no memory stays unknown:
 //!   `Dues::{note, forget, clear, is_due}`.
-//! - Of eight times in a row that the rules send a message, it goes to the wire once at least:
-//!   `laws::none_is_held_back_for_ever`.
+//! - Over any list of these calls, what is known of a message is when it went to the wire last, and
+//!   how often the rules sent it in vain since then. Of eight times in a row that they send it, it
+//!   goes once at least: `laws::none_is_held_back_for_ever` (`known`, `seven`).
 //! - What an event tells of a site is the view of the group that its frame is about, and the
 //!   message that it acknowledges: `heard_in`.
 //! - The acknowledgements among the frames of an event are to wait, but for those of messages that
