@@ -18,18 +18,21 @@ slowest_with slowest least =
 abbrev pub longest_least : Slowest → ℕ
 longest_least slowest = max slowest.now slowest.before
 
--- for how many microseconds casts may queue; how many may be on their way, the window; how long
--- sites take at least; that an acknowledgement was late; that a cast had to wait since the window
--- grew; how many acknowledgements came since the window became less, counted up to 65,536; and how
--- many came in time, where a cast had to wait before them, since the window grew and since the last
--- late one
+-- what decides how many casts of a domain may be on their way
 pub record Flow : Type 0 where
+  -- for how many microseconds casts may queue
   pub delay : ℕ
+  -- how many may be on their way
   pub window : ℕ
   pub slowest : Slowest
+  -- an acknowledgement was late
   pub was_late : Bool
+  -- a cast had to wait since the window grew
   pub has_waited : Bool
+  -- how many acknowledgements came since the window became less, counted up to 65,536
   pub since_less : ℕ
+  -- how many came in time, where a cast had to wait before them, since the window grew and since
+  -- the last late one
   pub in_time : ℕ
 
 abbrev pub new_flow : ℕ → Flow
@@ -44,8 +47,8 @@ new_flow delay =
       in_time = 0;
     }
 
--- an acknowledgement is late if it took longer than the sum of what its site takes at least, half of
--- what the slowest site takes at least, and the time for which casts may queue
+-- an acknowledgement is late if it took longer than the sum of what its site takes at least, half
+-- of what the slowest site takes at least, and the time for which casts may queue
 abbrev pub is_late : Flow → ℕ → ℕ → Bool
 is_late flow micros least = nat_lt (longest_least flow.slowest / 2 + flow.delay) (micros - least)
 

@@ -1,8 +1,8 @@
 //! How far the programs of a domain may run ahead of its other sites, as plain values.
 //!
 //! A site keeps each message until all sites have it. So where it lets only some casts follow the
-//! oldest message that it keeps, another site has room for the one that it lacks. A `Speed` says how
-//! many casts may be on their way, so that they do not queue for long.
+//! oldest message that it keeps, another site has room for the one that it lacks. A `Speed` says
+//! how many casts may be on their way, so that they do not queue for long.
 //!
 //! # What is proved
 //!
