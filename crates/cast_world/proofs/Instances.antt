@@ -1,20 +1,34 @@
 -- The laws, written out for two processes or more. A definition cannot come to say less without one of these failing.
-use Rattle.std.proofs.Common.{inl, inr}
-use Rattle.std.specs.Prelude.{◌+◌, ◌++◌, ◌<◌, Contains, List, ℕ, ◌∷◌, ◌≡◌, ◌⊎◌}
+use Rattle.std.proofs.Common.{ap, inl, inr}
+use Rattle.std.specs.Prelude.{◌+◌, ◌++◌, ◌<◌, Contains, List, Some, [], false, true, ℕ, ◌∷◌, ◌≡◌, ◌⊎◌}
 use Rattle.cast_rules.specs.Acts.{Act}
 use Rattle.cast_rules.specs.Acts.Act.{Delivered, Entered, Left, Sent}
+use Rattle.cast_rules.specs.Refusing.{attempt}
+use Rattle.cast_rules.specs.Run.{IsStep, before_event}
+use Rattle.cast_rules.specs.State.{State, is_filled}
+use Rattle.cast_events.specs.Session.{is_open}
 use Rattle.cast_events.specs.declared.config.DomainConfig.{DomainConfig}
+use Rattle.cast_events.specs.declared.event.Event.{Event}
+use Rattle.cast_events.specs.declared.event.Event.TheVariants as event
+use Rattle.cast_events.specs.declared.event.Taken.{Taken}
+use Rattle.cast_events.specs.declared.event.Taken.TheVariants.{Refused}
 use Rattle.cast_message.specs.Membership.{Membership}
+use Rattle.cast_message.specs.Replies.{reply_to}
 use Rattle.cast_message.specs.Tail.{Tail}
+use Rattle.cast_message.specs.declared.client.Command.TheVariants as command
+use Rattle.cast_message.specs.declared.client.Request.{Request}
 use Rattle.cast_message.specs.declared.message.Message.{Message}
 use Rattle.cast_types.specs.Counts.{CountList}
+use Rattle.cast_types.specs.declared.names.DomainNo.{DomainNo}
 use Rattle.cast_types.specs.declared.names.GroupNo.{GroupNo}
 use Rattle.cast_types.specs.declared.names.Proc.{Proc}
+use Rattle.cast_types.specs.declared.refusal.Refusal.{Refusal}
 use Rattle.cast_types.specs.declared.names.SiteNo.{SiteNo}
 use Rattle.cast_types.specs.declared.names.Uid.{Uid}
 use Rattle.cast_world.proofs.ClosingRuns.{same_order}
 use Rattle.cast_world.proofs.OrderRuns.{orders_agree}
 use Rattle.cast_world.proofs.Properties.{deliver_causally, deliver_first_in_first_out, deliver_once, enter_as_members, views_rise}
+use Rattle.cast_world.proofs.Refused.{all_refused_leave, all_refused_reply}
 use Rattle.cast_world.proofs.Same.{same_messages}
 use Rattle.cast_world.specs.Agreement.{IsWithin, WasInstalled, abcasts_of_view, delivered_of, of_view}
 use Rattle.cast_world.specs.HappenedBefore.HappenedBefore.{edge, path}
@@ -87,3 +101,20 @@ module _ (sites : List SiteNo) (config : SiteNo → DomainConfig) (steps : List 
       Contains (did p) (Entered g view cut) → WasInstalled w g view members tail → Contains members.list p
   enters_as_member p g view cut members tail entered installed =
       enter_as_members sites config steps w r p g view cut members tail entered installed
+
+  -- a refused event sends nothing and pushes nothing, and the site keeps what it kept
+  refused_does_nothing : (s : SiteNo) (e : Event) (refusal : Refusal) (t : State) → IsStep (w.at s) e (Refused refusal) t →
+      (t.frames ≡ []) × (t.pushes ≡ []) × (t.kept ≡ (w.at s).kept)
+  refused_does_nothing s e refusal t step =
+      let same = all_refused_leave sites config steps w s e refusal t r step in
+      (ap (λ x. x.frames) same, ap (λ x. x.pushes) same, ap (λ x. x.kept) same)
+
+  -- a refused request pushes its reply to its own session alone
+  refused_is_told : (s : SiteNo) (d : DomainNo) (k : ℕ) (request : Request) (refusal : Refusal) (answer : Taken) (t : State) →
+      is_open ((w.at s).session k) ≡ true → is_filled (w.at s) k ≡ false →
+      (attempt (before_event (w.at s)) k request).1 ≡ Some refusal →
+      IsStep (w.at s) (event.Command d k (command.Request request)) answer t →
+      (t.frames ≡ []) × (t.pushes ≡ (k, reply_to request (Some refusal)) ∷ []) × (t.kept ≡ (w.at s).kept)
+  refused_is_told s d k request refusal answer t opened room refused step =
+      let same = (all_refused_reply sites config steps w s d k request refusal answer t r opened room refused step).1 in
+      (ap (λ x. x.frames) same, ap (λ x. x.pushes) same, ap (λ x. x.kept) same)
