@@ -138,7 +138,7 @@ impl Speed {
     }
 
     /// How many may be on their way where a program wrote so many commands at once: twice as many,
-    /// if these are more than the window. One that writes many wants many to be on their way.
+    /// if these are more than the window, and at most `u32::MAX`.
     pub fn allowed(&self, at_once: usize) -> u32
         ensures { result ≡ min (max self.now.window (2 * at_once)) (2 ^ 32 - 1) }
     {
