@@ -39,6 +39,7 @@
 mod acks;
 mod dues;
 mod flight;
+mod frames;
 mod heard;
 pub mod laws;
 mod round_trip;
