@@ -7,6 +7,7 @@ ghost use Rattle.cast_sending.specs.Acks.{acknowledged_by, is_delivered, is_earl
 ghost use Rattle.cast_sending.specs.Acks.{waits_for, Adds, AddsAll, AddsSome, LetsGo, NoneWaitsFor};
 ghost use Rattle.cast_sending.specs.Acks.{IsTakenOut, Released, ReleasesOne, WaitingAck};
 
+use crate::frames::{Outgoing, push};
 use cast_events::Outs;
 use cast_message::SiteFrame;
 use cast_types::{DomainNo, List, NoMemory, Proc, SiteNo, Uid};
@@ -65,7 +66,7 @@ fn waits_for(acks: &[WaitingAck], domain: DomainNo, id: Uid) -> bool
 }
 
 // Whether a frame acknowledges a message for which one of these waits.
-fn is_early(acks: &[WaitingAck], frame: &(DomainNo, SiteNo, SiteFrame)) -> bool
+fn is_early(acks: &[WaitingAck], frame: &Outgoing) -> bool
     ensures { result ≡ is_early acks.now frame.now }
 {
     match acknowledged_by(&frame.2) {
@@ -90,11 +91,7 @@ fn add(acks: &mut Vec<WaitingAck>, ack: WaitingAck) -> bool
 
 // Has the acknowledgement wait that a frame is, if its message was not delivered. False if there is
 // no memory for it.
-fn hold_one(
-    acks: &mut Vec<WaitingAck>,
-    delivered: &[Delivery],
-    frame: &(DomainNo, SiteNo, SiteFrame),
-) -> bool
+fn hold_one(acks: &mut Vec<WaitingAck>, delivered: &[Delivery], frame: &Outgoing) -> bool
     ensures held { OnTrue result
         (AddsAll acks.old.items (undelivered delivered.now frame.now) acks.new.items) }
     ensures lost { OnFalse result (acks.new.items ≡ acks.old.items) }
@@ -110,11 +107,7 @@ fn hold_one(
 
 // Has those wait that are among these frames, and whose messages were not delivered. False if there
 // is no memory for one: those of the frames before it wait.
-fn hold_all(
-    acks: &mut Vec<WaitingAck>,
-    delivered: &[Delivery],
-    frames: &[(DomainNo, SiteNo, SiteFrame)],
-) -> bool
+fn hold_all(acks: &mut Vec<WaitingAck>, delivered: &[Delivery], frames: &[Outgoing]) -> bool
     ensures held { OnTrue result
         (AddsAll acks.old.items (flat_map (undelivered delivered.now) frames.now) acks.new.items) }
     ensures lost { OnFalse result
@@ -156,24 +149,9 @@ fn take(acks: &mut Vec<WaitingAck>, domain: DomainNo, id: Uid) -> Option<SiteNo>
     }
 }
 
-// Adds a frame to the others. False if there is no memory for it.
-fn push(
-    frames: &mut Vec<(DomainNo, SiteNo, SiteFrame)>,
-    frame: (DomainNo, SiteNo, SiteFrame),
-) -> bool
-    ensures { frames.new.items
-        ≡ (if result then frames.old.items ++ frame ∷ [] else frames.old.items) }
-{
-    frames.push(frame).is_ok()
-}
-
 // Takes out one that waits for a message, which was delivered, and adds its frame to the others.
 // Answers whether it is lost for want of memory.
-fn release_one(
-    acks: &mut Vec<WaitingAck>,
-    frames: &mut Vec<(DomainNo, SiteNo, SiteFrame)>,
-    delivery: Delivery,
-) -> bool
+fn release_one(acks: &mut Vec<WaitingAck>, frames: &mut Vec<Outgoing>, delivery: Delivery) -> bool
     ensures { ReleasesOne acks.old.items frames.old.items delivery result acks.new.items
         frames.new.items }
 {
@@ -196,7 +174,7 @@ fn delivery_at(delivered: &[Delivery], place: usize) -> Delivery
 // Answers how many are lost for want of memory.
 fn release_all(
     acks: &mut Vec<WaitingAck>,
-    frames: &mut Vec<(DomainNo, SiteNo, SiteFrame)>,
+    frames: &mut Vec<Outgoing>,
     delivered: &[Delivery],
 ) -> u64
     ensures { Released acks.old.items frames.old.items delivered.now frames.new.items acks.new.items
@@ -213,7 +191,7 @@ fn release_all(
 }
 
 // Leaves out the frames that acknowledge a message for which one of these waits.
-fn leave_out(acks: &[WaitingAck], frames: &mut Vec<(DomainNo, SiteNo, SiteFrame)>)
+fn leave_out(acks: &[WaitingAck], frames: &mut Vec<Outgoing>)
     ensures { frames.new.items ≡ filter (λ frame. not (is_early acks.now frame)) frames.old.items }
 {
     frames.retain(|frame| !is_early(acks, frame));

@@ -69,6 +69,27 @@ fn begin_anew(sent: Sent, tick: u64) -> Sent
     }
 }
 
+// A message goes to the wire at this tick, and may be sent again so often after that.
+fn sent_again(sent: Sent, tick: u64, left: u32) -> Sent
+    requires { left ≤ 3 }
+    ensures { mark_of result ≡ (sent.message, left) }
+{
+    let Sent {
+        message,
+        first,
+        time,
+        ..
+    } = sent;
+    Sent {
+        message,
+        first,
+        tick,
+        time,
+        later: 0,
+        left,
+    }
+}
+
 // Forgets the first.
 fn forget_first(line: &mut VecDeque<Sent>)
     ensures part { IsPart (marks_of line.new.items) (marks_of line.old.items) }
@@ -338,20 +359,8 @@ impl Flight {
         let sent = self.sent.remove(place)?;
         let left = sent.left.checked_sub(1)?;
         let copy = copied(&sent.message)?;
-        let Sent {
-            message,
-            first,
-            time,
-            ..
-        } = sent;
-        self.go_again(Sent {
-            message,
-            first,
-            tick: self.tick,
-            time,
-            later: 0,
-            left,
-        });
+        let tick = self.tick;
+        self.go_again(sent_again(sent, tick, left));
         Some(copy)
     }
 
@@ -441,18 +450,12 @@ impl Flight {
         ensures { LosesOne self.old place self.new }
     {
         let sent = self.sent.remove(place)?;
-        let Sent {
-            first,
-            time,
-            left,
-            ..
-        } = sent;
         count_later(&mut self.sent, place);
-        self.note_trip(first);
-        if left < REPEATS {
+        self.note_trip(sent.first);
+        if sent.left < REPEATS {
             return None;
         }
-        time
+        sent.time
     }
 
     /// A message was acknowledged. Answers the frames that are to be sent again, and when it was

@@ -48,6 +48,7 @@
 mod acks;
 mod dues;
 mod flight;
+mod frames;
 mod heard;
 pub mod laws;
 mod round_trip;

@@ -9,15 +9,13 @@ ghost use Rattle.cast_sending.specs.Stables.{are_stables, is_joined, news_left, 
 ghost use Rattle.cast_sending.specs.Stables.{none_waits, AllWait, Holds, IsPlaceOfCovered};
 ghost use Rattle.cast_sending.specs.Stables.{Joins, Waits};
 
+use crate::frames::{Outgoing, push};
 use cast_events::Outs;
 use cast_message::SiteFrame;
-use cast_types::{DomainNo, List, SiteNo, Uid};
+use cast_types::{List, Uid};
 use std::alloc::Global;
 use std::marker::Model;
 use std::mem;
-
-// A frame of a domain for a site.
-type Outgoing = (DomainNo, SiteNo, SiteFrame);
 
 // After so many that came since none waited they wait no longer.
 const MANY: u32 = 8;
@@ -120,7 +118,7 @@ fn keep(waiting: &mut Vec<Outgoing>, frame: Outgoing) -> bool
         drop(mem::replace(&mut waiting[place], frame));
         return true;
     }
-    waiting.push(frame).is_ok()
+    push(waiting, frame)
 }
 
 // How many Stables there are, as far as a `u32` counts.
@@ -148,7 +146,7 @@ fn hold_one(waiting: &mut Vec<Outgoing>, others: &mut Vec<Outgoing>, frame: Outg
     if is_stable(&frame) {
         return keep(waiting, frame);
     }
-    others.push(frame).is_ok()
+    push(others, frame)
 }
 
 // Has the Stables of these frames wait. Answers the others, and how many frames are lost for want
@@ -180,6 +178,14 @@ fn is_joined(going: &[Outgoing], frame: &Outgoing) -> bool
     going.iter().any(|other| other.1 == frame.1)
 }
 
+// Whether one of the first so many of those that go goes to the site of a frame.
+fn is_joined_by(going: &[Outgoing], count: usize, frame: &Outgoing) -> bool
+    requires { count ≤ length going.now }
+    ensures { result ≡ is_joined (take count going.now) frame.now }
+{
+    is_joined(&going[..count], frame)
+}
+
 // Adds a frame to those that go, if one of the first so many goes to its site. Else adds it to the
 // others. False if there is no memory for it.
 fn join_one(
@@ -198,10 +204,10 @@ fn join_one(
     ensures lost { OnFalse result ((going.new.items ≡ going.old.items)
         × (others.new.items ≡ others.old.items)) }
 {
-    if is_joined(&going[..count], &frame) {
-        return going.push(frame).is_ok();
+    if is_joined_by(going, count, &frame) {
+        return push(going, frame);
     }
-    others.push(frame).is_ok()
+    push(others, frame)
 }
 
 // Adds those that wait to the frames that go, if one of these goes to the same site. Answers the

@@ -3,8 +3,8 @@ use Rattle.cast_sending.specs.Flights.{Flying, LosesOne}
 use Rattle.cast_sending.proofs.Parts.{flying, loses_one}
 use Rattle.cast_sending.proofs.flight.Flight.end.Goals as goal
 
-pub returns-then-left-lt-REPEATS : goal.returns-then-left-lt-REPEATS
-returns-then-left-lt-REPEATS c =
+pub returns-then-sent-lt-REPEATS : goal.returns-then-sent-lt-REPEATS
+returns-then-sent-lt-REPEATS c =
     let inside = c.self.inside in
     let old = flying inside.domain inside.site inside.sent.items inside.early.items in
     let rest = c.remove.new.self.items in

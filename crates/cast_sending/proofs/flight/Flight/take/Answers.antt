@@ -1,7 +1,7 @@
 use Rattle.std.proofs.Common.{◌≡◌, ◌<◌, ◌+◌, List, ℕ, [], ◌∷◌, refl, subst, sym, length, arith}
 use Rattle.cast_message.specs.declared.message.Message.{Message}
 use Rattle.cast_sending.specs.declared.sent.Sent.{Sent}
-use Rattle.cast_sending.specs.Flights.{Flying, Repeats}
+use Rattle.cast_sending.specs.Flights.{Flying, GoesAgain, Mark, Repeats}
 use Rattle.cast_sending.specs.Marks.{mark_of, marks_of}
 use Rattle.cast_sending.proofs.Parts.{TakenOut, taken_at, none_repeats, one_repeats, flying}
 use Rattle.cast_sending.proofs.flight.Flight.take.Goals as goal
@@ -46,6 +46,7 @@ returns c =
     (taken_at inside.sent.items c.args.place sent within c.in_ok-sent.ensures.value) in
     let fewer : TakenOut (marks_of inside.sent.items) (sent.message, left + 1) (marks_of c.remove.new.self.items) =
     subst (λ (n : ℕ). TakenOut (marks_of inside.sent.items) (sent.message, n) (marks_of c.remove.new.self.items)) less taken in
-    subst (λ (f : Flying). Repeats f c.go_again-2.new.self (c.in_ok-copy.copy ∷ [])) c.self.view_is
-    (subst (λ (m : Message). Repeats old c.go_again-2.new.self (m ∷ [])) (sym c.in_ok-copy.ensures)
-    (one_repeats old between c.go_again-2.new.self sent.message left fewer refl refl refl c.go_again-2.ensures))
+    subst (λ (f : Flying). Repeats f c.go_again.new.self (c.in_ok-copy.copy ∷ [])) c.self.view_is
+    (subst (λ (m : Message). Repeats old c.go_again.new.self (m ∷ [])) (sym c.in_ok-copy.ensures)
+    (one_repeats old between c.go_again.new.self sent.message left fewer refl refl refl
+    (subst (λ (m : Mark). GoesAgain between m c.go_again.new.self) c.sent_again.ensures c.go_again.ensures)))
