@@ -66,6 +66,17 @@ pub one_pushed : (old new : List WaitingAck) (frames went : List Frame) (it : De
 one_pushed old new frames went it site true releases is = (Some site, releases, is)
 one_pushed old new frames went it site false releases is = (Some site, releases, (is, refl))
 
+pub none_released : (old : List WaitingAck) (frames : List Frame) → Released old frames [] frames old 0
+none_released old frames = record {
+  freed = [];
+  kept = [];
+  missing = [];
+  releases = (refl, refl);
+  parted = (refl, refl);
+  counted = refl;
+  goes = sym (append-nil frames);
+}
+
 record Freed (old : List WaitingAck) (first : List Delivery) (kept missing : List Frame) (between : List WaitingAck) : Type 0 where
   freed : List Frame
   releases : ReleasesAll old first freed between

@@ -137,6 +137,20 @@ swapped_drop frames kept place frame other behind =
     drop-set-lt (place + 1) (set frames kept frame) place other (omega arith)
     ∙ drop-set-lt (place + 1) frames kept frame (omega (arith, behind))
 
+pub one_is_left : {old known between : Known} {came frames : List Frame} {kept place : ℕ} (frame : Frame) →
+    PassedSoFar old came known frames kept place → place < length came → frame ≡ get_or frames place frame →
+    MayPass known frame false between → PassedSoFar old came between frames kept (place + 1)
+one_is_left {old} {known} {between} {came} {frames} {kept} {place} frame passed within read may =
+    let next = next_came came frames frame place within passed.long passed.rest read in
+    record {
+      behind = omega (arith, passed.behind);
+      within = omega (arith, within);
+      long = passed.long;
+      rest = next.1;
+      on = λ more end pass.
+          passed.on more end (subst (λ (l : List Frame). Pass known l more end) (sym next.0) (false, between, more, may, pass, refl));
+    }
+
 pub one_passes : {old known between : Known} {came frames new : List Frame} {kept place : ℕ} (frame : Frame) →
     PassedSoFar old came known frames kept place → place < length came → frame ≡ get_or frames place frame →
     MayPass known frame true between → SwappedAt frames new kept place → PassedSoFar old came between new (kept + 1) (place + 1)

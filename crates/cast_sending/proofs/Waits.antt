@@ -1,14 +1,15 @@
 -- Lists that are parted, and Stables that wait.
-use Rattle.std.proofs.Common.{◌≡◌, ℕ, ◌<◌, ◌≤◌, ◌+◌, suc, zero, Bool, true, false, List, [], ◌∷◌, ◌++◌, Some, cond, arith}
+use Rattle.std.proofs.Common.{◌≡◌, ℕ, ◌<◌, ◌≤◌, ◌+◌, suc, zero, Bool, true, false, List, [], ◌∷◌, ◌++◌, Some, cond, None, arith}
 use Rattle.std.proofs.Common.{refl, sym, ap, subst, ◌∙◌, inl, inr, get_or, length, take, drop, append_assoc}
 use Rattle.std.proofs.Math.ListN.{set}
 use Rattle.std.specs.Prelude.{filter, not, slice_get}
+use Rattle.std.specs.Bool.{OnTrue}
 use Rattle.std.proofs.lemmas.Bool.{cases_Bool, cases_lt, and_parts, and_from, not_from_true, not_from_false}
 use Rattle.std.proofs.lemmas.List.{set-get_or, set_split, append-nil, length-append, length_push, take_at, get_or_default}
 use Rattle.std.proofs.lemmas.List.Elements.{filter-append}
 use Rattle.std.proofs.lemmas.Option.{slice_get_within, get_or_from_slice_get}
 use Rattle.cast_sending.specs.Frames.{Frame, Covers, is_stable, is_other}
-use Rattle.cast_sending.specs.Stables.{are_stables, is_joined, AreParted, TakesPlace, Waits, AllWait, Joins}
+use Rattle.cast_sending.specs.Stables.{are_stables, is_joined, AreParted, IsPlaceOfCovered, TakesPlace, Waits, AllWait, Holds, Joins}
 
 pub parted_own : (own others all : List Frame) (frame : Frame) → AreParted own others all →
     AreParted (own ++ frame ∷ []) others (all ++ frame ∷ [])
@@ -74,6 +75,24 @@ stables_set (x ∷ xs) (suc place) frame all one =
     let parts = and_parts (is_stable x) (are_stables xs) all in
     and_from (is_stable x) (are_stables (set xs place frame)) parts.0 (stables_set xs place frame parts.1 one)
 
+-- one that covers none comes behind the others, if there is memory for it
+pub waits_last : (old new : List Frame) (frame : Frame) (is_pushed : Bool) → IsPlaceOfCovered old frame None →
+    new ≡ cond is_pushed (old ++ frame ∷ []) old → OnTrue is_pushed (Waits old frame new)
+waits_last old new frame true none is = inr (record { covers_none = none; is = is })
+waits_last old new frame false none is = tt
+
+stables_push : (frames : List Frame) (frame : Frame) → are_stables frames ≡ true → is_stable frame ≡ true →
+    are_stables (frames ++ frame ∷ []) ≡ true
+stables_push [] frame all one = and_from (is_stable frame) true one refl
+stables_push (x ∷ xs) frame all one =
+    let parts = and_parts (is_stable x) (are_stables xs) all in
+    and_from (is_stable x) (are_stables (xs ++ frame ∷ [])) parts.0 (stables_push xs frame parts.1 one)
+
+pub stables_last : (old new : List Frame) (frame : Frame) (is_pushed : Bool) → are_stables old ≡ true → is_stable frame ≡ true →
+    new ≡ cond is_pushed (old ++ frame ∷ []) old → are_stables new ≡ true
+stables_last old new frame true all one is = ap are_stables is ∙ stables_push old frame all one
+stables_last old new frame false all one is = ap are_stables is ∙ all
+
 stables_filter : (test : Frame → Bool) (frames : List Frame) → are_stables frames ≡ true → are_stables (filter test frames) ≡ true
 stables_filter test [] all = refl
 stables_filter test (x ∷ xs) all =
@@ -128,6 +147,33 @@ few_lost {old} {came} {rest} {others} {waiting} {lost} held =
 
 next_served : (served rest came : List Frame) (frame : Frame) → served ++ frame ∷ rest ≡ came → (served ++ frame ∷ []) ++ rest ≡ came
 next_served served rest came frame all = append_assoc served (frame ∷ []) rest ∙ all
+
+pub none_held : (old came rest others : List Frame) → rest ≡ came → others ≡ [] → are_stables old ≡ true →
+    HeldSoFar old came rest others old 0
+none_held old came rest others all none stables = record {
+  served = [];
+  kept = [];
+  missing = [];
+  all = all;
+  parted = (refl, refl);
+  counted = refl;
+  goes = none;
+  waits = refl;
+  stables = stables;
+}
+
+pub all_held : {old came others waiting : List Frame} {lost : ℕ} (rest : List Frame) → length rest ≡ 0 →
+    HeldSoFar old came rest others waiting lost →
+    Holds old came others waiting lost
+all_held {old} {came} {others} {waiting} {lost} [] none held = record {
+  kept = held.kept;
+  missing = held.missing;
+  parted = subst (λ (l : List Frame). AreParted held.kept held.missing l) (sym (append-nil held.served) ∙ held.all) held.parted;
+  counted = held.counted;
+  others = held.goes;
+  stables = held.waits;
+}
+all_held {old} {came} {others} {waiting} {lost} (frame ∷ rest) none held = absurd (omega (arith, none))
 
 pub one_lost : {old came rest others waiting : List Frame} {lost : ℕ} {frame : Frame} →
     HeldSoFar old came (frame ∷ rest) others waiting lost →
@@ -216,6 +262,31 @@ pub going_first : {old going rest went others : List Frame} {lost : ℕ} → Joi
     take (length going) went ≡ going
 going_first {old} {going} {rest} {went} {others} {lost} held =
     ap (take (length going)) held.joined ∙ take_at going (filter (is_joined going) held.kept) (length going) refl
+
+pub none_joined : (old going rest others : List Frame) → rest ≡ old → others ≡ [] → JoinedSoFar old going rest going others 0
+none_joined old going rest others all none = record {
+  served = [];
+  kept = [];
+  missing = [];
+  all = all;
+  parted = (refl, refl);
+  counted = refl;
+  joined = sym (append-nil going);
+  waits = none;
+}
+
+pub all_joined : {old going went others : List Frame} {lost : ℕ} (rest : List Frame) → length rest ≡ 0 →
+    JoinedSoFar old going rest went others lost →
+    Joins old going went others lost
+all_joined {old} {going} {went} {others} {lost} [] none held = record {
+  kept = held.kept;
+  missing = held.missing;
+  parted = subst (λ (l : List Frame). AreParted held.kept held.missing l) (sym (append-nil held.served) ∙ held.all) held.parted;
+  counted = held.counted;
+  joined = held.joined;
+  others = held.waits;
+}
+all_joined {old} {going} {went} {others} {lost} (frame ∷ rest) none held = absurd (omega (arith, none))
 
 pub one_left_out : {old going rest went others : List Frame} {lost : ℕ} {frame : Frame} →
     JoinedSoFar old going (frame ∷ rest) went others lost →

@@ -2,7 +2,7 @@ use Rattle.std.proofs.Common.{◌≡◌, ◌+◌, ◌≤◌, List, ◌∷◌, le
 use Rattle.std.specs.Vec.Iter.{into_iter_items}
 use Rattle.std.proofs.lemmas.Bool.{cases_Bool, not_from_false}
 use Rattle.cast_sending.specs.Frames.{Frame, is_stable}
-use Rattle.cast_sending.proofs.Waits.{HeldSoFar, few_lost, one_lost, one_waits, one_goes}
+use Rattle.cast_sending.proofs.Waits.{HeldSoFar, all_held, few_lost, none_held, one_lost, one_waits, one_goes}
 use Rattle.cast_sending.proofs.stables.hold_all.Goals as goal
 
 pub overflow_add-lost : goal.overflow_add-lost
@@ -40,3 +40,14 @@ loop-frame-preserved c =
           let goes = c.if-not-is_kept.ensures.goes (not_from_false (is_stable c.in-Some.frame) other) in
           rw (goes.0, goes.1) (one_goes turned other)
     ]
+
+pub loop-frame-init : goal.loop-frame-init
+loop-frame-init c =
+    none_held c.args.waiting.now.items c.args.frames.items (into_iter_items c.into_iter-frame-iterator.result) c.new-others.result.items
+    c.into_iter-frame-iterator.ensures.into_iter_gives.0 c.new-others.ensures.items c.requires
+
+pub returns-clause-held : goal.returns-clause-held
+returns-clause-held c =
+    let none : length (into_iter_items c.loop-frame.frame-iterator) ≡ 0 =
+    omega (arith, c.in-None.ensures.steps.0, c.loop-frame.frame-iterator.rest.ok.0) in
+    all_held (into_iter_items c.loop-frame.frame-iterator) none c.loop-frame.invariant

@@ -3,7 +3,7 @@ use Rattle.std.specs.Vec.Iter.{into_iter_items}
 use Rattle.std.proofs.lemmas.Bool.{cases_Bool, not_from_false}
 use Rattle.cast_sending.specs.Frames.{Frame}
 use Rattle.cast_sending.specs.Stables.{is_joined}
-use Rattle.cast_sending.proofs.Waits.{JoinedSoFar, few_left_out, going_first, one_left_out, one_joins, one_stays}
+use Rattle.cast_sending.proofs.Waits.{JoinedSoFar, few_left_out, all_joined, going_first, none_joined, one_left_out, one_joins, one_stays}
 use Rattle.cast_sending.proofs.stables.join_all.Goals as goal
 
 pub overflow_add-lost : goal.overflow_add-lost
@@ -47,3 +47,17 @@ loop-frame-preserved c =
           (not_from_false (is_joined (take c.len-count.result c.loop-frame.going.items) c.in-Some.frame) (same ∙ stays)) in
           record { joined = rw (waits.0, waits.1) (one_stays turned stays); count = c.loop-frame.invariant.count }
     ]
+
+pub loop-frame-init : goal.loop-frame-init
+loop-frame-init c = record {
+  joined = none_joined c.args.waiting.items c.args.going.now.items (into_iter_items c.into_iter-frame-iterator.result)
+      c.new-others.result.items
+      c.into_iter-frame-iterator.ensures.into_iter_gives.0 c.new-others.ensures.items;
+  count = omega (arith, c.len-count.ensures, c.args.going.now.ok.0);
+}
+
+pub returns : goal.returns
+returns c =
+    let none : length (into_iter_items c.loop-frame.frame-iterator) ≡ 0 =
+    omega (arith, c.in-None.ensures.steps.0, c.loop-frame.frame-iterator.rest.ok.0) in
+    all_joined (into_iter_items c.loop-frame.frame-iterator) none c.loop-frame.invariant.joined

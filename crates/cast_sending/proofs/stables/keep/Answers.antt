@@ -1,7 +1,8 @@
-use Rattle.std.proofs.Common.{◌≡◌, List, Some, inl, subst}
+use Rattle.std.proofs.Common.{◌≡◌, List, None, Some, inl, subst}
 use Rattle.std.specs.Prelude.{slice_get}
 use Rattle.cast_sending.specs.Frames.{Frame}
-use Rattle.cast_sending.proofs.Waits.{takes_place, stables_set}
+use Rattle.cast_sending.specs.Stables.{IsPlaceOfCovered}
+use Rattle.cast_sending.proofs.Waits.{stables_last, stables_set, takes_place, waits_last}
 use Rattle.cast_sending.proofs.stables.keep.Goals as goal
 
 pub returns-in-Some-clause-kept : goal.returns-in-Some-clause-kept
@@ -15,3 +16,13 @@ pub returns-in-Some-clause-stables : goal.returns-in-Some-clause-stables
 returns-in-Some-clause-stables c =
     rw c.replace.ensures.after
     (stables_set c.args.waiting.now.items c.in-Some.place c.args.frame c.requires.stables c.requires.stable)
+
+pub returns-clause-kept : goal.returns-clause-kept
+returns-clause-kept c =
+    waits_last c.args.waiting.now.items c.push.new.frames.items c.args.frame c.push.result
+    (subst (λ (l : List Frame). IsPlaceOfCovered l c.args.frame None) c.deref.ensures.value c.in_default.ensures) c.push.ensures
+
+pub returns-clause-stables : goal.returns-clause-stables
+returns-clause-stables c =
+    stables_last c.args.waiting.now.items c.push.new.frames.items c.args.frame c.push.result c.requires.stables c.requires.stable
+    c.push.ensures
