@@ -1,0 +1,3 @@
+pub mod Readings
+pub mod Premises
+pub mod Instances
