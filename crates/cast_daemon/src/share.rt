@@ -1,5 +1,5 @@
 //! The count of events, cut into shares for the threads that serve them.
-ghost use Rattle.std.specs.Prelude.{◌≡◌, IfSome};
+ghost use Rattle.std.specs.Prelude.{◌≡◌, ◌≤◌, ◌<◌, ◌+◌, ◌-◌, ◌^◌, ◌⊎◌, IfSome, IfNone};
 
 use cast_pool::Worked;
 use std::sync::ledger::Ledger;
@@ -34,12 +34,19 @@ impl<L: Ledger> SpareCount<L> {
     /// So many parts.
     pub fn new(worked: Worked<L>, left: u64) -> Self
         requires { worked.parts ≡ left }
+        ensures worked { result.worked ≡ worked }
+        ensures left { result.left ≡ left }
     {
         SpareCount { worked, left }
     }
 
-    /// A share for one more thread. `None` if no parts are left for it.
-    pub fn share(&mut self) -> Option<CountShare<L>> {
+    /// A share for one more thread, which has counted nothing. `None` if no parts are left for it:
+    /// one part stays here.
+    pub fn share(&mut self) -> Option<CountShare<L>>
+        ensures some { IfSome result (λ s. (s.worked.taken ≡ 0) × (self.new.left + 1 ≡ self.old.left)) }
+        ensures none { IfNone result ((self.new ≡ self.old) × (self.old.left < 2)) }
+        ensures taken { self.new.worked.taken ≡ self.old.worked.taken }
+    {
         let SpareCount { worked, left } = self;
         if *left < 2 {
             return None;
@@ -49,8 +56,14 @@ impl<L: Ledger> SpareCount<L> {
         Some(CountShare::new(share))
     }
 
-    /// This part of the count, and the share that a thread gives back.
-    pub fn with(self, share: CountShare<L>) -> Self {
+    /// This part of the count, and the share that a thread gives back. Where the count would go past
+    /// the end of its type, the share is lost.
+    pub fn with(self, share: CountShare<L>) -> Self
+        ensures { ((result.left ≡ self.left + 1)
+            × (result.worked.taken ≡ self.worked.taken + share.worked.taken))
+            ⊎ ((result ≡ self) × ((self.left ≡ 2 ^ 64 - 1)
+            ⊎ (2 ^ 64 ≤ self.worked.taken + share.worked.taken))) }
+    {
         let SpareCount { worked, left } = self;
         if left == u64::MAX {
             return SpareCount { worked, left };

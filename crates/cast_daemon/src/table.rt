@@ -1,5 +1,6 @@
 //! The table behind its lock.
-ghost use Rattle.std.specs.Prelude.{◌≡◌, ◌<◌, IfSome};
+ghost use Rattle.std.specs.Prelude.{◌≡◌, ◌<◌, IfSome, IfOk, IfErr, OnErr};
+ghost use Rattle.std.specs.Option.{is_none};
 ghost use Rattle.cast_pool.specs.Kept.{events_of};
 ghost use Rattle.cast_daemon.specs.Trimming.{CompletesHere};
 
@@ -65,7 +66,11 @@ fn serve<L: Ledger, R: Wait>(
     kept: &mut Kept<L>,
     share: &mut CountShare<L>,
     job: Job,
-) -> Done {
+) -> Done
+    ensures number { result.number ≡ job.number }
+    ensures done { CompletesHere job.task (is_none trimmer.now.tape) result.outcome kept.old kept.new
+        share.old.worked.taken share.new.worked.taken }
+{
     complete(
         rt,
         trimmer,
@@ -94,7 +99,11 @@ fn serve_and_look<L: Ledger, R: Wait>(
     share: &mut CountShare<L>,
     job: Job,
     paces: &[Pace],
-) -> (Done, usize, bool) {
+) -> (Done, usize, bool)
+    ensures number { result.0.number ≡ job.number }
+    ensures done { CompletesHere job.task (is_none trimmer.now.tape) result.0.outcome kept.old kept.new
+        share.old.worked.taken share.new.worked.taken }
+{
     let place = pace_of(paces, domain_of(&job));
     let Some(pace) = paces.get(place) else {
         let done = serve(rt, trimmer, kept, share, job);
@@ -122,7 +131,13 @@ fn cast_and_look<L: Ledger, R: Wait>(
     job: Job,
     pace: &Pace,
     asks: Option<Wanted>,
-) -> Result<Done, (Job, Wakings)> {
+) -> Result<Done, (Job, Wakings)>
+    ensures number { IfOk result (λ done. done.number ≡ job.number) }
+    ensures done { IfOk result (λ done. CompletesHere job.task (is_none trimmer.now.tape) done.outcome
+        kept.old kept.new share.old.worked.taken share.new.worked.taken) }
+    ensures back { IfErr result (λ back. back.0 ≡ job) }
+    ensures same { OnErr result ((kept.new ≡ kept.old) × (share.new ≡ share.old)) }
+{
     let before = kept.table().backlog(pace.domain);
     if let (Some(backlog), Some(wanted)) = (before, asks)
         && let Some(wakings) = pace.must_wait(rt, backlog, wanted)

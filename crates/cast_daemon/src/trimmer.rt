@@ -1,5 +1,7 @@
 //! When events leave the trace: when there are many, when their payloads are many bytes, and when a
 //! domain was halted.
+ghost use Rattle.std.specs.Prelude.{◌≡◌};
+ghost use Rattle.std.specs.Option.{is_none};
 ghost use Rattle.cast_pool.specs.Served.{IsTrimmed};
 ghost use Rattle.cast_daemon.specs.Trimming.{MayTrim};
 
@@ -66,7 +68,9 @@ impl<'a> Trimmer<'a> {
     }
 
     /// Whether the trace may be trimmed, so that its events are lost.
-    pub fn may_lose(&self) -> bool {
+    pub fn may_lose(&self) -> bool
+        ensures { result ≡ is_none self.now.tape }
+    {
         self.tape.is_none()
     }
 
