@@ -44,7 +44,7 @@ impl<L: Ledger> SpareCount<L> {
     /// one part stays here.
     pub fn share(&mut self) -> Option<CountShare<L>>
         ensures some { IfSome result (λ s. (s.worked.taken ≡ 0) × (self.new.left + 1 ≡ self.old.left)) }
-        ensures none { IfNone result ((self.new ≡ self.old) × (self.old.left < 2)) }
+        ensures none { IfNone result ((self.new.left ≡ self.old.left) × (self.old.left < 2)) }
         ensures taken { self.new.worked.taken ≡ self.old.worked.taken }
     {
         let SpareCount { worked, left } = self;
@@ -61,8 +61,8 @@ impl<L: Ledger> SpareCount<L> {
     pub fn with(self, share: CountShare<L>) -> Self
         ensures { ((result.left ≡ self.left + 1)
             × (result.worked.taken ≡ self.worked.taken + share.worked.taken))
-            ⊎ ((result ≡ self) × ((self.left ≡ 2 ^ 64 - 1)
-            ⊎ (2 ^ 64 ≤ self.worked.taken + share.worked.taken))) }
+            ⊎ ((result.left ≡ self.left) × (result.worked ≡ self.worked)
+            × ((self.left ≡ 2 ^ 64 - 1) ⊎ (2 ^ 64 ≤ self.worked.taken + share.worked.taken))) }
     {
         let SpareCount { worked, left } = self;
         if left == u64::MAX {

@@ -1,1 +1,3 @@
 pub mod Powers
+pub mod Staying
+pub mod Once

@@ -1,5 +1,5 @@
 //! Which programs are served, what is asked of the workers, and which sessions are still to end.
-use cast_edge::{Client, Count, Report, Session};
+use cast_edge::{Client, Count, Endings, Report, Session};
 use cast_events::{Asked, Event, Raw};
 use cast_types::{DomainNo, NoMemory, Refusal};
 use crossbeam_channel::Sender;
@@ -36,71 +36,6 @@ pub enum Purpose {
     Other,
 }
 
-// How far a session is from its end.
-#[derive(Clone, Copy, Debug, PartialEq, Eq)]
-enum End {
-    // Its program is served, or it is not opened yet.
-    Ahead,
-    // Its Gone is to be handed in.
-    Due(Session),
-    // Its Gone is on the way.
-    Asked(Session),
-}
-
-// A session that is not gone, by the number under which it was asked for.
-#[derive(Drop)]
-struct Ending {
-    number: u64,
-    end: End,
-}
-
-// The sessions that are not gone. Numbers rise, so the last one is added at the end.
-#[derive(Drop)]
-struct Endings {
-    list: Vec<Ending>,
-}
-
-impl Endings {
-    // No session.
-    fn new(alloc: Global) -> Self {
-        Endings {
-            list: Vec::new(alloc),
-        }
-    }
-
-    // Adds a session that is asked for under a number above all others.
-    fn add(&mut self, number: u64) -> Result<(), NoMemory> {
-        self.list.push(Ending {
-            number,
-            end: End::Ahead,
-        })?;
-        Ok(())
-    }
-
-    // The place of a number.
-    fn place(&self, number: u64) -> Option<usize> {
-        self.list
-            .binary_search_by_key(&number, |ending| ending.number)
-            .ok()
-    }
-
-    // Forgets a number.
-    fn remove(&mut self, number: u64) {
-        if let Some(place) = self.place(number)
-            && place < self.list.len()
-        {
-            drop(self.list.remove(place));
-        }
-    }
-
-    // How far the session under a number is from its end.
-    fn get_mut(&mut self, number: u64) -> Option<&mut End> {
-        let place = self.place(number)?;
-        let ending = self.list.get_mut(place)?;
-        Some(&mut ending.end)
-    }
-}
-
 // Sends something if there is room for it, else answers false. It is proved for any type at once:
 // at that of jobs alone a call of the channel takes fifteen times as long to prove.
 fn send_now<T: Drop, R: Wait>(rt: &R, to: &Sender<T>, what: T) -> bool {
@@ -113,16 +48,11 @@ fn ask<R: Wait>(rt: &R, jobs: &Sender<Raw>, number: u64, event: Event) -> bool {
     send_now(rt, jobs, Raw { number, asked })
 }
 
-// Hands in the Gone of a session if it is due. What is refused stays due.
-fn hand_in<R: Wait>(rt: &R, jobs: &Sender<Raw>, ending: &mut Ending) {
-    if let End::Due(session) = ending.end {
-        let event = Event::Gone {
-            domain: session.domain,
-            serial: session.serial,
-        };
-        if ask(rt, jobs, ending.number, event) {
-            ending.end = End::Asked(session);
-        }
+// The Gone of a session.
+fn gone_of(session: Session) -> Event {
+    Event::Gone {
+        domain: session.domain,
+        serial: session.serial,
     }
 }
 
@@ -226,7 +156,7 @@ impl Desk {
         }
         match self.waiting.remove(&number) {
             Some(purpose) => purpose,
-            None if self.ends.place(number).is_some() => Purpose::Gone,
+            None if self.ends.has(number) => Purpose::Gone,
             None => Purpose::Other,
         }
     }
@@ -257,19 +187,24 @@ impl Desk {
     /// Forgets a program, and hands in that its session ends.
     pub fn leave<R: Wait>(&mut self, rt: &R, opened: Opened) {
         drop(self.clients.remove(&opened.session));
-        if let Some(end) = self.ends.get_mut(opened.number) {
-            *end = End::Due(opened.session);
-        }
+        self.ends.end(opened.number, opened.session);
         self.hand_in_ends(rt);
     }
 
-    /// Hands in each Gone that is due. What is refused stays due.
+    /// Hands in each Gone that is due, up to the first that is refused. What is not handed in stays
+    /// due.
     pub fn hand_in_ends<R: Wait>(&mut self, rt: &R) {
         let Some(jobs) = &self.jobs else {
             return;
         };
-        for ending in self.ends.list.iter_mut() {
-            hand_in(rt, jobs, ending);
+        for _turn in 0..self.ends.count() {
+            let Some((number, session)) = self.ends.next_due() else {
+                return;
+            };
+            if !ask(rt, jobs, number, gone_of(session)) {
+                return;
+            }
+            self.ends.ask(number);
         }
     }
 
@@ -277,10 +212,8 @@ impl Desk {
     pub fn gone(&mut self, number: u64, is_done: bool) {
         if is_done {
             self.ends.remove(number);
-        } else if let Some(end) = self.ends.get_mut(number) {
-            if let End::Asked(session) = *end {
-                *end = End::Due(session);
-            }
+        } else {
+            self.ends.ask_again(number);
         }
     }
 
