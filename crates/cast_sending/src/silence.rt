@@ -25,7 +25,7 @@ const SILENT: u32 = 50;
 const AT_A_TICK: u32 = 2;
 
 // Since when a site has acknowledged nothing.
-#[derive(Clone, Copy, Debug, PartialEq, Eq)]
+#[derive(Clone, Copy)]
 struct Silence {
     // How many ticks there were since it was sent the first message behind its last
     // acknowledgement.
