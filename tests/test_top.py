@@ -6,9 +6,9 @@ import signal
 import subprocess
 import time
 import unittest
+from xml.etree import ElementTree
 
-from harness import PATIENCE, TOOLS, Case, change_plan, stop, wait_for_push, wait_until
-from harness import castd
+from harness import PATIENCE, PROGRAM, ROOT, TOOLS, Case, castd, change_plan, stop, wait_for_push
 from terminal import ARROW_DOWN, ARROW_UP, CONTROL_C, AtTerminal
 from castd_tools import configuration
 from castd_tools.answers import Group
@@ -525,8 +525,8 @@ class Interactive(Case):
             ("j", "DOMAIN SITE"),
         ):
             top.press(keys)
-            lines = self.wait_for_first(top, first)
-        self.assertNotIn("lines more", "".join(lines))
+            self.wait_for_first(top, first)
+        top.wait_for(lambda lines: not any("lines more" in line for line in lines), PATIENCE)
 
     def test_pages_are_scrolled(self):
         setup, _ = self.two_sites()
@@ -551,3 +551,24 @@ class Interactive(Case):
                 top = self.top(setup, kind=kind, columns=120)
                 self.wait_for(top, f"castd-top: the terminal '{kind}' cannot be used: ", text)
                 self.assert_ends(top, 2)
+
+
+class Pictures(Case):
+    def test_three_sites_are_drawn(self):
+        path = pathlib.Path(self.folder, "picture.svg")
+        ran = run(str(ROOT / "tools/picture"), PROGRAM, str(path))
+        self.assertEqual((ran.returncode, ran.stderr), (0, ""))
+        lines = [element.text for element in ElementTree.parse(path).iter("{http://www.w3.org/2000/svg}text")]
+        self.assertRegex(lines[0], "^castd-top  .* UTC  3 of 3 sites answer  castd.conf$")
+        told = [line.split() for line in lines]
+        # Each program casts, and the two of domain 2 at site 3 use up the quota of two sessions.
+        self.assertGreater(float(told[2][3]), 1)
+        self.assertIn(["2", "3", "running", "2/2!", "0/256"], [row[:5] for row in told])
+        self.assertIn(["1", "1", "3", "open", "1.1", "all", "3:", "1.1", "2.1", "3.1"], told)
+
+    def test_a_picture_that_cannot_be_made_leaves_the_old_one(self):
+        path = pathlib.Path(self.folder, "picture.svg")
+        path.write_text("old")
+        ran = run(str(ROOT / "tools/picture"), "/bin/false", str(path))
+        self.assertEqual((ran.returncode, ran.stdout, path.read_text()), (1, "", "old"))
+        self.assertIn("picture: castd-keeper ended with 1", ran.stderr)

@@ -32,9 +32,13 @@ class Installation:
     pattern: str
     """The path of the control sockets, with `{site}` in place of the number."""
 
+    def control_socket(self, site: int) -> str:
+        """Where the keeper of a site has its control socket, if the site runs on this host."""
+        return self.pattern.replace(SITE, str(site))
+
     def running(self) -> dict[int, str]:
         """The control socket of each site that runs on this host now, by the number of the site, in rising order."""
-        paths = {site: self.pattern.replace(SITE, str(site)) for site in sorted(self.configuration.sites)}
+        paths = {site: self.control_socket(site) for site in sorted(self.configuration.sites)}
         return {site: path for site, path in paths.items() if os.path.exists(path)}
 
     def some_running(self) -> dict[int, str]:

@@ -62,13 +62,13 @@ class Observer:
         # What the sites showed the time before the last, and the last time, by their numbers in rising order.
         self.before: dict[int, SiteObservation] = {}
         self.now: dict[int, SiteObservation] = {}
-        self._paths: dict[int, str] = {}
+        self._seen: set[int] = set()
 
     async def observe(self) -> None:
         """Asks all sites at once. A site that ran here before is asked too, though its control socket may be gone."""
-        self._paths |= self.installation.running()
-        sites = sorted(self._paths)
-        shown = await asyncio.gather(*(observe(site, self._paths[site]) for site in sites))
+        self._seen.update(self.installation.running())
+        sites = sorted(self._seen)
+        shown = await asyncio.gather(*(observe(site, self.installation.control_socket(site)) for site in sites))
         self.before, self.now = self.now, dict(zip(sites, shown, strict=True))
 
 

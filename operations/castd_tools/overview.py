@@ -28,7 +28,7 @@ def overview(time: str, config: str, configuration: Configuration, before: Sites
     """
     parts = [_sites(configuration, before, now), _domains(configuration, before, now), _groups(configuration, now)]
     lines = [_headline(time, config, now), *(line for part in parts for line in ("", *part))]
-    return [_cut(_plain(line), WIDTH) for line in lines]
+    return [_cut(plain(line), WIDTH) for line in lines]
 
 
 def window(lines: list[str], first: int, height: int) -> tuple[int, list[str]]:
@@ -176,7 +176,7 @@ def _padded(cell: str, alignment: str, width: int) -> str:
     return f"{cell:{alignment}{width}}"
 
 
-def _plain(text: str) -> str:
+def plain(text: str) -> str:
     """A text with a question mark for each character that is not printable ASCII."""
     return "".join(character if " " <= character <= "~" else "?" for character in text)
 

@@ -14,7 +14,7 @@ from castd_tools import control
 from castd_tools.command_line import stop_signals
 from castd_tools.dialog import BACKSPACE, ENTER, ESCAPE, Dialog, Order
 from castd_tools.observation import Observer
-from castd_tools.overview import window
+from castd_tools.overview import plain, window
 
 # How long an escape may be the first byte of another key, in milliseconds.
 _ESCAPE_MILLISECONDS = 25
@@ -85,8 +85,9 @@ class Screen:
         self._terminal.erase()
         for row, line in enumerate(shown):
             self._terminal.insnstr(row, 0, line, width)
-        self._terminal.insnstr(height - 1, 0, self._dialog.text, width)
-        self._terminal.move(height - 1, min(len(self._dialog.text), width - 1))
+        said = plain(self._dialog.text)
+        self._terminal.insnstr(height - 1, 0, said, width)
+        self._terminal.move(height - 1, min(len(said), width - 1))
         self._terminal.refresh()
 
     def _take_keys(self) -> None:
@@ -116,8 +117,9 @@ class Screen:
     async def _say(self, order: Order) -> None:
         """Says a line, and shows what came of it."""
         try:
-            answer = await control.ask(self._observer.installation.running()[order.site], order.line, control.ANSWER_SECONDS)
-        except (control.ControlError, KeyError) as error:
+            path = self._observer.installation.control_socket(order.site)
+            answer = await control.ask(path, order.line, control.ANSWER_SECONDS)
+        except control.ControlError as error:
             answer = [str(error)]
         self._dialog.tell(f"{order.line} at site {order.site}: {'; '.join(answer)}")
         self._draw()
