@@ -31,7 +31,7 @@ domain = [
 READ = configuration.parse(CONFIGURATION)
 NOBODY = Group(2, 0, None, (), False)
 OPEN = Group(1, 3, "101.1", ("101.1", "103.2"), False)
-QUOTAS = {"sessions": 16, "held": 256}
+QUOTAS = {"sessions": 15, "held": 256}
 
 
 def domain(sessions: int, held: int, casts: int, *groups: Group, **more) -> DomainObservation:
@@ -69,10 +69,10 @@ class Overviews(unittest.TestCase):
                 " 103 192.0.2.3:7001 up         0.5        0       20    3.1 MiB healthy",
                 "",
                 "DOMAIN SITE STATE   SESSIONS       KEPT   CASTS/S HOME",
-                "     1  101 running    12/16    204/256      1234 here",
-                "     1  103 running    13/16!   205/256!        0 101",
-                "     7  101 running     0/16      0/256         0 103",
-                "     7  103 running     0/16      0/256       0.5 here",
+                "     1  101 running    12/15    204/256      1234 here",
+                "     1  103 running    13/15!   205/256!        0 101",
+                "     7  101 running     0/15      0/256         0 103",
+                "     7  103 running     0/15      0/256       0.5 here",
                 "",
                 "DOMAIN GROUP   VIEW STATE  HOLDER SITES MEMBERS",
                 "     1     1      3 open   101.1  all   2: 101.1 103.2",
@@ -85,7 +85,7 @@ class Overviews(unittest.TestCase):
         now = {101: site(12.0, 13_000, 2_001, {1: domain(12, 2, 2_968)})}
         lines = shown({}, now)
         self.assertIn(" 101 192.0.2.1:7001 up           -        -        -    3.1 MiB healthy", lines)
-        self.assertIn("     1  101 running    12/16      2/256         - here", lines)
+        self.assertIn("     1  101 running    12/15      2/256         - here", lines)
 
     def test_a_count_that_fell_has_no_rate(self):
         before, now = ({101: site(time, sent, 5, {1: domain(0, 0, sent)})} for time, sent in ((1.0, 9), (2.0, 8)))
@@ -95,14 +95,14 @@ class Overviews(unittest.TestCase):
         reasons = ("domain 1 is halted", "site 103 was put out of domain 7, whose programs are no longer served here")
         halted = domain(0, 0, 0, is_running=False, shown={})
         retired = domain(0, 0, 3, is_retired=True, is_home_silent=True)
-        answered = {101: site(1.0, 3, 5, {1: domain(0, 0, 0)})}
+        before = {101: site(1.0, 3, 5, {1: domain(0, 0, 0)}), 103: SiteObservation(1.0, problem="no answer within 2 s")}
         now = {
             101: SiteObservation(2.0, problem="no answer within 2 s"),
             102: site(2.0, 3, 5, {1: retired}, reasons=("the home of domain 1, site 101, is silent",)),
             103: site(2.0, 3, 5, {1: halted, 7: domain(0, 0, 1)}, reasons=reasons),
         }
         self.assertEqual(
-            shown(answered, now)[:13],
+            shown(before, now)[:13],
             [
                 "castd-top  2026-12-01 14:00:00 UTC  2 of 3 sites answer  /etc/castd.conf",
                 "",
@@ -115,7 +115,7 @@ class Overviews(unittest.TestCase):
                 "      site 103 was put out of domain 7, whose programs are no longer served here",
                 "",
                 "DOMAIN SITE STATE   SESSIONS       KEPT   CASTS/S HOME",
-                "     1  102 retired     0/16      0/256         - 101 is silent",
+                "     1  102 retired     0/15      0/256         - 101 is silent",
                 "     1  103 halted         -          -         - 101",
             ],
         )
@@ -156,7 +156,7 @@ class Overviews(unittest.TestCase):
 
     def test_a_domain_that_the_configuration_lacks_is_shown(self):
         now = {101: site(1.0, 0, 0, {9: domain(1, 0, 0)})}
-        self.assertIn("     9  101 running     1/16      0/256         - -", shown({}, now))
+        self.assertIn("     9  101 running     1/15      0/256         - -", shown({}, now))
 
 
 class Windows(unittest.TestCase):
@@ -299,6 +299,13 @@ class Once(Case):
         setup = self.setup_of()
         keeper = self.keeper(setup)
         os.kill(keeper.process.pid, signal.SIGSTOP)
+        ran = self.once(setup, "--interval", "0.1")
+        self.assertEqual((ran.returncode, ran.stderr), (3, ""))
+        self.assertRegex(ran.stdout, r"(?m) no answer within 2 s$")
+
+    def test_a_site_has_two_seconds_for_all_its_answers(self):
+        setup = self.setup_of()
+        self.stand_in(setup, delays={"show 1": 0.8, "groups 1": 0.8})
         ran = self.once(setup, "--interval", "0.1")
         self.assertEqual((ran.returncode, ran.stderr), (3, ""))
         self.assertRegex(ran.stdout, r"(?m) no answer within 2 s$")
@@ -496,6 +503,7 @@ class Interactive(Case):
             (6, 30, ["castd-top  ", "lines more"]),
             (2, 10, ["lines more"[:1]]),
             (1, 1, []),
+            (24, 30, ["castd-top  "]),
             (24, 80, ["2 of 2 sites answer", HELP]),
             (40, 200, ["2 of 2 sites answer", HELP]),
         ):
@@ -506,7 +514,9 @@ class Interactive(Case):
                 top.wait_for(lambda lines: lines[-1] == "stop site which? "[:columns].rstrip(), PATIENCE)
                 top.press("\x1b")
                 top.wait_for(lambda lines: lines[-1] == HELP[:columns].rstrip(), PATIENCE)
-                self.wait_for(top, *texts)
+                lines = self.wait_for(top, *texts)
+                # No line goes on in the next one, which is empty.
+                self.assertEqual(lines[1:2], [""] if rows > 2 else [HELP[:columns].rstrip()][: rows - 1])
                 self.assertIsNone(top.process.poll())
         top.press("q")
         self.assert_ends(top)

@@ -2,7 +2,7 @@
 
 from __future__ import annotations
 
-from collections.abc import Iterable, Mapping, Sequence
+from collections.abc import Callable, Iterable, Mapping, Sequence
 from itertools import zip_longest
 
 from castd_tools.answers import Group
@@ -139,17 +139,24 @@ def _members(group: Group) -> str:
 
 
 def _casts_a_second(before: SiteObservation | None, now: SiteObservation, domain: int) -> float | None:
-    counts = [None if it is None or domain not in it.domains else it.domains[domain].shown.get("casts") for it in (before, now)]
-    return _a_second(before, now, *counts)
+    def casts(site: SiteObservation) -> int | None:
+        return site.domains[domain].shown.get("casts") if domain in site.domains else None
+
+    return _a_second(before, now, casts)
 
 
 def _datagrams_a_second(before: SiteObservation | None, now: SiteObservation, name: str) -> float | None:
-    return _a_second(before, now, None if before is None else before.datagrams.get(name), now.datagrams.get(name))
+    return _a_second(before, now, lambda site: site.datagrams.get(name))
 
 
-def _a_second(before: SiteObservation | None, now: SiteObservation, first: int | None, last: int | None) -> float | None:
+def _a_second(
+    before: SiteObservation | None, now: SiteObservation, count: Callable[[SiteObservation], int | None]
+) -> float | None:
     """How fast a count rose. None where that is not known."""
-    if before is None or first is None or last is None or last < first or now.time <= before.time:
+    if before is None:
+        return None
+    first, last = count(before), count(now)
+    if first is None or last is None or last < first:
         return None
     return (last - first) / (now.time - before.time)
 
