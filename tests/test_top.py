@@ -3,6 +3,7 @@
 import os
 import pathlib
 import signal
+import socket
 import subprocess
 import time
 import unittest
@@ -249,7 +250,8 @@ def words(setup, *more: str) -> list[str]:
 
 
 def run(*words: str) -> subprocess.CompletedProcess:
-    return subprocess.run(words, capture_output=True, text=True, timeout=PATIENCE, check=False, stdin=subprocess.DEVNULL)
+    how = {"capture_output": True, "text": True, "timeout": PATIENCE, "check": False}
+    return subprocess.run(words, stdin=subprocess.DEVNULL, **how)
 
 
 class Once(Case):
@@ -358,6 +360,17 @@ class Once(Case):
         told = [line.split() for line in ran.stdout.splitlines()]
         self.assertIn(["1", "2", "retired", "0/16", "0/256", "0", "1", "is", "silent"], told)
 
+    def test_sigint_ends_it_without_a_word(self):
+        setup = self.setup_of()
+        with socket.socket(socket.AF_UNIX) as keeper:
+            keeper.bind(setup.control(1))
+            keeper.listen()
+            top = subprocess.Popen(words(setup, "--once"), stdout=subprocess.PIPE, stderr=subprocess.PIPE)
+            keeper.settimeout(PATIENCE)
+            keeper.accept()[0].close()
+            top.send_signal(signal.SIGINT)
+            self.assertEqual((top.communicate(timeout=PATIENCE), top.returncode), ((b"", b""), -signal.SIGINT))
+
     def test_where_none_runs_or_the_configuration_is_at_fault_it_says_so(self):
         setup = self.setup_of(2)
         ran = self.once(setup)
@@ -457,7 +470,7 @@ class Interactive(Case):
     def test_a_keeper_that_does_not_answer_holds_nothing_up(self):
         setup, (home, other) = self.two_sites()
         os.kill(other.process.pid, signal.SIGSTOP)
-        top = self.top(setup)
+        top = self.top(setup, columns=160)
         self.wait_for(top, "1 of 2 sites answer", f"2 {setup.addresses[2]} no answer within 2 s")
         # Keys are taken while it is asked. To wait for the answer each time would take 20 seconds.
         begun = time.monotonic()
@@ -474,6 +487,8 @@ class Interactive(Case):
         self.wait_for(top, "stop at site 2: ok")
         home.process.kill()
         self.wait_for(top, "0 of 2 sites answer", f"1 {setup.addresses[1]} Connection refused")
+        top.press("x1\ry")
+        self.wait_for(top, f"stop at site 1: {setup.control(1)}: Connection refused")
         top.press("q")
         self.assert_ends(top)
 
@@ -546,7 +561,8 @@ class Interactive(Case):
         subprocess.run(["tic", "-o", self.folder, kind], check=True)
         top = self.top(setup, rows=6, kind="paged", TERMINFO=self.folder)
         self.wait_for(top, "2 of 2 sites answer", "7 lines more")
-        for key, first in (("\x1bU", "   2"), ("\x1bU", "DOMAIN SITE"), ("\x1bU", "DOMAIN SITE"), ("\x1bV", "SITE ADDRESS")):
+        down, up = "\x1bU", "\x1bV"
+        for key, first in ((down, "   2"), (down, "DOMAIN SITE"), (down, "DOMAIN SITE"), (up, "SITE ADDRESS")):
             top.press(key)
             self.wait_for_first(top, first)
 

@@ -100,7 +100,8 @@ class Dialog:
             return
         try:
             if len(words) != _QUESTIONS[asked][1]:
-                raise Refused("two numbers are needed: the site, then the domain" if asked == "s" else "one number is needed")
+                two = "two numbers are needed: the site, then the domain"
+                raise Refused(two if asked == "s" else "one number is needed")
             site = site_number(words[0])
             self._order = self._suspicion(site, words[1], running) if asked == "s" else _stop(site, running)
         except (Refused, argparse.ArgumentTypeError) as error:

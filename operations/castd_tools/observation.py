@@ -39,7 +39,7 @@ class DomainObservation:
 
 @dataclass(frozen=True)
 class SiteObservation:
-    """What a site shows of itself and of its domains. Of one that does not answer only the time and the problem are known."""
+    """What a site shows of itself and of its domains. One that does not answer has a time and a problem alone."""
 
     time: float
     """When it was asked, in seconds of any one clock."""

@@ -3,6 +3,7 @@
 from __future__ import annotations
 
 import asyncio
+import contextlib
 import curses
 import os
 import signal
@@ -38,8 +39,14 @@ Overview = Callable[[], list[str]]
 
 def show(observer: Observer, overview: Overview, interval: float) -> None:
     """Shows an overview of what is observed each so many seconds, until the user or a signal ends it."""
+
+    def run(terminal: curses.window) -> None:
+        with contextlib.suppress(curses.error):
+            curses.use_default_colors()
+        asyncio.run(Screen(terminal, observer, overview, interval).run())
+
     curses.set_escdelay(_ESCAPE_MILLISECONDS)
-    curses.wrapper(lambda terminal: asyncio.run(Screen(terminal, observer, overview, interval).run()))
+    curses.wrapper(run)
 
 
 class Screen:

@@ -10,12 +10,13 @@ import signal
 import sys
 import time
 
+from castd_tools import control
 from castd_tools.command_line import Failure, Tool, seconds
 from castd_tools.installation import SITE, read_installation, socket_pattern
 from castd_tools.observation import Observer
 from castd_tools.overview import overview
 from castd_tools.screen import show
-from castd_tools.statuses import BY_SIGNAL, CONFIGURATION, NOT_DONE, UNREACHED, USAGE
+from castd_tools.statuses import CONFIGURATION, NOT_DONE, UNREACHED, USAGE
 
 _LEAST_INTERVAL, _MOST_INTERVAL = 0.1, 3_600.0
 
@@ -37,7 +38,10 @@ TOOL = Tool(
 def main() -> int:
     try:
         options = _options(sys.argv[1:])
-        if not options.once:
+        if options.once:
+            # SIGINT ends it as any program that does not look at it.
+            signal.signal(signal.SIGINT, signal.SIG_DFL)
+        else:
             _need_terminal()
         installation = read_installation(options.config, options.socket)
         installation.some_running()
@@ -46,8 +50,6 @@ def main() -> int:
     except Failure as failure:
         TOOL.complain(*failure.lines)
         return failure.status
-    except KeyboardInterrupt:
-        return BY_SIGNAL + signal.SIGINT
 
 
 def _options(words: list[str]) -> argparse.Namespace:
@@ -57,7 +59,7 @@ def _options(words: list[str]) -> argparse.Namespace:
         "--socket",
         metavar="PATH",
         type=socket_pattern,
-        help=f"the control sockets, if they are not /run/castd-{SITE}/control; {SITE} stands for the number of the site",
+        help=f"the control sockets, if they are not {control.path_of(SITE)}; {SITE} stands for the number of the site",
     )
     add(
         "--interval",
@@ -104,6 +106,6 @@ class Top:
         return NOT_DONE if any(site.reasons for site in self._observer.now.values()) else 0
 
     def _overview(self) -> list[str]:
-        installation = self._observer.installation
         clock = time.strftime("%Y-%m-%d %H:%M:%S UTC", time.gmtime())
-        return overview(clock, installation.config, installation.configuration, self._observer.before, self._observer.now)
+        it, before, now = self._observer.installation, self._observer.before, self._observer.now
+        return overview(clock, it.config, it.configuration, before, now)
