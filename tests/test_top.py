@@ -9,7 +9,7 @@ import time
 import unittest
 from xml.etree import ElementTree
 
-from harness import PATIENCE, PROGRAM, ROOT, TOOLS, Case, castd, change_plan, stop, wait_for_push
+from harness import PATIENCE, PROGRAM, ROOT, TOOLS, Case, castd, change_plan, stop, wait_for_push, wait_for_view
 from terminal import ARROW_DOWN, ARROW_UP, CONTROL_C, AtTerminal
 from castd_tools import configuration
 from castd_tools.answers import Group
@@ -263,6 +263,7 @@ class Once(Case):
         keepers = {number: self.keeper(setup, number) for number in (1, 2, 3)}
         session = self.joined(setup, 1, 1)
         self.joined(setup, 2, 2)
+        wait_for_view(session, 2)
         ran = self.once(setup, "--interval", "0.1")
         lines = ran.stdout.splitlines()
         self.assertEqual((ran.returncode, ran.stderr), (0, ""))
@@ -295,7 +296,6 @@ class Once(Case):
         self.assertIn("1 of 3 sites answer", ran.stdout)
         self.assertRegex(ran.stdout, rf"(?m)^ +3 {setup.addresses[3]} +no answer within 2 s$")
         self.assertRegex(ran.stdout, rf"(?m)^ +1 {setup.addresses[1]} +up ")
-        session.close()
 
     def test_a_keeper_that_is_stopped_does_not_answer(self):
         setup = self.setup_of()

@@ -59,7 +59,7 @@ class Dialog:
         return self._message or HELP
 
     def tell(self, message: str) -> None:
-        """Shows a message once no question is open, until a key is pressed."""
+        """Shows a message once no question is open, until the next key is taken."""
         self._message = message
 
     def press(self, key: str, running: Collection[int]) -> Order | None:
