@@ -40,7 +40,7 @@ class Completing(Case):
         return sorted(re.findall(r"^ +(?:-\w, +)?(--[a-z-]+)", told, re.MULTILINE))
 
     def test_each_option_of_the_help_and_no_other(self):
-        commands = [(tool,) for tool in ("castctl", "castd-conf", "castd-keeper", "castd-watch")]
+        commands = [(tool,) for tool in ("castctl", "castd-conf", "castd-keeper", "castd-top", "castd-watch")]
         commands += [("castd-conf", it) for it in ("make", "lint", "next", "keys", "firewall", "unit")]
         for tool, *more in commands:
             with self.subTest(tool, more=more):
@@ -86,6 +86,7 @@ class Completing(Case):
         self.assertEqual(self.completed("castd-conf", "make", "a"), ["a plan.toml"])
         self.assertEqual(self.completed("castd", "check", "castd.c"), ["castd.conf"])
         self.assertEqual(self.completed("castd-watch", "castd.conf", "--patience", ""), [])
+        self.assertEqual(self.completed("castd-top", "--once", "castd.c"), ["castd.conf"])
 
     def test_zsh_takes_it(self):
         if shutil.which("zsh") is None:

@@ -87,20 +87,20 @@ class Statuses(Case):
     def test_commands_find_their_package_where_they_are_installed(self):
         prefix = pathlib.Path(self.folder, "prefix")
         (prefix / "bin").mkdir(parents=True)
-        for name in ("castctl", "castd-keeper", "castd-watch"):
+        for name in ("castctl", "castd-keeper", "castd-top", "castd-watch"):
             shutil.copy(TOOLS / name, prefix / "bin")
             os.symlink(prefix / "bin" / name, f"{self.folder}/{name}")
             words = [f"{self.folder}/{name}", "--help"]
             self.assertIn("ModuleNotFoundError", subprocess.run(words, capture_output=True, text=True).stderr)
         shutil.copytree(TOOLS / "castd_tools", prefix / "lib" / "castd" / "castd_tools")
-        for name in ("castctl", "castd-keeper", "castd-watch"):
+        for name in ("castctl", "castd-keeper", "castd-top", "castd-watch"):
             ran = subprocess.run([f"{self.folder}/{name}", "--help"], capture_output=True, text=True, cwd="/")
             self.assertEqual((ran.returncode, ran.stderr), (0, ""))
             self.assertIn(f"usage: {name} ", ran.stdout)
 
     def test_tools_have_the_version_of_the_daemon(self):
         version = subprocess.run([PROGRAM, "--version"], capture_output=True, text=True).stdout.split()[1]
-        for name in ("castctl", "castd-conf", "castd-keeper", "castd-watch"):
+        for name in ("castctl", "castd-conf", "castd-keeper", "castd-top", "castd-watch"):
             with self.subTest(name):
                 ran = subprocess.run([str(TOOLS / name), "--version"], capture_output=True, text=True)
                 self.assertEqual((ran.returncode, ran.stdout), (0, f"{name} {version}\n"))

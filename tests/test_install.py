@@ -11,7 +11,7 @@ import sys
 from dist import InstalledCase, TreeCase, contents, need, run
 from harness import PROGRAM
 
-TOOLS = ("castctl", "castd-conf", "castd-keeper", "castd-watch")
+TOOLS = ("castctl", "castd-conf", "castd-keeper", "castd-top", "castd-watch")
 C_PROGRAM = """\
 #include <castd.h>
 int main(int count, char **words) {

@@ -4,6 +4,7 @@ from __future__ import annotations
 
 import argparse
 import asyncio
+import math
 import signal
 import sys
 import textwrap
@@ -94,3 +95,14 @@ def whole_number(text: str, least: int, most: int) -> int:
     if not (text.isascii() and text.isdigit() and len(text) <= len(str(most)) and least <= int(text) <= most):
         raise argparse.ArgumentTypeError(f"{text!r} is not a number from {least} to {most}")
     return int(text)
+
+
+def seconds(text: str, least: float, most: float) -> float:
+    """The seconds that a word says. An error of the command line where it is no number, or is outside its limits."""
+    try:
+        said = float(text)
+    except ValueError:
+        said = math.nan
+    if not least <= said <= most:
+        raise argparse.ArgumentTypeError(f"{text!r} is not {least:g} to {most:g} seconds")
+    return said

@@ -13,6 +13,8 @@ import unicodedata
 from castd_tools.system import reason
 
 LONGEST_LINE = 4_096
+# How long a tool that an operator uses waits for the answer to a line.
+ANSWER_SECONDS = 15.0
 KEEPER = "keeper: "
 UNHEALTHY = "unhealthy: "
 

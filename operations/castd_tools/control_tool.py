@@ -5,21 +5,14 @@ from __future__ import annotations
 import argparse
 import asyncio
 import json
-import os
 import sys
 from dataclasses import dataclass
 
 from castd_tools import control
 from castd_tools.answers import values_of
 from castd_tools.command_line import Failure, Tool, site_number
-from castd_tools.configuration import ConfigurationError, read
-from castd_tools.statuses import CONFIGURATION, USAGE
-
-_ANSWER_SECONDS = 15.0
-_REFUSED = 1
-_UNREACHED = 3
-# Stands for the number of a site in the path of its control socket.
-_SITE = "{site}"
+from castd_tools.installation import SITE, read_installation, socket_pattern
+from castd_tools.statuses import CONFIGURATION, NOT_DONE, UNREACHED, USAGE
 
 TOOL = Tool(
     "castctl",
@@ -32,9 +25,9 @@ TOOL = Tool(
     " before each line.",
     {
         0: "each line was answered; for health: healthy",
-        _REFUSED: "an answer says that something was not done; for health: why a site is not healthy",
+        NOT_DONE: "an answer says that something was not done; for health: why a site is not healthy",
         USAGE: "wrong command line",
-        _UNREACHED: "a keeper cannot be reached, or no site runs on this host",
+        UNREACHED: "a keeper cannot be reached, or no site runs on this host",
         CONFIGURATION: "the configuration is at fault",
     },
 )
@@ -60,8 +53,8 @@ class Told:
     def status(self) -> int:
         """The exit status that this alone would give."""
         if self.problem is not None:
-            return _UNREACHED
-        return _REFUSED if control.is_refusal(self.answer) else 0
+            return UNREACHED
+        return NOT_DONE if control.is_refusal(self.answer) else 0
 
 
 def main() -> int:
@@ -92,7 +85,7 @@ def _options_and_line(words: list[str]) -> tuple[argparse.Namespace, str]:
     parser.add_argument(
         "--socket",
         metavar="PATH",
-        help=f"the control socket, if it is not /run/castd-SITE/control; with --all, {_SITE} stands for the number",
+        help=f"the control socket, if it is not /run/castd-SITE/control; with --all, {SITE} stands for the number",
     )
     parser.add_argument(
         "words", metavar="[SITE] LINE...", nargs="+", help="the line: domains, show D, groups D and so on"
@@ -104,8 +97,11 @@ def _options_and_line(words: list[str]) -> tuple[argparse.Namespace, str]:
             options.site = site_number(options.words.pop(0))
         except argparse.ArgumentTypeError as error:
             parser.error(str(error))
-    if options.all is not None and options.socket is not None and _SITE not in options.socket:
-        parser.error(f"with --all, the path of --socket has {_SITE} for the number of the site")
+    if options.all is not None and options.socket is not None:
+        try:
+            socket_pattern(options.socket)
+        except argparse.ArgumentTypeError as error:
+            parser.error(f"argument --socket: {error}")
     line = " ".join(options.words)
     try:
         control.line_of(line.encode("utf-8", "surrogateescape"))
@@ -120,16 +116,8 @@ def _asked(options: argparse.Namespace) -> list[Asked]:
     """Who is to be asked. With --all a `Failure` where the configuration is at fault, or no site of it runs here."""
     if options.all is None:
         return [Asked(options.site, options.socket or control.path_of(options.site))]
-    try:
-        sites = sorted(read(options.all).sites)
-    except ConfigurationError as error:
-        raise Failure(CONFIGURATION, str(error)) from error
-    pattern = options.socket or control.path_of(_SITE)
-    paths = {site: pattern.replace(_SITE, str(site)) for site in sites}
-    asked = [Asked(site, path) for site, path in paths.items() if os.path.exists(path)]
-    if not asked:
-        raise Failure(_UNREACHED, f"{options.all}: no site runs on this host: there is no {pattern}")
-    return asked
+    running = read_installation(options.all, options.socket).some_running()
+    return [Asked(site, path) for site, path in running.items()]
 
 
 async def _ask_all(asked: list[Asked], line: str) -> list[Told]:
@@ -139,7 +127,7 @@ async def _ask_all(asked: list[Asked], line: str) -> list[Told]:
 
 async def _ask(asked: Asked, line: str) -> Told:
     try:
-        return Told(asked, await control.ask(asked.path, line, _ANSWER_SECONDS))
+        return Told(asked, await control.ask(asked.path, line, control.ANSWER_SECONDS))
     except control.ControlError as error:
         return Told(asked, [], str(error))
 

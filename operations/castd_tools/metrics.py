@@ -2,7 +2,7 @@
 
 from __future__ import annotations
 
-from collections.abc import Awaitable, Callable
+from collections.abc import Awaitable, Callable, Iterable
 
 from castd_tools.answers import Group, domains_of, groups_of, named_numbers
 from castd_tools.daemon import Usage
@@ -61,9 +61,8 @@ class Exposition:
         self._samples: dict[str, list[str]] = {name: [] for name in _NAMES}
 
     def add(self, name: str, value: float, **labels: int) -> None:
-        """Adds a value. The labels have numbers alone, so nothing in them is to be quoted."""
-        told = ",".join(f'{label}="{text}"' for label, text in {"site": self._site, **labels}.items())
-        self._samples[name].append(f"{name}{{{told}}} {value}")
+        """Adds a value."""
+        self._samples[name].append(f"{sample_name(name, site=self._site, **labels)} {value}")
 
     def add_named(self, line: str, names: dict[str, str], **labels: int) -> None:
         """Adds those numbers of a line that have these names."""
@@ -78,6 +77,18 @@ class Exposition:
             if self._samples[name]:
                 lines += [f"# HELP {name} {told}", f"# TYPE {name} {kind}", *self._samples[name]]
         return lines
+
+
+def sample_name(name: str, **labels: int) -> str:
+    """A metric with its labels, as they stand before the value. They have numbers alone, so nothing is to be quoted."""
+    told = ",".join(f'{label}="{number}"' for label, number in labels.items())
+    return f"{name}{{{told}}}"
+
+
+def samples_of(lines: Iterable[str]) -> dict[str, float]:
+    """The values that the text format has, by what `sample_name` gives. A `ValueError` where a line has no value."""
+    named = (line.rpartition(" ") for line in lines if not line.startswith("#"))
+    return {name: float(value) for name, _, value in named}
 
 
 async def add_answers(exposition: Exposition, ask: Ask, quota: Callable[[int, str], int]) -> None:

@@ -9,5 +9,9 @@ NOT_NOTED = 10
 NOT_STARTED = 11
 PUT_OUT = 12
 
+# Of castctl and castd-top: what was asked was not done, or a site is not healthy; and a keeper does not answer.
+NOT_DONE = 1
+UNREACHED = 3
+
 # A daemon that signal N killed has this and N.
 BY_SIGNAL = 128

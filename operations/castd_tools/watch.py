@@ -15,7 +15,7 @@ from castd_tools.answers import domains_of
 from castd_tools.beat import USUAL_PORT_OFFSET, Beat
 from castd_tools.beat_socket import open_socket
 from castd_tools.belief import Belief, SealedBelief
-from castd_tools.command_line import Failure, SiteTool, stop_signals, whole_number
+from castd_tools.command_line import Failure, SiteTool, seconds, stop_signals, whole_number
 from castd_tools.configuration import MOST_PORT, Configuration
 from castd_tools.console import OK, STOP
 from castd_tools.statuses import CONFIGURATION, PUT_OUT, UNBOUND, USAGE
@@ -53,7 +53,13 @@ def main() -> int:
 
 def _options(words: list[str]) -> argparse.Namespace:
     add = TOOL.parser.add_argument
-    add("--patience", metavar="SECONDS", type=_patience, default=2.0, help="how long a site may be silent (2)")
+    add(
+        "--patience",
+        metavar="SECONDS",
+        type=lambda text: seconds(text, _LEAST_PATIENCE, _MOST_PATIENCE),
+        default=2.0,
+        help="how long a site may be silent (2)",
+    )
     add(
         "--port-offset",
         metavar="N",
@@ -63,16 +69,6 @@ def _options(words: list[str]) -> argparse.Namespace:
     )
     add("--keys", metavar="FILE", default=keys.USUAL_FILE, help=f"the keys of this host ({keys.USUAL_FILE})")
     return TOOL.options(words)
-
-
-def _patience(text: str) -> float:
-    try:
-        seconds = float(text)
-    except ValueError:
-        seconds = math.nan
-    if not _LEAST_PATIENCE <= seconds <= _MOST_PATIENCE:
-        raise argparse.ArgumentTypeError(f"{text!r} is not {_LEAST_PATIENCE:g} to {_MOST_PATIENCE:g} seconds")
-    return seconds
 
 
 async def _watch(options: argparse.Namespace) -> int:
