@@ -376,6 +376,13 @@ class Metrics(Case):
         self.assertEqual([name for name in values if "datagrams" in name or "record" in name], [])
         self.assertEqual(values["castd_up site=1"], 1)
 
+    def test_groups_of_a_form_that_is_not_known_are_left_out(self):
+        for line in ("group x view 9 none", "group 1 view 9 full", "group 1"):
+            with self.subTest(line):
+                values = self.metrics(self.stand_in(self.setup_of(), answers={"groups 1": [line]}))
+                self.assertEqual([name for name in values if "group" in name], [])
+                self.assertEqual(values["castd_up site=1"], 1)
+
     def test_a_halted_domain_does_not_run(self):
         answers = {
             "domains": ["domain 1 halted"],

@@ -33,16 +33,20 @@ def domains_of(answer: Iterable[str]) -> dict[int, bool]:
 
 
 def groups_of(answer: Iterable[str]) -> list[Group]:
-    """The groups of a domain, by the answer to `groups D`. Lines that are of no group are left out."""
+    """The groups of a domain, by the answer to `groups D`; none where it has another answer. A `ValueError` where the
+    line of a group has a form that is not known."""
     return [_group(line.split(" ")) for line in answer if line.startswith("group ")]
 
 
 def _group(words: list[str]) -> Group:
-    """The group of a line: `group G view V holder P members P P open`, or `frozen`; or `group G view V none`."""
-    number, view = int(words[1]), int(words[3])
-    if words[4] == "none":
-        return Group(number, view, None, (), is_frozen=False)
-    return Group(number, view, words[5], tuple(words[7:-1]), words[-1] == "frozen")
+    """The group of a line: `group G view V holder P members P P open`, or `frozen`; or `group G view V none`. A
+    `ValueError` where the line has another form."""
+    match words:
+        case ["group", number, "view", view, "none"]:
+            return Group(int(number), int(view), None, (), is_frozen=False)
+        case ["group", number, "view", view, "holder", holder, "members", *members, "open" | "frozen" as state]:
+            return Group(int(number), int(view), holder, tuple(members), state == "frozen")
+    raise ValueError("of no group")
 
 
 def values_of(answer: list[str]) -> list[dict]:

@@ -2,6 +2,7 @@
 
 from __future__ import annotations
 
+import contextlib
 from collections.abc import Awaitable, Callable, Iterable
 
 from castd_tools.answers import Group, domains_of, groups_of, named_numbers
@@ -92,7 +93,8 @@ def samples_of(lines: Iterable[str]) -> dict[str, float]:
 
 
 async def add_answers(exposition: Exposition, ask: Ask, quota: Callable[[int, str], int]) -> None:
-    """Adds what the daemon answers to lines, and the quotas. Lines that the daemon does not know add nothing."""
+    """Adds what the daemon answers to lines, and the quotas. Lines that the daemon does not know add nothing, nor do
+    answers of a form that is not known."""
     exposition.add_named(_only(await ask("trace")), _TRACE)
     exposition.add_named(_only(await ask("datagrams")), _DATAGRAMS)
     _add_record(exposition, _only(await ask("record")))
@@ -101,8 +103,9 @@ async def add_answers(exposition: Exposition, ask: Ask, quota: Callable[[int, st
         exposition.add("castd_sessions_quota", quota(domain, "sessions"), domain=domain)
         exposition.add("castd_held_messages_quota", quota(domain, "held"), domain=domain)
         exposition.add_named(_only(await ask(f"show {domain}")), _SHOW, domain=domain)
-        for group in groups_of(await ask(f"groups {domain}")):
-            _add_group(exposition, domain, group)
+        with contextlib.suppress(ValueError):
+            for group in groups_of(await ask(f"groups {domain}")):
+                _add_group(exposition, domain, group)
 
 
 def add_usage(exposition: Exposition, usage: Usage) -> None:

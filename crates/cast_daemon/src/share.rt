@@ -43,7 +43,8 @@ impl<L: Ledger> SpareCount<L> {
     /// A share for one more thread, which has counted nothing. `None` if no parts are left for it:
     /// one part stays here.
     pub fn share(&mut self) -> Option<CountShare<L>>
-        ensures some { IfSome result (λ s. (s.worked.taken ≡ 0) × (self.new.left + 1 ≡ self.old.left)) }
+        ensures some { IfSome result
+            (λ s. (s.worked.taken ≡ 0) × (self.new.left + 1 ≡ self.old.left)) }
         ensures none { IfNone result ((self.new.left ≡ self.old.left) × (self.old.left < 2)) }
         ensures taken { self.new.worked.taken ≡ self.old.worked.taken }
     {
@@ -62,7 +63,8 @@ impl<L: Ledger> SpareCount<L> {
         ensures { ((result.left ≡ self.left + 1)
             × (result.worked.taken ≡ self.worked.taken + share.worked.taken))
             ⊎ ((result.left ≡ self.left) × (result.worked ≡ self.worked)
-            × ((self.left ≡ 2 ^ 64 - 1) ⊎ (2 ^ 64 ≤ self.worked.taken + share.worked.taken))) }
+            × ((self.left ≡ 2 ^ 64 - 1)
+            ⊎ (2 ^ 64 ≤ self.worked.taken + share.worked.taken))) }
     {
         let SpareCount { worked, left } = self;
         if left == u64::MAX {

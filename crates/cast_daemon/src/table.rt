@@ -68,8 +68,8 @@ fn serve<L: Ledger, R: Wait>(
     job: Job,
 ) -> Done
     ensures number { result.number ≡ job.number }
-    ensures done { CompletesHere job.task (is_none trimmer.now.tape) result.outcome kept.old kept.new
-        share.old.worked.taken share.new.worked.taken }
+    ensures done { CompletesHere job.task (is_none trimmer.now.tape) result.outcome kept.old
+        kept.new share.old.worked.taken share.new.worked.taken }
 {
     complete(
         rt,
@@ -101,8 +101,8 @@ fn serve_and_look<L: Ledger, R: Wait>(
     paces: &[Pace],
 ) -> (Done, usize, bool)
     ensures number { result.0.number ≡ job.number }
-    ensures done { CompletesHere job.task (is_none trimmer.now.tape) result.0.outcome kept.old kept.new
-        share.old.worked.taken share.new.worked.taken }
+    ensures done { CompletesHere job.task (is_none trimmer.now.tape) result.0.outcome kept.old
+        kept.new share.old.worked.taken share.new.worked.taken }
 {
     let place = pace_of(paces, domain_of(&job));
     let Some(pace) = paces.get(place) else {
@@ -133,8 +133,8 @@ fn cast_and_look<L: Ledger, R: Wait>(
     asks: Option<Wanted>,
 ) -> Result<Done, (Job, Wakings)>
     ensures number { IfOk result (λ done. done.number ≡ job.number) }
-    ensures done { IfOk result (λ done. CompletesHere job.task (is_none trimmer.now.tape) done.outcome
-        kept.old kept.new share.old.worked.taken share.new.worked.taken) }
+    ensures done { IfOk result (λ done. CompletesHere job.task (is_none trimmer.now.tape)
+        done.outcome kept.old kept.new share.old.worked.taken share.new.worked.taken) }
     ensures back { IfErr result (λ back. back.0 ≡ job) }
     ensures same { OnErr result ((kept.new ≡ kept.old) × (share.new ≡ share.old)) }
 {

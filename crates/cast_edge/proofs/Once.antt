@@ -51,9 +51,8 @@ none_changed n f leaves (e ∷ es) none = (
 )
 
 -- a change of another number
-other_than : (n m : ℕ) (how_changed : Ending → Ending) → ((e : Ending) → (how_changed e).number ≡ e.number) → (m == n) ≡ false → (e : Ending) →
-    ((if is_of m e then how_changed e else e).number ≡ e.number)
-    × (e.number ≡ n → (if is_of m e then how_changed e else e) ≡ e)
+other_than : (n m : ℕ) (change : Ending → Ending) → ((e : Ending) → (change e).number ≡ e.number) → (m == n) ≡ false → (e : Ending) →
+    ((if is_of m e then change e else e).number ≡ e.number) × (e.number ≡ n → (if is_of m e then change e else e) ≡ e)
 other_than n m change same other e = go (is_of m e) refl
   where
     go : (b : Bool) → is_of m e ≡ b →

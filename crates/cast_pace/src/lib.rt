@@ -7,10 +7,12 @@
 //! # What is proved
 //!
 //! - All sites of a domain together take half of the room that one has, and their windows could not
-//!   be greater: `window_of` (`window`). Long casts have the window that finds room in the sockets:
-//!   `window_for` (`window`).
+//!   be greater; but each window is 1 at least: `window_of` (`window`). Long casts have the window
+//!   that finds room in the sockets, and at least 2 where `window_of` allows that: `window_for`
+//!   (`window`).
 //! - What a site may keep, and the windows of all sites with a set-order message for each of their
-//!   casts, are together what it has room for: `room_beside`. A site is crowded after an event
+//!   casts, are together what it has room for; it may keep nothing where the windows take all:
+//!   `room_beside`. A site is crowded after an event
 //!   exactly if the event received a message, and from the oldest one that the site keeps on it
 //!   received more than there is room for: `is_crowded`.
 //! - A cast has to wait exactly where as many casts of the site follow the oldest message as its

@@ -24,7 +24,8 @@
 //!   `Least::note`.
 //! - Each frame that is to be sent again is for the domain and the site of the `Flight`, and has a
 //!   message that is remembered. A message may go again three times once it is noted, and each time
-//!   it goes it may go once less. None is remembered more often than it was, at most 1,024 are, and
+//!   it goes it may go once less. It counts anew once the site enters its view, since before it may
+//!   have come too soon. None is remembered more often than it was, at most 1,024 are, and
 //!   as many that came too soon. An acknowledgement takes one of its id out before any is sent
 //!   again, and a tick sends eight at most: `Flight::{note, enter, acknowledge, tick}`.
 //! - A message that the rules send, and of which nothing is known, goes to the wire. One that is
