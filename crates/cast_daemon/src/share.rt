@@ -57,8 +57,8 @@ impl<L: Ledger> SpareCount<L> {
         Some(CountShare::new(share))
     }
 
-    /// This part of the count, and the share that a thread gives back. Where the count would go past
-    /// the end of its type, the share is lost.
+    /// This part of the count, and the share that a thread gives back. Where the count would go
+    /// past the end of its type, the share is lost.
     pub fn with(self, share: CountShare<L>) -> Self
         ensures { ((result.left ≡ self.left + 1)
             × (result.worked.taken ≡ self.worked.taken + share.worked.taken))
