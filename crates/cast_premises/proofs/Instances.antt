@@ -1,5 +1,5 @@
 -- A text that two sites read, as it was worked out by hand: what is said of such daemons is said of some.
-use Rattle.std.proofs.Common.{arith, refl, subst}
+use Rattle.std.proofs.Common.{arith, refl, subst, suc, zero}
 use Rattle.std.specs.Prelude.{◌≡◌, ◌++◌, ⊤, Contains, List, None, Ok, [], codes, false, ℕ, ◌∷◌}
 use Rattle.toml.proofs.OnLiterals.{toml_on_literals}
 use Rattle.cast_types.specs.declared.names.SiteNo.{SiteNo}

@@ -181,12 +181,12 @@ pub record Reads (text : List ℕ) (own : SiteNo) (setup : Setup) : Type 0 where
   pub served : setup.config.domains ≡ configs_of (own_domains own domains)
 
 -- a set-up has the domains that it is given
-given_serves : (own : SiteNo) (members : Members) (sites : List SiteAddress) (domains : List DomainEntry) (setup : Setup) →
-    given own members sites domains ≡ Ok setup → setup.config.domains ≡ configs_of domains
+given_serves : (own : SiteNo) (document : Members) (sites : List SiteAddress) (domains : List DomainEntry) (setup : Setup) →
+    given own document sites domains ≡ Ok setup → setup.config.domains ≡ configs_of domains
 unfolding given
-given_serves own members sites [] setup e = absurd cc
-given_serves own members sites (d ∷ ds) setup e =
-    let network = bind_ok (network_at members) _ setup e in
+given_serves own document sites [] setup e = absurd cc
+given_serves own document sites (d ∷ ds) setup e =
+    let network = bind_ok (network_at document) _ setup e in
     sym (ap (λ (s : Setup). s.config.domains) (right_is _ setup network.2))
 
 -- the domains that are left once they were tested are all
