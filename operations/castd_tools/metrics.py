@@ -9,10 +9,12 @@ from castd_tools.daemon import Usage
 
 GAUGE = "gauge"
 COUNTER = "counter"
+MEDIA_TYPE = "text/plain; version=0.0.4; charset=utf-8"
 
 # Each metric that may be told: its name, its type, and what it says. They are told in this order.
 _METRICS = (
     ("castd_up", GAUGE, "Whether the daemon answers on its console."),
+    ("castd_build_info", GAUGE, "The version of the daemon, which is a label. The value is 1."),
     ("castd_uptime_seconds", GAUGE, "How long the daemon has run."),
     ("castd_resident_memory_bytes", GAUGE, "Resident memory of the daemon."),
     ("castd_open_descriptors", GAUGE, "Descriptors that the daemon has open."),
@@ -60,8 +62,8 @@ class Exposition:
         self._site = site
         self._samples: dict[str, list[str]] = {name: [] for name in _NAMES}
 
-    def add(self, name: str, value: float, **labels: int) -> None:
-        """Adds a value. The labels have numbers alone, so nothing in them is to be quoted."""
+    def add(self, name: str, value: float, **labels: int | str) -> None:
+        """Adds a value. The labels have numbers and versions alone, so nothing in them is to be quoted."""
         told = ",".join(f'{label}="{text}"' for label, text in {"site": self._site, **labels}.items())
         self._samples[name].append(f"{name}{{{told}}} {value}")
 

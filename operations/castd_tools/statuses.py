@@ -8,6 +8,7 @@ NO_CONTROL = 9
 NOT_NOTED = 10
 NOT_STARTED = 11
 PUT_OUT = 12
+NO_METRICS = 13
 
 # A daemon that signal N killed has this and N.
 BY_SIGNAL = 128
