@@ -62,6 +62,15 @@ def rest_of(connected: socket.socket) -> bytes:
     return b"".join(iter(lambda: connected.recv(65_536), b""))
 
 
+def is_closed(connected: socket.socket) -> bool:
+    """Whether the other end has closed a connection, also where what it has sent is not read."""
+    try:
+        connected.send(b"\n")
+    except OSError:
+        return True
+    return False
+
+
 def status_of(answer: bytes) -> int:
     version, status, _ = answer.split(b" ", 2)
     assert version == b"HTTP/1.1", answer
@@ -206,12 +215,15 @@ class Requests(PagesCase):
         with self.subTest("the line"):
             self.assertEqual(status_of(self.said(setup, b"GET /" + b"x" * 10_000)), 431)
 
-    def test_a_response_comes_whole_though_there_is_more_to_read(self):
+    def test_what_a_client_says_besides_is_read(self):
         setup = self.setup_of()
         self.paged(setup)
-        body = b"x" * 500_000
-        said = f"POST /metrics HTTP/1.1\r\nHost: x\r\nContent-Length: {len(body)}\r\n\r\n".encode() + body
-        self.assertTrue(self.said(setup, said).endswith(b"pages are read by GET\n"))
+        connected = self.connected(setup)
+        connected.sendall(b"POST /metrics HTTP/1.1\r\nHost: x\r\nContent-Length: 300000\r\n\r\n")
+        for _ in range(3):
+            time.sleep(0.1)
+            connected.sendall(b"x" * 100_000)
+        self.assertTrue(rest_of(connected).endswith(b"pages are read by GET\n"))
 
 
 class Clients(PagesCase):
@@ -226,16 +238,19 @@ class Clients(PagesCase):
                 self.assertEqual(rest_of(connected), b"")
                 self.assertAlmostEqual(time.monotonic() - since, SILENT_SECONDS, delta=2)
 
-    def test_who_says_little_at_a_time_is_let_go_of(self):
+    def test_who_says_little_at_a_time_or_stays_is_let_go_of(self):
         setup = self.setup_of()
         self.paged(setup)
-        connected = self.connected(setup)
-        since = time.monotonic()
-        with self.assertRaises(OSError):
-            while time.monotonic() - since < PATIENCE:
-                connected.sendall(b"x")
-                time.sleep(0.5)
-        self.assertAlmostEqual(time.monotonic() - since, SILENT_SECONDS, delta=2)
+        for request in (b"", b"GET /health HTTP/1.1\r\n\r\n"):
+            with self.subTest(request):
+                connected = self.connected(setup)
+                since = time.monotonic()
+                connected.sendall(request)
+                with self.assertRaises(OSError):
+                    while time.monotonic() - since < PATIENCE:
+                        connected.sendall(b"x")
+                        time.sleep(0.5)
+                self.assertAlmostEqual(time.monotonic() - since, SILENT_SECONDS, delta=2)
 
     def test_one_more_takes_the_place_of_who_says_nothing(self):
         setup = self.setup_of()
@@ -271,19 +286,25 @@ class Clients(PagesCase):
             gone.sendall(b"GET /metrics HTTP/1.1\r\n\r\n")
             gone.setsockopt(socket.SOL_SOCKET, socket.SO_LINGER, struct.pack("ii", 1, 0))
             gone.close()
-        for _ in range(MOST_CLIENTS):
-            unread = socket.socket()
-            self.addCleanup(unread.close)
-            unread.setsockopt(socket.SOL_SOCKET, socket.SO_RCVBUF, 1)
-            unread.connect(self.address(setup))
-            unread.sendall(b"GET /metrics HTTP/1.1\r\n\r\n")
+        unread = [self.unread(setup) for _ in range(MOST_CLIENTS)]
         since = time.monotonic()
         self.assertEqual(keeper.ask("show 1").split(" ")[0], "domain")
         self.assertLess(time.monotonic() - since, SILENT_SECONDS)
-        wait_until(lambda: self.get(setup, "/health") == (200, "healthy\n"), "those who do not read are let go of")
+        for connected in unread:
+            wait_until(lambda: is_closed(connected), "one who does not read is let go of", 4 * SILENT_SECONDS)
+        self.assertEqual(self.get(setup, "/health"), (200, "healthy\n"))
         keeper.process.send_signal(signal.SIGTERM)
         self.assert_ends(keeper, 0)
         self.assertRegex(keeper.complained(), r"\Acastd: events served: \d+\n\Z")
+
+    def unread(self, setup: Setup) -> socket.socket:
+        """A client that has asked for the metrics, and has no room to read them."""
+        connected = socket.socket()
+        self.addCleanup(connected.close)
+        connected.setsockopt(socket.SOL_SOCKET, socket.SO_RCVBUF, 1)
+        connected.connect(self.address(setup))
+        connected.sendall(b"GET /metrics HTTP/1.1\r\n\r\n")
+        return connected
 
     def test_the_keeper_ends_at_once_whoever_is_connected(self):
         setup = self.setup_of()
