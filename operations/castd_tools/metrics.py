@@ -44,7 +44,7 @@ _METRICS = (
     ("castd_group_members", GAUGE, "Members of the view; 0 where none is at this site."),
     ("castd_group_frozen", GAUGE, "Whether the group is changing its view, and takes no casts."),
 )
-_NAMES = {name for name, _, _ in _METRICS}
+NAMES = {name for name, _, _ in _METRICS}
 
 # The metrics that stand in the answer to a line, by the words before their numbers.
 _TRACE = {"events": "castd_events_total", "kept": "castd_trace_events"}
@@ -60,7 +60,7 @@ class Exposition:
 
     def __init__(self, site: int):
         self._site = site
-        self._samples: dict[str, list[str]] = {name: [] for name in _NAMES}
+        self._samples: dict[str, list[str]] = {name: [] for name in NAMES}
 
     def add(self, name: str, value: float, **labels: int | str) -> None:
         """Adds a value. The labels have numbers and versions alone, so nothing in them is to be quoted."""
