@@ -265,12 +265,19 @@ class Clients(PagesCase):
 
     def test_more_than_can_be_answered_are_refused(self):
         setup = self.setup_of()
-        self.paged_stand_in(setup, delays={"trace": 3})
+        keeper = self.paged_stand_in(setup, delays={"trace": 3})
         answered = [self.connected(setup) for _ in range(MOST_CLIENTS)]
         for connected in answered:
             connected.sendall(b"GET /metrics HTTP/1.1\r\n\r\n")
         time.sleep(1)
         self.assertEqual(self.get(setup, "/health"), (503, "too many clients\n"))
+        # However many come, the keeper has descriptors left.
+        open_files = f"/proc/{keeper.process.pid}/fd"
+        before = len(os.listdir(open_files))
+        more = [self.connected(setup) for _ in range(3 * MOST_CLIENTS)]
+        self.assertEqual(keeper.ask("suspected"), "")
+        self.assertLessEqual(len(os.listdir(open_files)), before + MOST_CLIENTS)
+        wait_until(lambda: is_closed(more[-1]), "one too many is let go of", SILENT_SECONDS / 2)
         self.assertEqual({status_of(rest_of(connected)) for connected in answered}, {200})
         self.assertEqual(self.get(setup, "/health"), (200, "healthy\n"))
 

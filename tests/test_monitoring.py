@@ -99,6 +99,12 @@ class Promtool(Case):
                 ran = run("promtool", "check", what, str(path))
                 self.assertEqual(ran.returncode, 0, ran.stdout + ran.stderr)
 
+    def test_it_accepts_what_a_keeper_serves(self):
+        answers = {"datagrams": ["datagrams sent 5 received 6 lost 7 undecoded 8"], "record": ["record running waiting 9 lost 1"]}
+        for keeper in (self.keeper(self.setup_of(2)), self.stand_in(self.setup_of(), answers=answers)):
+            ran = run("promtool", "check", "metrics", input=keeper.ask("metrics") + "\n")
+            self.assertEqual((ran.returncode, ran.stdout, ran.stderr), (0, "", ""))
+
     def test_it_can_read_each_panel(self):
         recorded = [
             {"record": f"panel:{place}", "expr": it.replace("$__rate_interval", "1m")} for place, it in enumerate(panels())

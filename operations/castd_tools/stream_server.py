@@ -62,7 +62,7 @@ class StreamServer:
     """Serves each client by a task of its own, so that one that does not read stops no other.
 
     Where as many are there as may be, a new one takes the place of the one that has said nothing for longest. It is
-    refused while all are answered.
+    refused while all are answered, and let go of while as many are being refused.
     """
 
     def __init__(self, most_clients: int, serve: Serve, refuse: Serve):
@@ -88,9 +88,16 @@ class StreamServer:
         client = Client(reader, writer)
         if len(self._served) >= self._most_clients:
             self._let_go_of_one()
-        is_served = len(self._served) < self._most_clients
-        clients, work = (self._served, self._serve) if is_served else (self._refused, self._refuse)
-        # A task that asyncio would make of this call would be reported as a fault where it ends as cancelled.
+        if len(self._served) < self._most_clients:
+            self._begin(client, self._served, self._serve)
+        elif len(self._refused) < self._most_clients:
+            self._begin(client, self._refused, self._refuse)
+        else:
+            client.abort()
+
+    def _begin(self, client: Client, clients: dict[Client, asyncio.Task], work: Serve) -> None:
+        """Begins to serve or to refuse a client."""
+        # asyncio would make a task of a call that waits, and report it as a fault where it ends as cancelled.
         clients[client] = task = asyncio.create_task(_serve_to_end(client, work))
         task.add_done_callback(lambda _: _forget(client, clients))
 
