@@ -276,10 +276,23 @@ class Clients(PagesCase):
         before = len(os.listdir(open_files))
         more = [self.connected(setup) for _ in range(3 * MOST_CLIENTS)]
         self.assertEqual(keeper.ask("suspected"), "")
-        self.assertLessEqual(len(os.listdir(open_files)), before + MOST_CLIENTS)
+        self.assertLess(len(os.listdir(open_files)), before + 2 * MOST_CLIENTS)
         wait_until(lambda: is_closed(more[-1]), "one too many is let go of", SILENT_SECONDS / 2)
         self.assertEqual({status_of(rest_of(connected)) for connected in answered}, {200})
         self.assertEqual(self.get(setup, "/health"), (200, "healthy\n"))
+
+    def test_many_who_ask_wait_no_longer_than_one(self):
+        setup = self.setup_of()
+        keeper = self.paged_stand_in(setup, delays={"trace": 2})
+        since = time.monotonic()
+        asking = [self.connected(setup) for _ in range(MOST_CLIENTS)]
+        for connected in asking:
+            connected.sendall(b"GET /metrics HTTP/1.1\r\n\r\n")
+        time.sleep(0.5)
+        self.assertEqual(keeper.castctl("domains"), (0, "domain 1 running\n"))
+        for connected in asking:
+            self.assertIn(b'castd_up{site="1"} 1\n', rest_of(connected))
+        self.assertLess(time.monotonic() - since, 4)
 
     def test_who_does_not_read_or_dies_holds_up_nobody(self):
         domains = [

@@ -57,10 +57,14 @@ _NO_METHOD = Response(HTTPStatus.METHOD_NOT_ALLOWED, "pages are read by GET\n")
 
 
 class HttpServer:
-    """Answers GET of pages, by their paths."""
+    """Answers GET of pages, by their paths.
+
+    A page is made once for all who ask for it meanwhile, so that many who ask make no more work than one.
+    """
 
     def __init__(self, pages: Mapping[str, Page]):
         self._pages = pages
+        self._being_made: dict[Page, asyncio.Task[Response]] = {}
         self._server = StreamServer(MOST_CLIENTS, self._serve, _refuse)
 
     async def start(self, listening: socket.socket) -> None:
@@ -92,7 +96,13 @@ class HttpServer:
             return _NO_REQUEST
         if not page:
             return _NO_PAGE
-        return await page() if method == "GET" else _NO_METHOD
+        return await self._made(page) if method == "GET" else _NO_METHOD
+
+    async def _made(self, page: Page) -> Response:
+        if page not in self._being_made:
+            self._being_made[page] = asyncio.create_task(page())
+            self._being_made[page].add_done_callback(lambda _: self._being_made.pop(page))
+        return await asyncio.shield(self._being_made[page])
 
 
 def _path_of(target: str) -> str:
