@@ -10,7 +10,9 @@ from dist import InstalledCase, need, run
 from harness import ROOT, Case
 from castd_tools import metrics
 
-RULES, SCRAPING, DASHBOARD = (ROOT / "dist" / it for it in ("castd.rules.yml", "prometheus.yml", "castd-dashboard.json"))
+RULES = ROOT / "dist/castd.rules.yml"
+SCRAPING = ROOT / "dist/prometheus.yml"
+DASHBOARD = ROOT / "dist/castd-dashboard.json"
 # One value of each series, every 15 seconds.
 INTERVAL = 15
 WELL = {
@@ -100,14 +102,18 @@ class Promtool(Case):
                 self.assertEqual(ran.returncode, 0, ran.stdout + ran.stderr)
 
     def test_it_accepts_what_a_keeper_serves(self):
-        answers = {"datagrams": ["datagrams sent 5 received 6 lost 7 undecoded 8"], "record": ["record running waiting 9 lost 1"]}
+        answers = {
+            "datagrams": ["datagrams sent 5 received 6 lost 7 undecoded 8"],
+            "record": ["record running waiting 9 lost 1"],
+        }
         for keeper in (self.keeper(self.setup_of(2)), self.stand_in(self.setup_of(), answers=answers)):
             ran = run("promtool", "check", "metrics", input=keeper.ask("metrics") + "\n")
             self.assertEqual((ran.returncode, ran.stdout, ran.stderr), (0, "", ""))
 
     def test_it_can_read_each_panel(self):
         recorded = [
-            {"record": f"panel:{place}", "expr": it.replace("$__rate_interval", "1m")} for place, it in enumerate(panels())
+            {"record": f"panel:{place}", "expr": it.replace("$__rate_interval", "1m")}
+            for place, it in enumerate(panels())
         ]
         path = pathlib.Path(self.folder, "panels.yml")
         path.write_text(json.dumps({"groups": [{"name": "panels", "rules": recorded}]}))
@@ -130,7 +136,8 @@ def _tested(changed: dict[str, int], moments: list[tuple[int, list[str]]]) -> di
     """A test as promtool takes it: after a minute some series have another value, and alerts fire at these seconds."""
     steps = MINUTE // INTERVAL
     series = [
-        {"series": name, "values": f"{value}x{steps - 1} {changed.get(name, value)}x{steps}"} for name, value in WELL.items()
+        {"series": name, "values": f"{value}x{steps - 1} {changed.get(name, value)}x{steps}"}
+        for name, value in WELL.items()
     ]
     expected = [
         {

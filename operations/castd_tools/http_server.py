@@ -112,8 +112,11 @@ def _path_of(target: str) -> str:
 
 
 async def _head_of(client: Client) -> bytes:
-    """The head of what a client asks for, with the empty line behind it. Longer than may be where the head is, and empty
-    where the client ends before, or is too slow."""
+    """The head of what a client asks for, with the empty line behind it.
+
+    It is empty where the client ends before, or is too slow. Of one that is too long, no more is kept than shows that it
+    is.
+    """
     head = b""
     end = asyncio.get_running_loop().time() + _HEAD_SECONDS
     while len(head) <= LONGEST_HEAD:
