@@ -126,15 +126,15 @@ class Case(unittest.TestCase):
         self.addCleanup(keeper.end)
         return keeper
 
-    def stand_in(self, setup: Setup, site: int = 1, **plan) -> Keeper:
+    def stand_in(self, setup: Setup, site: int = 1, *, more: Sequence[str] = (), **plan) -> Keeper:
         """A keeper of a stand-in for castd that serves, and does as planned."""
-        keeper = self.started_stand_in(setup, site, **plan)
+        keeper = self.started_stand_in(setup, site, more=more, **plan)
         self.assertEqual(keeper.line(PATIENCE), "ready")
         return keeper
 
-    def started_stand_in(self, setup: Setup, site: int = 1, **plan) -> Keeper:
+    def started_stand_in(self, setup: Setup, site: int = 1, *, more: Sequence[str] = (), **plan) -> Keeper:
         change_plan(setup, site, **plan)
-        return self.started_keeper(setup, site, program=STAND_IN, env={"STAND_IN": setup.plan(site)})
+        return self.started_keeper(setup, site, program=STAND_IN, more=more, env={"STAND_IN": setup.plan(site)})
 
     def watch(self, setup: Setup, site: int, *words: str, config: str | None = None) -> Watch:
         watch = Watch(setup, site, config or setup.config, list(words))

@@ -228,7 +228,7 @@ class Metrics(Case):
             self.assertEqual(kind[1] == "counter", name.endswith("_total"), name)
             self.assertTrue(lines and lines[0].startswith(f"{name}{{"), f"{name} has no sample")
             while lines and not lines[0].startswith("#"):
-                sample = re.fullmatch(rf'{name}\{{(site="\d+"(?:,[a-z]+="\d+")*)\}} (\d+(?:\.\d+)?)', lines.pop(0))
+                sample = re.fullmatch(rf'{name}\{{(site="\d+"(?:,[a-z]+="[0-9.]+")*)\}} (\d+(?:\.\d+)?)', lines.pop(0))
                 self.assertIsNotNone(sample, name)
                 key = f"{name} {sample[1]}".replace('"', "")
                 self.assertNotIn(key, values)
@@ -269,8 +269,10 @@ class Metrics(Case):
             wait_for_push(session, lambda push: isinstance(push, castd.Deliver))
         self.session(setup).read(PATIENCE)
         values = self.metrics(keeper)
+        version = subprocess.run([PROGRAM, "--version"], capture_output=True, text=True).stdout.split()[1]
         expected = {
             "castd_up site=1": 1,
+            f"castd_build_info site=1,version={version}": 1,
             "castd_domain_running site=1,domain=1": 1,
             "castd_domain_running site=1,domain=7": 1,
             "castd_sessions site=1,domain=1": 2,
@@ -382,6 +384,12 @@ class Metrics(Case):
                 values = self.metrics(self.stand_in(self.setup_of(), answers={"groups 1": [line]}))
                 self.assertEqual([name for name in values if "group" in name], [])
                 self.assertEqual(values["castd_up site=1"], 1)
+
+    def test_the_version_is_the_one_that_the_program_says(self):
+        for said, expected in (("castd 12.3.4", {"castd_build_info site=1,version=12.3.4": 1}), ("fast 1", {}), ("castd", {})):
+            with self.subTest(said):
+                values = self.metrics(self.stand_in(self.setup_of(), version=said))
+                self.assertEqual({name: it for name, it in values.items() if "build" in name}, expected)
 
     def test_a_halted_domain_does_not_run(self):
         answers = {

@@ -108,6 +108,7 @@ class Stopping(Case):
                 idle = Client(keeper.control)
                 self.addCleanup(idle.close)
                 self.assertNotEqual(idle.ask("domains"), "")
+                self.addCleanup(Client(keeper.control).close)
                 begun = time.monotonic()
                 # As from a terminal, which signals all processes of a group.
                 os.killpg(keeper.process.pid, number)

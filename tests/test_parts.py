@@ -1,7 +1,9 @@
-"""Parts that need no daemon: reading a configuration, cutting lines, and whom a home may suspect."""
+"""Parts that need no daemon: reading a configuration, cutting lines, serving, and whom a home may suspect."""
 
+import asyncio
 import os
 import pathlib
+import socket
 import stat
 import tempfile
 import unittest
@@ -12,6 +14,7 @@ from castd_tools.beat import NONE, Beat, BeatError, decode
 from castd_tools.belief import Belief, SealedBelief
 from castd_tools.keys import Key, KeysError, key_of_pair, read, read_master, write
 from castd_tools.sealed_beat import seal, unseal
+from castd_tools.stream_server import Client, StreamServer
 from castd_tools.suspicion import Suspicion
 
 SITE = '[[site]]\nnumber = 1\naddress = "127.0.0.1:7001"\n'
@@ -310,6 +313,25 @@ class Keys(unittest.TestCase):
             self.assertEqual(stat.S_IMODE(os.stat(path).st_mode), 0o600)
         self.assertRaises(OSError, write, f"{self.folder}/none/keys", "")
         self.assertEqual(os.listdir(self.folder), ["keys"])
+
+
+class Serving(unittest.TestCase):
+    def test_a_client_that_comes_at_any_moment_of_the_end_is_no_fault(self):
+        for turns in range(8):
+            with self.subTest(turns), self.assertNoLogs("asyncio"):
+                asyncio.run(self.end(turns))
+
+    async def end(self, turns: int) -> None:
+        """Ends so many turns of the loop after a client has connected."""
+        listening = socket.create_server(("127.0.0.1", 0))
+        self.addCleanup(listening.close)
+        await StreamServer(1, self.read, self.read).start(listening)
+        self.addCleanup(socket.create_connection(listening.getsockname()).close)
+        for _ in range(turns):
+            await asyncio.sleep(0)
+
+    async def read(self, client: Client) -> None:
+        await client.read(60.0)
 
 
 class Suspecting(unittest.TestCase):

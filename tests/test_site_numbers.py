@@ -96,7 +96,7 @@ class SiteNumbers(Case):
             keeper.send_signal(signal.SIGTERM)
             self.assertEqual(keeper.wait(PATIENCE), 0)
         calls = pathlib.Path(trace).read_text().splitlines()
-        self.assertEqual(calls, [f"sync {setup.state}/site-1", f"sync {setup.state}", "start"])
+        self.assertEqual(calls, [f"sync {setup.state}/site-1", f"sync {setup.state}", "start --version", "start serve"])
 
     def test_of_two_keepers_at_once_one_wins(self):
         for _ in range(3):
@@ -110,7 +110,7 @@ class SiteNumbers(Case):
             self.assertEqual(sorted(statuses), [0, 8])
 
 
-# Runs the keeper, and writes down when it syncs a file and when it starts the daemon.
+# Runs the keeper, and writes down when it syncs a file and when it starts the program of the daemon.
 TRACED = """
 import asyncio, os, sys
 sync, start = os.fsync, asyncio.create_subprocess_exec
@@ -121,7 +121,7 @@ def traced_sync(descriptor):
     sync(descriptor)
     write("sync " + os.readlink(f"/proc/self/fd/{{descriptor}}"))
 async def traced_start(*words, **how):
-    write("start")
+    write("start " + words[1])
     return await start(*words, **how)
 os.fsync, asyncio.create_subprocess_exec = traced_sync, traced_start
 sys.argv = sys.argv[1:]

@@ -11,7 +11,7 @@ import textwrap
 from collections.abc import Coroutine
 
 from castd_tools import VERSION, control
-from castd_tools.configuration import MOST_SITE_NUMBER, Configuration, ConfigurationError, read
+from castd_tools.configuration import MOST_SITE_NUMBER, Address, Configuration, ConfigurationError, address_of, read
 from castd_tools.statuses import CONFIGURATION
 
 _HELP_WIDTH = 78
@@ -88,6 +88,13 @@ def stop_signals() -> asyncio.Event:
 
 def site_number(text: str) -> int:
     return whole_number(text, 1, MOST_SITE_NUMBER)
+
+
+def address(text: str) -> Address:
+    """The address that a word is. An error of the command line where it is none."""
+    if found := address_of(text):
+        return found
+    raise argparse.ArgumentTypeError(f"{text!r} is not host:port")
 
 
 def whole_number(text: str, least: int, most: int) -> int:

@@ -42,7 +42,7 @@ class ConfigurationError(Exception):
 
 @dataclass(frozen=True)
 class Address:
-    """Where the datagrams of a site go."""
+    """Where the datagrams of a site go, or where the metrics of one are read."""
 
     host: str
     port: int
@@ -157,7 +157,14 @@ def _is_sealed(table: dict, where: str) -> bool:
 
 
 def _address(text: str, where: str) -> Address:
-    """The address `host:port` that a text is. A host with colons stands in brackets."""
+    address = address_of(text)
+    if not address:
+        raise ConfigurationError(f"{where}: address: {text!r} is not host:port")
+    return address
+
+
+def address_of(text: str) -> Address | None:
+    """The address `host:port` that a text is, None where it is none. A host with colons stands in brackets."""
     host, _, port = text.rpartition(":")
     if host.startswith("[") and host.endswith("]"):
         host = host[1:-1]
@@ -165,7 +172,7 @@ def _address(text: str, where: str) -> Address:
         host = ""
     is_number = port.isascii() and port.isdigit() and len(port) <= len(str(MOST_PORT))
     if not host or not is_number or not 1 <= int(port) <= MOST_PORT:
-        raise ConfigurationError(f"{where}: address: {text!r} is not host:port")
+        return None
     return Address(host, int(port))
 
 

@@ -5,16 +5,36 @@ from __future__ import annotations
 import asyncio
 import ctypes
 import os
+import re
 import signal
 import time
 from collections.abc import Callable
 from dataclasses import dataclass
-from subprocess import PIPE
+from subprocess import DEVNULL, PIPE
 
 from castd_tools import notification
 
 _PR_SET_PDEATHSIG = 1
 _NOT_BOUND_TO_PARENT = 127
+_VERSION = re.compile(rb"castd ([0-9A-Za-z.+-]+)\n")
+_VERSION_SECONDS = 5.0
+
+
+async def version(program: str) -> str | None:
+    """The version that the program of a daemon says, such as `0.1.0`. None where it says none."""
+    try:
+        asked = await _started([program, "--version"], stdin=DEVNULL, stderr=DEVNULL)
+    except OSError:
+        return None
+    try:
+        async with asyncio.timeout(_VERSION_SECONDS):
+            said, _ = await asked.communicate()
+    except TimeoutError:
+        asked.kill()
+        await asked.wait()
+        return None
+    told = _VERSION.fullmatch(said)
+    return told[1].decode() if told else None
 
 
 async def start(words: list[str]) -> asyncio.subprocess.Process:
@@ -22,10 +42,14 @@ async def start(words: list[str]) -> asyncio.subprocess.Process:
 
     It is in a session of its own, so that what a terminal sends to the keeper does not come to the daemon too.
     """
+    return await _started(words, stdin=PIPE)
+
+
+async def _started(words: list[str], **descriptors: int) -> asyncio.subprocess.Process:
     return await asyncio.create_subprocess_exec(
         *words,
-        stdin=PIPE,
         stdout=PIPE,
+        **descriptors,
         env={name: value for name, value in os.environ.items() if name != notification.VARIABLE},
         start_new_session=True,
         preexec_fn=_bound_to(os.getpid()),

@@ -10,17 +10,20 @@ import socket
 import sys
 import time
 from collections.abc import Iterator
+from dataclasses import dataclass
+from http import HTTPStatus
 
-from castd_tools import control, daemon, keys, metrics, numbers, spare_ports, unix_sockets
+from castd_tools import control, daemon, internet_sockets, keys, metrics, numbers, spare_ports, unix_sockets
 from castd_tools.answers import domains_of
-from castd_tools.command_line import Failure, SiteTool, stop_signals
+from castd_tools.command_line import Failure, SiteTool, address, stop_signals
 from castd_tools.configuration import Configuration, Domain
 from castd_tools.console import OK, STOP, Console, Unanswered
 from castd_tools.control_server import ControlServer
+from castd_tools.http_server import HttpServer, Response
 from castd_tools.notification import notify
 from castd_tools.standard_console import StandardConsole
 from castd_tools.standing import Standing
-from castd_tools.statuses import BY_SIGNAL, NO_CONTROL, NOT_NOTED, NOT_STARTED, NUMBER_USED
+from castd_tools.statuses import BY_SIGNAL, NO_CONTROL, NO_METRICS, NOT_NOTED, NOT_STARTED, NUMBER_USED
 from castd_tools.system import reason
 
 _ANSWER_SECONDS = 5.0
@@ -32,7 +35,8 @@ _NO_MEMORY = 5
 
 TOOL = SiteTool(
     "castd-keeper",
-    "castd-keeper CONFIG --site N [--control PATH] [--program PATH] [--state DIR] [--record DIR] [--keys FILE] [-- WORD...]",
+    "castd-keeper CONFIG --site N [--control PATH] [--program PATH] [--state DIR] [--record DIR] [--keys FILE]"
+    " [--metrics ADDRESS] [-- WORD...]",
     "Starts `castd serve CONFIG --site N WORD...`, keeps its console, and answers castctl at a control socket. Lines of"
     " standard input are answered on standard output. SIGTERM and SIGINT stop the daemon in order. A site number is"
     " used once: a second start under it is refused.",
@@ -43,6 +47,7 @@ TOOL = SiteTool(
         NO_CONTROL: "the control socket cannot be made, or a keeper that runs has it",
         NOT_NOTED: "the site number cannot be noted as used",
         NOT_STARTED: "the program of the daemon cannot be started",
+        NO_METRICS: "the metrics cannot be served at their address",
         f"{BY_SIGNAL}+N": "signal N killed the daemon",
     },
 )
@@ -67,6 +72,12 @@ def _options(words: list[str]) -> argparse.Namespace:
     )
     add("--record", metavar="DIR", help="the folder of the daemon's record; none if left out")
     add("--keys", metavar="FILE", default=keys.USUAL_FILE, help=f"the keys of a sealed site ({keys.USUAL_FILE})")
+    add(
+        "--metrics",
+        metavar="ADDRESS",
+        type=address,
+        help="serve /metrics and /health by HTTP at this host:port; not served if left out",
+    )
     options = TOOL.options(own)
     options.more = ["--record", options.record, *more] if options.record else more
     return options
@@ -82,11 +93,12 @@ async def _keep(options: argparse.Namespace) -> int:
     with contextlib.ExitStack() as held:
         claim = held.enter_context(_claimed(options, configuration))
         held.enter_context(spare_ports.held(configuration, options.site, TOOL.complain))
-        listening = _listen(held, options)
+        sockets = Sockets(_control_socket(held, options), _metrics_socket(held, options))
         _remove_dead_sockets(domains, options.state)
-        keeper = Keeper(options.site, domains, await _start(options))
+        version = await daemon.version(options.program)
+        keeper = Keeper(options.site, domains, version, await _start(options))
         claim.stays = True
-        returncode = await keeper.run(listening, stop)
+        returncode = await keeper.run(sockets, stop)
         _remove_dead_sockets(domains, options.state)
         claim.stays = keeper.has_served or returncode <= 0 or returncode == _NO_MEMORY
     return returncode if returncode >= 0 else BY_SIGNAL - returncode
@@ -130,11 +142,28 @@ def _why_used(options: argparse.Namespace, configuration: Configuration) -> list
     ]
 
 
-def _listen(held: contextlib.ExitStack, options: argparse.Namespace) -> socket.socket:
+@dataclass(frozen=True)
+class Sockets:
+    """The sockets at which a keeper listens. `metrics` is None where they are not served."""
+
+    control: socket.socket
+    metrics: socket.socket | None
+
+
+def _control_socket(held: contextlib.ExitStack, options: argparse.Namespace) -> socket.socket:
     try:
         return held.enter_context(unix_sockets.listening(options.control, options.state))
     except OSError as error:
         raise Failure(NO_CONTROL, f"no control socket can be made: {options.control}: {reason(error)}") from error
+
+
+def _metrics_socket(held: contextlib.ExitStack, options: argparse.Namespace) -> socket.socket | None:
+    if not options.metrics:
+        return None
+    try:
+        return held.enter_context(internet_sockets.listening(options.metrics))
+    except OSError as error:
+        raise Failure(NO_METRICS, f"the metrics cannot be served: {options.metrics}: {reason(error)}") from error
 
 
 async def _start(options: argparse.Namespace) -> asyncio.subprocess.Process:
@@ -164,6 +193,10 @@ def _notify(*assignments: str) -> None:
         TOOL.complain(f"systemd cannot be told {' '.join(assignments)}: {reason(error)}")
 
 
+def _text_of(lines: list[str]) -> str:
+    return "".join(f"{line}\n" for line in lines)
+
+
 async def _first(*tasks: asyncio.Task) -> None:
     """Waits until one of these is done."""
     await asyncio.wait(tasks, return_when=asyncio.FIRST_COMPLETED)
@@ -172,9 +205,11 @@ async def _first(*tasks: asyncio.Task) -> None:
 class Keeper:
     """Keeps the daemon of a site, which was started."""
 
-    def __init__(self, site: int, domains: list[Domain], process: asyncio.subprocess.Process):
+    def __init__(
+        self, site: int, domains: list[Domain], version: str | None, process: asyncio.subprocess.Process
+    ):
         self.has_served = False
-        self._site, self._process = site, process
+        self._site, self._version, self._process = site, version, process
         self._standing = Standing(site, domains)
         self._console = Console(process.stdin, process.stdout, self._standing.observe)
         self._own_lines = {
@@ -183,7 +218,7 @@ class Keeper:
             control.SUSPECTED: self._suspected,
         }
 
-    async def run(self, listening: socket.socket, stop: asyncio.Event) -> int:
+    async def run(self, sockets: Sockets, stop: asyncio.Event) -> int:
         """Answers lines until the daemon ends, which it is told to once `stop` is set. Gives its return code."""
         ended = asyncio.create_task(self._process.wait())
         stopped = asyncio.create_task(stop.wait())
@@ -191,7 +226,7 @@ class Keeper:
         _notify(f"STATUS=starting site {self._site}")
         await _first(serves, stopped)
         if serves.done() and serves.result():
-            await self._serve(listening, ended, stopped)
+            await self._serve(sockets, ended, stopped)
         else:
             await self._until_end(ended, stopped)
         self.has_served = await serves
@@ -220,12 +255,17 @@ class Keeper:
     async def _ask(self, line: str) -> list[str]:
         return await self._console.ask(line, _ANSWER_SECONDS)
 
-    async def _serve(self, listening: socket.socket, ended: asyncio.Task, stopped: asyncio.Task) -> None:
+    async def _serve(self, sockets: Sockets, ended: asyncio.Task, stopped: asyncio.Task) -> None:
         server, console = ControlServer(self.answer), StandardConsole(self.answer)
-        await server.start(listening)
+        pages = HttpServer({"/metrics": self._metrics_page, "/health": self._health_page})
+        await server.start(sockets.control)
+        if sockets.metrics:
+            await pages.start(sockets.metrics)
         console.start()
         _notify("READY=1", f"STATUS=serving site {self._site}")
         await self._until_end(ended, stopped)
+        if sockets.metrics:
+            await pages.close()
         await server.close()
         await console.close()
 
@@ -257,6 +297,8 @@ class Keeper:
 
     async def _metrics(self) -> list[str]:
         exposition = metrics.Exposition(self._site)
+        if self._version:
+            exposition.add("castd_build_info", 1, version=self._version)
         try:
             await metrics.add_answers(exposition, self._ask, self._standing.quota)
             exposition.add("castd_up", 1)
@@ -289,6 +331,13 @@ class Keeper:
         if record == ["record ended"]:
             reasons.append("the record has ended")
         return [f"{control.UNHEALTHY}{reason}" for reason in reasons] or ["healthy"]
+
+    async def _metrics_page(self) -> Response:
+        return Response(HTTPStatus.OK, _text_of(await self._metrics()), metrics.MEDIA_TYPE)
+
+    async def _health_page(self) -> Response:
+        lines = await self._health()
+        return Response(HTTPStatus.SERVICE_UNAVAILABLE if control.is_refusal(lines) else HTTPStatus.OK, _text_of(lines))
 
     def _note_home(self, domain: str, is_silent: bool) -> list[str]:
         known = domain.isascii() and domain.isdigit() and self._standing.note_home(int(domain), is_silent)

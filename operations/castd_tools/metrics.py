@@ -10,10 +10,12 @@ from castd_tools.daemon import Usage
 
 GAUGE = "gauge"
 COUNTER = "counter"
+MEDIA_TYPE = "text/plain; version=0.0.4; charset=utf-8"
 
 # Each metric that may be told: its name, its type, and what it says. They are told in this order.
 _METRICS = (
     ("castd_up", GAUGE, "Whether the daemon answers on its console."),
+    ("castd_build_info", GAUGE, "The version of the daemon, which is a label. The value is 1."),
     ("castd_uptime_seconds", GAUGE, "How long the daemon has run."),
     ("castd_resident_memory_bytes", GAUGE, "Resident memory of the daemon."),
     ("castd_open_descriptors", GAUGE, "Descriptors that the daemon has open."),
@@ -43,7 +45,7 @@ _METRICS = (
     ("castd_group_members", GAUGE, "Members of the view; 0 where none is at this site."),
     ("castd_group_frozen", GAUGE, "Whether the group is changing its view, and takes no casts."),
 )
-_NAMES = {name for name, _, _ in _METRICS}
+NAMES = {name for name, _, _ in _METRICS}
 
 # The metrics that stand in the answer to a line, by the words before their numbers.
 _TRACE = {"events": "castd_events_total", "kept": "castd_trace_events"}
@@ -59,9 +61,9 @@ class Exposition:
 
     def __init__(self, site: int):
         self._site = site
-        self._samples: dict[str, list[str]] = {name: [] for name in _NAMES}
+        self._samples: dict[str, list[str]] = {name: [] for name in NAMES}
 
-    def add(self, name: str, value: float, **labels: int) -> None:
+    def add(self, name: str, value: float, **labels: int | str) -> None:
         """Adds a value."""
         self._samples[name].append(f"{sample_name(name, site=self._site, **labels)} {value}")
 
@@ -80,9 +82,10 @@ class Exposition:
         return lines
 
 
-def sample_name(name: str, **labels: int) -> str:
-    """A metric with its labels, as they stand before the value. They have numbers alone, so nothing is to be quoted."""
-    told = ",".join(f'{label}="{number}"' for label, number in labels.items())
+def sample_name(name: str, **labels: int | str) -> str:
+    """A metric with its labels, as they stand before the value. They have numbers and versions alone, so nothing is to
+    be quoted."""
+    told = ",".join(f'{label}="{text}"' for label, text in labels.items())
     return f"{name}{{{told}}}"
 
 

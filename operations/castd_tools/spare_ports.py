@@ -7,7 +7,8 @@ import os
 import socket
 from collections.abc import Callable, Iterator
 
-from castd_tools.configuration import Address, Configuration
+from castd_tools.configuration import Configuration
+from castd_tools.internet_sockets import bound
 from castd_tools.numbers import numbers_alike
 from castd_tools.system import reason
 
@@ -28,21 +29,8 @@ def held(configuration: Configuration, site: int, complain: Callable[[str], None
             address = configuration.sites[number]
             if number != site and address != own:
                 try:
-                    ports.enter_context(_bound(address))
+                    # As little room as may be: what comes is lost.
+                    ports.enter_context(bound(address, socket.SOCK_DGRAM, socket.SO_RCVBUF, 0))
                 except OSError as error:
                     complain(f"the port of site {number} cannot be kept for it: {address}: {reason(error)}")
         yield
-
-
-def _bound(address: Address) -> socket.socket:
-    """A socket at an address, of which nothing is ever read."""
-    family, kind, protocol, _, resolved = socket.getaddrinfo(address.host, address.port, type=socket.SOCK_DGRAM)[0]
-    bound = socket.socket(family, kind, protocol)
-    try:
-        # As little room as may be: what comes is lost.
-        bound.setsockopt(socket.SOL_SOCKET, socket.SO_RCVBUF, 0)
-        bound.bind(resolved)
-    except OSError:
-        bound.close()
-        raise
-    return bound

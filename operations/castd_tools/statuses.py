@@ -8,6 +8,7 @@ NO_CONTROL = 9
 NOT_NOTED = 10
 NOT_STARTED = 11
 PUT_OUT = 12
+NO_METRICS = 13
 
 # Of castctl and castd-top: what was asked was not done, or a site is not healthy; and a keeper does not answer.
 NOT_DONE = 1
