@@ -316,8 +316,10 @@ class Metrics(Case):
     def test_a_group_that_changes_its_view_is_frozen(self):
         setup = self.setup_of(3)
         keepers = {site: self.keeper(setup, site) for site in (1, 2, 3)}
-        self.joined(setup, 1, 1)
-        self.joined(setup, 2, 2)
+        first, second = self.joined(setup, 1, 1), self.joined(setup, 2, 2)
+        # Site 2 tells the home that it has entered the view before it sends this.
+        second.cast(1, b"entered", PATIENCE)
+        wait_for_push(first, lambda push: isinstance(push, castd.Deliver))
         # Site 2 does not answer the home, which changes the view for the member of site 3.
         os.kill(keepers[2].daemon(), signal.SIGSTOP)
         session = self.session(setup, 3)
