@@ -48,7 +48,7 @@ def main(doc: str, play: Callable[..., None], **usual: int) -> int:
             if program:
                 play(program, folder, **options)
             else:
-                _play_unproved(lambda built: play(built, folder, **options), folder)
+                _play_unproved(lambda built: play(built, folder, **options))
         return 0
     except (Failed, unproved.Unable, castd.Error, OSError) as failed:
         print(f"run: {failed}", file=sys.stderr)
@@ -70,12 +70,13 @@ def _proved() -> str | None:
         return None
 
 
-def _play_unproved(play: Callable[[str], None], folder: str) -> None:
+def _play_unproved(play: Callable[[str], None]) -> None:
     print(unproved.NOTICE, flush=True)
     try:
-        begun = time.monotonic()
-        program = unproved.build(folder)
-        print(f"built in {time.monotonic() - begun:.0f} s", flush=True)
+        is_kept, begun = os.path.exists(unproved.kept_path()), time.monotonic()
+        program = unproved.kept_build()
+        if not is_kept:
+            print(f"built in {time.monotonic() - begun:.0f} s", flush=True)
         play(program)
     finally:
         print(unproved.NOTICE, flush=True)
