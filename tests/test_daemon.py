@@ -4,6 +4,7 @@ from __future__ import annotations
 
 import contextlib
 import os
+import pathlib
 import re
 import resource
 import select
@@ -244,7 +245,7 @@ class Programs(DaemonCase):
 
 
 class Sockets(DaemonCase):
-    def test_a_path_that_is_there_is_named(self):
+    def test_a_path_that_is_in_use_is_named(self):
         setup = self.setup_of()
         path = f"{setup.site_folder(1)}/castd.sock"
         with socket.socket(socket.AF_UNIX) as taken:
@@ -252,8 +253,35 @@ class Sockets(DaemonCase):
             taken.listen()
             daemon = Daemon(self, setup)
             self.assertEqual(daemon.status(), UNBOUND)
-        self.assertEqual(daemon.complained(), "castd: socket: castd.sock\n")
+        self.assertEqual(daemon.complained(), "castd: socket: castd.sock: in use\n")
         self.assertTrue(os.path.exists(path))
+
+    def test_a_file_that_is_no_socket_stays(self):
+        setup = self.setup_of()
+        path = pathlib.Path(setup.site_folder(1), "castd.sock")
+        target = pathlib.Path(self.folder, "target.sock")
+        with socket.socket(socket.AF_UNIX) as dead:
+            dead.bind(str(target))
+        for make in (lambda: path.write_text("mine"), path.mkdir, lambda: path.symlink_to(target)):
+            make()
+            daemon = Daemon(self, setup)
+            self.assertEqual(daemon.status(), UNBOUND)
+            self.assertEqual(daemon.complained(), "castd: socket: castd.sock: the file is no socket\n")
+            self.assertTrue(path.exists() and target.exists())
+            path.rmdir() if path.is_dir() else path.unlink()
+
+    def test_the_socket_of_a_daemon_that_was_killed_makes_room(self):
+        daemon = self.serving()
+        daemon.process.kill()
+        daemon.process.wait()
+        path = pathlib.Path(self.setup.site_folder(1), "castd.sock")
+        self.assertTrue(path.is_socket())
+        again = Daemon(self, self.setup)
+        self.assertEqual(again.line(PATIENCE), "ready")
+        self.session(self.setup)
+        self.assertEqual(again.ask("stop"), "ok")
+        self.assert_ends(again, 0)
+        self.assertFalse(path.exists())
 
     def test_an_address_that_is_none_is_named(self):
         setup = self.setup_of()

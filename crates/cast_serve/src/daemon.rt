@@ -604,6 +604,14 @@ fn end_unbound<E: Write>(err: &mut Watched<E>, fault: SocketFault<'_>) -> u8 {
             tell(err, &["castd: socket: ", name, "\n"]);
             UNBOUND
         }
+        SocketFault::InUse(path) => {
+            tell(err, &["castd: socket: ", path, ": in use\n"]);
+            UNBOUND
+        }
+        SocketFault::Occupied(path) => {
+            tell(err, &["castd: socket: ", path, ": the file is no socket\n"]);
+            UNBOUND
+        }
         SocketFault::NoMemory => {
             tell(err, &["castd: no memory\n"]);
             NO_MEMORY

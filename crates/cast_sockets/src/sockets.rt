@@ -6,7 +6,7 @@ use cast_types::{DomainNo, NoMemory, SiteNo};
 use std::alloc::Global;
 use std::net::{Net, Shutdown, SocketAddr, ToSocketAddrs};
 use std::os::fd::OwnedFd;
-use std::os::unix::fs::MetadataExt;
+use std::os::unix::fs::{FileTypeExt, MetadataExt};
 use std::os::unix::net::{UnixListener, UnixStream};
 use std::rt::Files;
 use std::{fs, io};
@@ -46,6 +46,10 @@ pub struct Sockets {
 pub enum SocketFault<'a> {
     /// This address cannot be resolved or bound, or this path cannot be bound.
     Name(&'a str),
+    /// A program listens at this path.
+    InUse(&'a str),
+    /// There is a file at this path that is no socket.
+    Occupied(&'a str),
     NoMemory,
 }
 
@@ -158,27 +162,59 @@ fn is_vacant<R: Files>(rt: &R, path: &str) -> bool {
     }
 }
 
-// Binds the socket of a domain. False where it cannot be bound: then a file that was made for it is
-// removed, and one that was there stays.
-fn bind_one<R: Net + Files>(rt: &R, socket: &DomainSocket, listening: &mut Vec<Listening>) -> bool {
-    let path = socket.path.as_str();
-    if !is_vacant(rt, path) {
-        return false;
+// Whether a socket is at a path.
+fn is_socket<R: Files>(rt: &R, path: &str) -> bool {
+    match fs::symlink_metadata(rt, path) {
+        Ok(metadata) => metadata.file_type().is_socket(),
+        Err(_) => false,
     }
+}
+
+// Makes room at a path: removes the socket of a program that is gone. That a connect is refused
+// shows that nobody listens there.
+fn make_room<'a, R: Net + Files>(rt: &R, path: &'a str) -> Result<(), SocketFault<'a>> {
+    if is_vacant(rt, path) {
+        return Ok(());
+    }
+    if !is_socket(rt, path) {
+        return Err(SocketFault::Occupied(path));
+    }
+    match UnixStream::connect(rt, path) {
+        Ok(_) => return Err(SocketFault::InUse(path)),
+        Err(error) if error.kind() == io::ErrorKind::ConnectionRefused => {}
+        Err(_) => return Err(SocketFault::Name(path)),
+    }
+    match fs::remove_file(rt, path) {
+        Ok(()) => Ok(()),
+        Err(_) => Err(SocketFault::Name(path)),
+    }
+}
+
+// Binds the socket of a domain. Where it cannot be bound, a file that was made for it is removed.
+fn bind_one<'a, R: Net + Files>(
+    rt: &R,
+    socket: &'a DomainSocket,
+    listening: &mut Vec<Listening>,
+) -> Result<(), SocketFault<'a>> {
+    let path = socket.path.as_str();
+    make_room(rt, path)?;
     let is_bound = match listen(rt, socket) {
         Ok(one) => listening.push(one).is_ok(),
         // Another program was faster, and the file is its own.
-        Err(error) if error.kind() == io::ErrorKind::AddrInUse => return false,
+        Err(error) if error.kind() == io::ErrorKind::AddrInUse => {
+            return Err(SocketFault::InUse(path));
+        }
         Err(_) => false,
     };
-    if !is_bound {
-        let _ = fs::remove_file(rt, path);
+    if is_bound {
+        return Ok(());
     }
-    is_bound
+    let _ = fs::remove_file(rt, path);
+    Err(SocketFault::Name(path))
 }
 
 // Binds the sockets of the domains. At the first that cannot be bound, those before it are given
-// up, and its path is answered.
+// up.
 fn bind_all<'a, R: Net + Files>(
     rt: &R,
     alloc: Global,
@@ -186,9 +222,9 @@ fn bind_all<'a, R: Net + Files>(
 ) -> Result<Vec<Listening>, SocketFault<'a>> {
     let mut listening = Vec::new(alloc);
     for socket in paths {
-        if !bind_one(rt, socket, &mut listening) {
+        if let Err(fault) = bind_one(rt, socket, &mut listening) {
             remove_all(rt, listening.as_slice(), paths);
-            return Err(SocketFault::Name(socket.path.as_str()));
+            return Err(fault);
         }
     }
     Ok(listening)
