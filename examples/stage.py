@@ -13,6 +13,7 @@ from collections.abc import Callable, Sequence
 
 ROOT = os.path.dirname(os.path.dirname(os.path.realpath(__file__)))
 CLIENTS = f"{ROOT}/clients/python"
+OPERATIONS = f"{ROOT}/operations"
 sys.path[:0] = [f"{ROOT}/bench", CLIENTS, f"{ROOT}/tools"]
 import castd  # noqa: E402
 import unproved  # noqa: E402
@@ -24,17 +25,20 @@ PATIENCE = 60.0
 _FIRST_PORT = 7_000
 
 
-def main(doc: str, play: Callable[..., None], **usual: int) -> int:
+def main(doc: str, play: Callable[..., None], *switches: str, **usual: int) -> int:
     """Runs an example as the command line says, and gives the exit status.
 
-    `play` is given the file of castd, a folder of its own, and for each option of `usual` its number: the one there,
-    where the command line has none. The second paragraph of `doc` is the usage.
+    `play` is given the file of castd, a folder of its own, for each of the switches whether the command line has it,
+    and for each option of `usual` its number: the one there, where the command line has none. The second paragraph of
+    `doc` is the usage.
     """
     if sys.argv[1:] == ["--help"]:
         print(doc.strip())
         return 0
     parser = argparse.ArgumentParser(usage=doc.split("\n\n")[1].removeprefix("usage: "), add_help=False)
     parser.add_argument("program", nargs="?")
+    for name in switches:
+        parser.add_argument(f"--{name}", action="store_true")
     for name, number in usual.items():
         parser.add_argument(f"--{name}", type=_number, default=number)
     options = vars(parser.parse_args())
@@ -150,6 +154,22 @@ class Daemon(Program):
         self.ask("stop")
         self.time_to_end()
         return self.process.returncode
+
+
+class Keeper(Program):
+    """The daemon of a site with its keeper, in a folder of its own. The daemon ends with it."""
+
+    def __init__(self, program: str, config: str, folder: str, site: int):
+        own, state = f"{folder}/site-{site}", f"{folder}/state"
+        self.path, self.control = f"{own}/castd.sock", f"{own}/control"
+        os.mkdir(own)
+        os.makedirs(state, exist_ok=True)
+        words = ["--site", str(site), "--program", program, "--control", self.control, "--state", state]
+        super().__init__([f"{OPERATIONS}/castd-keeper", config, *words], own, cwd=own)
+
+    def wait_until_ready(self) -> None:
+        if self.line(PATIENCE) != "ready":
+            self.fail("does not serve")
 
 
 class Screen:

@@ -12,7 +12,7 @@ import unittest
 from collections import deque
 from unittest import mock
 
-from harness import PROGRAM, ROOT
+from harness import PATIENCE, PROGRAM, ROOT
 
 sys.path += [str(ROOT / "examples" / name) for name in ("", "replicated-store", "control-room", "trading-floor")]
 from castd import ATOMIC, CAUSAL, Cast, Code, Deliver, Ejected, Process, Push, Reply, View  # noqa: E402
@@ -21,6 +21,7 @@ from floor import NEWS, ORDERS, QUOTES, Listener, Trader  # noqa: E402
 from linearizable import Operation, faults  # noqa: E402
 from lock import LEASE, MARGIN, Lock  # noqa: E402
 from stage import Screen  # noqa: E402
+from terminal import AtTerminal  # noqa: E402
 
 GROUP = 1
 # How much time goes by at once for stations without daemons, in seconds. They beat at each sixth step.
@@ -574,7 +575,19 @@ class Runs(unittest.TestCase):
         self.assertIn("all three delivered the ordered casts in one order: True", lines)
         self.assertEqual(lines[-2:], [f"site {site}: daemon ended with status 0" for site in (1, 2)])
 
-    def test_an_example_says_why_it_fails(self):
+    def test_the_three_sites_are_watched_until_q_is_pressed(self):
+        command = [str(ROOT / "examples/three-sites/run"), PROGRAM]
+        ran = subprocess.run([*command, "--watch"], capture_output=True, text=True, timeout=60, check=False)
+        self.assertEqual((ran.returncode, ran.stdout, ran.stderr), (1, "", "run: --watch wants a terminal\n"))
+        watched = AtTerminal([*command, "--watch"])
+        self.addCleanup(watched.end)
+        shows = lambda *texts: lambda lines: all(any(text in line for line in lines) for text in texts)
+        watched.wait_for(shows("3 of 3 sites answer", "3: 1.1 2.1 3.1"), PATIENCE)
+        lines = watched.wait_for(shows("2 of 3 sites answer", "2: 1.1 2.1"), PATIENCE)
+        self.assertRegex("\n".join(lines), r"(?m)^ +3 127\S+ +Connection refused")
+        watched.press("q")
+        self.assertEqual(watched.process.wait(PATIENCE), 0)
+
         command = [str(ROOT / "examples/replicated-store/run"), "/bin/false"]
         ran = subprocess.run(command, capture_output=True, text=True, timeout=60, check=False)
         self.assertEqual((ran.returncode, ran.stdout, ran.stderr), (1, "", "run: false ended with 1.\n"))
