@@ -583,7 +583,7 @@ class Runs(unittest.TestCase):
         self.addCleanup(watched.end)
         shows = lambda *texts: lambda lines: all(any(text in line for line in lines) for text in texts)
         watched.wait_for(shows("3 of 3 sites answer", "3: 1.1 2.1 3.1"), PATIENCE)
-        lines = watched.wait_for(shows("2 of 3 sites answer", "2: 1.1 2.1"), PATIENCE)
+        lines = watched.wait_for(shows("2 of 3 sites answer", "2: 1.1 2.1"), 3 * PATIENCE)
         self.assertRegex("\n".join(lines), r"(?m)^ +3 127\S+ +Connection refused")
         watched.press("q")
         self.assertEqual(watched.process.wait(PATIENCE), 0)
