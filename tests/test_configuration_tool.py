@@ -15,6 +15,8 @@ from collections.abc import Iterable
 from dist import need
 from harness import PATIENCE, PROGRAM, TESTS, TOOLS, Case, Failed, Tool, castd, wait_for_push, wait_for_view
 
+from castd_tools import configuration
+
 REFUSED = 6
 UNBOUND = 7
 
@@ -221,6 +223,12 @@ class Lint(ConfigurationCase):
                 path = self.written(GOOD + network)
                 self.assert_found(path, [])
                 self.assertIsNone(Daemon(self, path, 1, self.folder).status())
+
+    def test_a_byte_order_mark_says_nothing_to_castd_nor_to_its_tools(self):
+        path = self.written("\ufeff" + GOOD)
+        self.assert_found(path, [])
+        self.assertIsNone(Daemon(self, path, 1, self.folder).status())
+        self.assertEqual(configuration.read(path), configuration.parse(GOOD.replace("FOLDER", self.folder)))
 
     def test_finds_what_castd_refuses_at_the_field_that_castd_names(self):
         for name, (text, finding) in FAULTS.items():

@@ -98,7 +98,7 @@ class Configuration:
 def read(path: str) -> Configuration:
     """The configuration in a file. A `ConfigurationError`, whose text begins with the path, where it has none."""
     try:
-        with open(path, encoding="utf-8", newline="") as file:
+        with open(path, encoding="utf-8-sig", newline="") as file:
             return parse(file.read())
     except OSError as error:
         raise ConfigurationError(f"{path}: {error.strerror}") from error

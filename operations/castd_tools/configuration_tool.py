@@ -199,7 +199,7 @@ def _print_of(path: str, text_of: Callable[[Configuration], str]) -> int:
 
 def _text_in(path: str) -> str:
     try:
-        with open(path, encoding="utf-8", newline="") as file:
+        with open(path, encoding="utf-8-sig", newline="") as file:
             return file.read()
     except OSError as error:
         raise Failure(_UNREADABLE, f"{path}: {reason(error)}") from error

@@ -75,7 +75,7 @@ def text_for(host: str, keys: Iterable[tuple[str, list[int], Key]]) -> str:
 def read(path: str) -> dict[int, list[Key]]:
     """The keys in a file, by the sites that they are for. A `KeysError` where it has none that can be used."""
     try:
-        document = tomllib.loads(_private(path).decode())
+        document = tomllib.loads(_private(path).decode("utf-8-sig"))
         found: dict[int, list[Key]] = {}
         for table in _tables(document, "key"):
             sites = _numbers(table, "sites", "a key", MOST_SITE_NUMBER, MOST_SITES_OF_A_HOST)
